@@ -1,0 +1,4 @@
+pub mod First
+pub mod Sum
+pub mod Least
+pub mod Round

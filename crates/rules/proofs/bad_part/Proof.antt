@@ -1,0 +1,24 @@
+use Rattle.rules.specs.Table.{badPart}
+use borrow.Author.Needs.{needs}
+use Rattle.rules.proofs.bad_part.Statement.{statement}
+use Rattle.rules.proofs.bad_part.Tie as tie
+
+cycle-requires : tie.Need-cycle-requires
+cycle-requires c κs = search needs
+
+num-requires : tie.Need-num-requires
+num-requires c κs = search needs
+
+den-requires : tie.Need-den-requires
+den-requires c κs = search needs
+
+good-share-requires : tie.Need-good-share-requires
+good-share-requires c κs = search needs
+
+returns : tie.Need-returns
+unfolding badPart
+returns c = cc
+
+pub bad-part-spec : {M : Type 1} → statement M
+bad-part-spec =
+    tie.close (tie.spec cycle-requires num-requires den-requires good-share-requires returns)

@@ -1,0 +1,34 @@
+use Rattle.rules.specs.Table.{badTask}
+use borrow.Author.Needs.{needs}
+use Rattle.rules.proofs.bad_task.Statement.{statement}
+use Rattle.rules.proofs.bad_task.Tie as tie
+
+partition-requires : tie.Need-partition-requires
+partition-requires c κs = search needs
+
+budget-requires : tie.Need-budget-requires
+budget-requires c κs = search needs
+
+deadline-requires : tie.Need-deadline-requires
+deadline-requires c κs = search needs
+
+period-requires : tie.Need-period-requires
+period-requires c κs = search needs
+
+good-times-requires : tie.Need-good-times-requires
+good-times-requires c κs = search needs
+
+returns : tie.Need-returns
+unfolding badTask
+returns c = cc
+
+pub bad-task-spec : {M : Type 1} → statement M
+bad-task-spec =
+    tie.close
+    (tie.spec
+    partition-requires
+    budget-requires
+    deadline-requires
+    period-requires
+    good-times-requires
+    returns)
