@@ -1,0 +1,40 @@
+-- The plan that repeats without end, whom each tick serves, the ticks held in a stretch, least service, and serving. Assumes nothing.
+use mathlib.Core.Bool.{Bool}
+use mathlib.Core.List.{List}
+use Prim.Native.Nat.{ℕ, _+_, _%_, _≤_, _<_}
+use lib.Dec.{eqb}
+use lib.ListN.{length, getD}
+use Rattle.rules.specs.Walk.{count, smallest}
+use Rattle.rules.specs.Table.{cycle, partitions, wanted}
+
+-- "A plan of F ticks names for each tick its owner: a partition, or 0 for idle. It repeats without end."
+unfoldable pub owner : List ℕ → ℕ → ℕ
+owner plan t = getD plan (t % length plan) 0
+
+-- which of the owned ticks serve: all of them
+pub data Rule : Type 0 where
+  own : Rule
+
+-- the partition that tick t serves, or 0 for none
+abbrev pub service : Rule → List ℕ → ℕ → ℕ
+service own = owner
+
+-- whether tick s + k is p's
+unfoldable pub ownsFrom : (ℕ → ℕ) → ℕ → ℕ → ℕ → Bool
+ownsFrom o p s k = eqb (o (s + k)) p
+
+-- how many of the n ticks from s on are p's, where o names the owner of each tick
+unfoldable pub owned : (ℕ → ℕ) → ℕ → ℕ → ℕ → ℕ
+owned o p n s = count (ownsFrom o p s) n
+
+-- how many of the n ticks from tick s on serve partition p
+abbrev pub held : Rule → List ℕ → ℕ → ℕ → ℕ → ℕ
+held rule plan = owned (service rule plan)
+
+-- "the smallest number of a partition's ticks in any t consecutive ticks of the repeated plan": every start is one of the F in the frame
+unfoldable pub least : Rule → List ℕ → ℕ → ℕ → ℕ
+least rule plan p t = smallest (held rule plan p t) (length plan)
+
+-- "every stretch of m consecutive ticks of the repeated plan, from any start and across the frame's end too, holds at least q ticks of that partition"
+abbrev pub Serves : Rule → List ℕ → List ℕ → Type 0
+Serves rule plan ps = (k s : ℕ) → k < partitions ps → wanted ps k ≤ held rule plan (k + 1) (cycle ps k) s
