@@ -1,3 +1,5 @@
+use mathlib.Core.Path.{ap}
+use mathlib.Core.Bool.{not}
 use Rattle.rules.specs.Table.{badPart}
 use borrow.Author.Needs.{needs}
 use Rattle.rules.proofs.bad_part.Statement.{statement}
@@ -17,7 +19,7 @@ good-share-requires c κs = search needs
 
 returns : tie.Need-returns
 unfolding badPart
-returns c = cc
+returns c = rw (← c .before .before .before .cycle .ensures, ← c .before .before .num .ensures, ← c .before .den .ensures) (ap not (c .good-share .ensures))
 
 pub bad-part-spec : {M : Type 1} → statement M
 bad-part-spec =

@@ -1,3 +1,5 @@
+use mathlib.Core.Path.{ap}
+use mathlib.Core.Bool.{not}
 use Rattle.rules.specs.Table.{badTask}
 use borrow.Author.Needs.{needs}
 use Rattle.rules.proofs.bad_task.Statement.{statement}
@@ -20,7 +22,7 @@ good-times-requires c κs = search needs
 
 returns : tie.Need-returns
 unfolding badTask
-returns c = cc
+returns c = rw (← c .before .before .before .before .partition .ensures, ← c .before .before .before .budget .ensures, ← c .before .before .deadline .ensures, ← c .before .period .ensures) (ap not (c .good-times .ensures))
 
 pub bad-task-spec : {M : Type 1} → statement M
 bad-task-spec =

@@ -1,5 +1,5 @@
 use Prim.Native.Nat.{_≤_, _-_}
-use mathlib.Core.Path.{_≡_, sym}
+use mathlib.Core.Path.{_≡_, sym, _∙_}
 use Rattle.rules.specs.Walk.{first}
 use Rattle.rules.specs.Table.{badTask}
 use Rattle.rules.proofs.First.{first-zero, first-more, first-found, first-done}
@@ -23,7 +23,7 @@ bad-task-requires : tie.Need-bad-task-requires Inv-loop μ-loop
 bad-task-requires c κs = search needs
 
 returns : tie.Need-returns Inv-loop μ-loop
-returns c = sym (first-found _ _ _ (search needs) (c .before .before .before .loop .inv .1) (cc))
+returns c = sym (first-found _ _ _ (search needs) (c .before .before .before .loop .inv .1) (sym (c .before .bad-task .ensures) ∙ c .if1 .taken))
 
 add-j : tie.Need-add-j Inv-loop μ-loop
 add-j c = search needs
@@ -32,7 +32,7 @@ loop-less : tie.Need-loop-less Inv-loop μ-loop
 loop-less c = search needs
 
 loop-again : tie.Need-loop-again Inv-loop μ-loop
-loop-again c = (search needs, first-more _ _ (c .before .before .before .loop .inv .1) (cc))
+loop-again c = (search needs, first-more _ _ (c .before .before .before .loop .inv .1) (sym (c .before .bad-task .ensures) ∙ c .if1 .left))
 
 returns-2 : tie.Need-returns-2 Inv-loop μ-loop
 returns-2 c = let e = c .before .before .tasks .ensures in rw e (sym (first-done _ _ _ (rw e at (c .before .loop .inv .0)) (search needs) (c .before .loop .inv .1)))

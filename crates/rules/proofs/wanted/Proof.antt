@@ -15,7 +15,7 @@ wants-requires : tie.Need-wants-requires
 wants-requires c κs = search needs
 
 returns : tie.Need-returns
-returns c = cc
+returns c = rw (← c .before .before .before .cycle .ensures, ← c .before .before .num .ensures, ← c .before .den .ensures) (c .wants .ensures)
 
 pub wanted-spec : {M : Type 1} → statement M
 wanted-spec = tie.close (tie.spec cycle-requires num-requires den-requires wants-requires returns)
