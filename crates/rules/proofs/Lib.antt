@@ -2,3 +2,4 @@ pub mod First
 pub mod Sum
 pub mod Least
 pub mod Round
+pub mod Pick
