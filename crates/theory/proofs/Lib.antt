@@ -1,2 +1,5 @@
+pub mod Tests
+pub mod Wants
 pub mod Plan
 pub mod Core
+pub mod Points
