@@ -3,3 +3,4 @@ pub mod Wants
 pub mod Plan
 pub mod Core
 pub mod Points
+pub mod Tasks
