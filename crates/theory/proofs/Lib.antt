@@ -4,3 +4,4 @@ pub mod Plan
 pub mod Core
 pub mod Points
 pub mod Tasks
+pub mod Exists
