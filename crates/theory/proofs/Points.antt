@@ -7,7 +7,7 @@ use native.Mathlib.Nat.{mul-le-mul-left}
 use native.Mathlib.Omega.{arith}
 use lib.Dec.{T, eqb}
 use borrow.Author.Tests.{eqb-true, eq-eqb}
-use Rattle.rules.specs.Walk.{only, sum, roundUp}
+use Rattle.rules.specs.Walk.{only, roundUp}
 use Rattle.rules.proofs.Sum.{only-le, sum-le}
 use Rattle.rules.proofs.Round.{round-suc}
 use Rattle.theory.specs.Core.{Load, demandOf, PassesOn, PointOf}

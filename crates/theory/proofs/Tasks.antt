@@ -1,24 +1,24 @@
 -- Tasks as an instance of the core: the run theorem, the scheduling points, the verdict's point. Assumes nothing.
 use mathlib.Core.Path.{_≡_, refl, sym, ap, _∙_, subst}
-use mathlib.Core.Logic.{_⊎_, inl, inr, _↔_}
+use mathlib.Core.Logic.{_⊎_, inl, inr}
 use mathlib.Core.Bool.{Bool, true, _&&_, _||_}
 use mathlib.Core.List.{List}
-use Prim.Native.Nat.{ℕ, zero, suc, _+_, _-_, _*_, _%_, _≤_, _<_}
+use Prim.Native.Nat.{ℕ, suc, _+_, _-_, _%_, _≤_, _<_}
 use native.Mathlib.Nat.{add-zero, add-assoc, le-antisymm}
 use native.Mathlib.Omega.{arith}
 use lib.Dec.{T, eqb, leb, eqb→eq, eqb-refl}
 use lib.ListN.{length}
-use borrow.Author.Tests.{ltb-true, leb-true, le-leb, eqb-true, eq-eqb}
-use Rattle.rules.specs.Walk.{only, first, some, count, sum, roundUp}
+use borrow.Author.Tests.{leb-true, le-leb, eq-eqb}
+use Rattle.rules.specs.Walk.{first, some, count}
 use Rattle.rules.specs.Table.{partition, budget, deadline, period, tasks}
 use Rattle.rules.proofs.First.{first-le, first-at, first-upto, some-at}
-use Rattle.rules.proofs.Sum.{le-or-lt, eq→eqb, sum-eq, count-ext}
+use Rattle.rules.proofs.Sum.{le-or-lt, eq→eqb, count-ext}
 use Rattle.theory.specs.Plan.{Rule, service, ownsFrom, owned, held, least}
 use Rattle.theory.specs.Task.{GoodTasks, rival, asked, demand, Fits, Passes, multiple, point, fits, pointFits, firstPoint}
 use Rattle.theory.specs.Run.{Ran, nothing, job, Before, Runs, Waiting, LegalTo}
 use Rattle.theory.specs.Core.{Load, demandOf, PassesOn, PointOf, LowerBound, Queue}
 use Rattle.theory.specs.Theorems.{RunTheorem, EndlessTheorem, PointsEnough, PointSmallest}
-use Rattle.theory.proofs.Tests.{to-T, of-T, and-parts, and-intro, or-parts, or-left, or-right, good-times}
+use Rattle.theory.proofs.Tests.{of-T, and-parts, and-intro, or-left, or-right, good-times}
 use Rattle.theory.proofs.Plan.{least-is-least, least-grows}
 use Rattle.theory.proofs.Core.{core-theorem}
 use Rattle.theory.proofs.Points.{core-points}

@@ -23,10 +23,6 @@ and-parts a b = and-eq-true-iff a b .0
 pub and-intro : (a b : Bool) → a ≡ true → b ≡ true → a && b ≡ true
 and-intro a b e f = and-eq-true-iff a b .1 (e, f)
 
-pub or-parts : (a b : Bool) → a || b ≡ true → (a ≡ true) ⊎ (b ≡ true)
-or-parts true b e = inl refl
-or-parts false b e = inr e
-
 pub or-left : (a b : Bool) → a ≡ true → a || b ≡ true
 or-left a b e = rw e
 
