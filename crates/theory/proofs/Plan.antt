@@ -47,7 +47,7 @@ held-around rule plan p t s = count-ext t _ _ (λ k l. ap (λ (x : ℕ). eqb x p
 pub least-is-least : LeastIsLeast
 unfolding least
 least-is-least rule plan p t s h =
-    let l : least rule plan p t ≤ held rule plan p t (s % length plan) = smallest-le (held rule plan p t) (length plan) (s % length plan) (mod-lt s h) in
+    let l : least rule plan p t ≤ held rule plan p t (s % length plan) = smallest-le (held rule plan p t) _ (s % length plan) (omega (arith, mod-lt s h)) in
     rw held-around at l
 
 pub least-attained : LeastAttained

@@ -3,16 +3,16 @@ use mathlib.Core.Path.{_≡_, refl, sym, ap, _∙_, subst}
 use mathlib.Core.Logic.{_⊎_, inl, inr}
 use mathlib.Core.Bool.{Bool, true, _&&_, _||_}
 use mathlib.Core.List.{List}
-use Prim.Native.Nat.{ℕ, suc, _+_, _-_, _%_, _≤_, _<_}
+use Prim.Native.Nat.{ℕ, suc, _+_, _-_, _*_, _%_, _≤_, _<_}
 use native.Mathlib.Nat.{add-zero, add-assoc, le-antisymm}
 use native.Mathlib.Omega.{arith}
 use lib.Dec.{T, eqb, leb, eqb→eq, eqb-refl}
 use lib.ListN.{length}
 use borrow.Author.Tests.{leb-true, le-leb, eq-eqb}
-use Rattle.rules.specs.Walk.{first, some, count}
+use Rattle.rules.specs.Walk.{only, first, some, sum, count, roundUp}
 use Rattle.rules.specs.Table.{partition, budget, deadline, period, tasks}
 use Rattle.rules.proofs.First.{first-le, first-at, first-upto, some-at}
-use Rattle.rules.proofs.Sum.{le-or-lt, eq→eqb, count-ext}
+use Rattle.rules.proofs.Sum.{le-or-lt, eq→eqb, sum-eq, count-ext}
 use Rattle.theory.specs.Plan.{Rule, service, ownsFrom, owned, held, least}
 use Rattle.theory.specs.Task.{GoodTasks, rival, asked, demand, Fits, Passes, multiple, point, fits, pointFits, firstPoint}
 use Rattle.theory.specs.Run.{Ran, nothing, job, Before, Runs, Waiting, LegalTo}
@@ -30,7 +30,10 @@ ofTasks ts = record { cost = budget ts; deadline = deadline ts; period = period 
 
 demand-of : (ts : List ℕ) (i t : ℕ) → demandOf (ofTasks ts) i t ≡ demand ts i t
 unfolding demandOf demand asked
-demand-of ts i t = simp add-zero
+demand-of ts i t =
+    let s : sum (λ j. only (rival ts i j) (budget ts j * roundUp (t + 0) (period ts j))) i ≡ sum (asked ts i t) i =
+    sum-eq i _ _ (λ j. ap (λ (x : ℕ). only (rival ts i j) (budget ts j * roundUp x (period ts j))) (add-zero t)) in
+    omega arith
 
 -- "1 ≤ C ≤ D ≤ T", so a period is at least 1
 in-period : (ts : List ℕ) (parts : ℕ) → GoodTasks parts ts → (j : ℕ) → j < tasks ts → (1 ≤ deadline ts j) × (deadline ts j ≤ period ts j)
@@ -120,7 +123,7 @@ module _ (ts : List ℕ) (i t : ℕ) where
   point-parts : point ts i t ≡ true → (1 ≤ t) × (t ≤ D)
   unfolding point
   point-parts e =
-      let a = and-parts (leb 1 t && leb t D) behind e in
+      let a = and-parts (leb 1 t && leb t D) _ e in
       let b = and-parts (leb 1 t) (leb t D) (a .0) in
       (leb-true 1 t (b .0), leb-true t D (b .1))
 
@@ -133,7 +136,7 @@ module _ (ts : List ℕ) (i t : ℕ) where
   unfolding point
   point-is (l, u, x) =
       let d : t ≤ D = omega arith in
-      and-intro (leb 1 t && leb t D) behind (and-intro (leb 1 t) (leb t D) (le-leb 1 t l) (le-leb t D d)) (side x)
+      and-intro (leb 1 t && leb t D) _ (and-intro (leb 1 t) (leb t D) (le-leb 1 t l) (le-leb t D d)) (side x)
     where
       side : (t ≡ D - 0) ⊎ ((j : ℕ) × (j < i) × T (rival ts i j) × ((t + 0) % period ts j ≡ 0)) → behind ≡ true
       side (inl e) = or-left (eqb t D) (some (multiple ts i t) i) (eq-eqb t D (omega arith))
