@@ -1,6 +1,6 @@
 -- Tasks as an instance of the core: the run theorem, the scheduling points, the verdict's point. Assumes nothing.
 use mathlib.Core.Path.{_≡_, refl, sym, ap, _∙_, subst}
-use mathlib.Core.Logic.{_⊎_, inl, inr}
+use mathlib.Core.Logic.{_⊎_, inl, inr, ⊎-elim}
 use mathlib.Core.Bool.{Bool, true, _&&_, _||_}
 use mathlib.Core.List.{List}
 use Prim.Native.Nat.{ℕ, suc, _+_, _-_, _*_, _%_, _≤_, _<_}
@@ -117,9 +117,6 @@ module _ (ts : List ℕ) (i t : ℕ) where
   abbrev D : ℕ
   D = deadline ts i
 
-  abbrev behind : Bool
-  behind = eqb t D || some (multiple ts i t) i
-
   point-parts : point ts i t ≡ true → (1 ≤ t) × (t ≤ D)
   unfolding point
   point-parts e =
@@ -136,11 +133,9 @@ module _ (ts : List ℕ) (i t : ℕ) where
   unfolding point
   point-is (l, u, x) =
       let d : t ≤ D = omega arith in
-      and-intro (leb 1 t && leb t D) _ (and-intro (leb 1 t) (leb t D) (le-leb 1 t l) (le-leb t D d)) (side x)
-    where
-      side : (t ≡ D - 0) ⊎ ((j : ℕ) × (j < i) × T (rival ts i j) × ((t + 0) % period ts j ≡ 0)) → behind ≡ true
-      side (inl e) = or-left (eqb t D) (some (multiple ts i t) i) (eq-eqb t D (omega arith))
-      side (inr (j, h, b, m)) = or-right (eqb t D) (some (multiple ts i t) i) (some-at (multiple ts i t) i j h (multiple-is j b m))
+      let r = and-intro (leb 1 t) (leb t D) (le-leb 1 t l) (le-leb t D d) in
+      and-intro (leb 1 t && leb t D) _ r
+      (⊎-elim (λ e. or-left (eqb t D) _ (eq-eqb t D (omega arith))) (λ (j, h, b, m). or-right (eqb t D) _ (some-at (multiple ts i t) _ j h (multiple-is j b m))) x)
 
 module _ (rule : Rule) (plan ts : List ℕ) (i : ℕ) where
   holds-parts : (t : ℕ) → pointFits rule plan ts i t ≡ true → (point ts i t ≡ true) × Fits rule plan ts i t
