@@ -114,7 +114,7 @@ module _ (L : Load) (i : ℕ) (rel work : ℕ → ℕ → ℕ) (sv : ℕ → Boo
   pub done-le : (j b n : ℕ) → n ≤ N → done ran j b n ≤ work j b
   done-le j b n u = omega (arith, done-due j b n u, due-le rel work j b n)
 
-  -- what the rivals above i have done, and what they have been owed for, before time n
+  -- what the rivals above i have done, and what work they were owed, before time n
   spent : ℕ → ℕ
   spent n = sum (λ j. only (L .rival i j) (sum (λ b. done ran j b n) n)) i
 
