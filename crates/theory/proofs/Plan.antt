@@ -1,0 +1,77 @@
+-- Least service: the smallest over every start in ℕ, attained, 0 of no ticks, between 0 and t, growing with the stretch. Assumes nothing.
+use mathlib.Core.Path.{_≡_, ap}
+use mathlib.Core.List.{List}
+use Prim.Native.Nat.{ℕ, zero, suc, _+_, _%_, _≤_}
+use native.Mathlib.Nat.{mod-add-mod, mod-lt}
+use native.Mathlib.Omega.{arith}
+use lib.Dec.{eqb}
+use lib.ListN.{length, getD}
+use Rattle.rules.specs.Walk.{only, count, sum, smallest}
+use Rattle.rules.proofs.Sum.{count-zero, count-more, count-le, count-ext}
+use Rattle.rules.proofs.Least.{smallest-le, smallest-is, smallest-mono}
+use Rattle.theory.specs.Plan.{owner, Rule, own, service, ownsFrom, owned, held, least}
+use Rattle.theory.specs.Theorems.{LeastIsLeast, LeastAttained, LeastZero, LeastBounds, LeastGrows, ServesInFrame}
+
+-- ---- the ticks held in a stretch
+
+-- no ticks hold nothing
+pub held-zero : (o : ℕ → ℕ) (p s : ℕ) → owned o p 0 s ≡ 0
+unfolding owned
+held-zero o p s = count-zero (ownsFrom o p s)
+
+-- one tick more
+pub held-more : (o : ℕ → ℕ) (p n s : ℕ) → owned o p (n + 1) s ≡ owned o p n s + only (ownsFrom o p s n) 1
+unfolding owned
+held-more o p n s = count-more (ownsFrom o p s) n
+
+pub held-le : (o : ℕ → ℕ) (p n s : ℕ) → owned o p n s ≤ n
+unfolding owned
+held-le o p n s = count-le (ownsFrom o p s) n
+
+-- ---- the plan repeats
+
+owner-around : (plan : List ℕ) (s k : ℕ) → owner plan (s % length plan + k) ≡ owner plan (s + k)
+unfolding owner
+owner-around plan s k = ap (λ (x : ℕ). getD plan x 0) (mod-add-mod s (length plan) k)
+
+pub service-around : (rule : Rule) (plan : List ℕ) (s k : ℕ) → service rule plan (s % length plan + k) ≡ service rule plan (s + k)
+service-around own plan s k = owner-around plan s k
+
+-- a start past the frame's end is one within it
+pub held-around : (rule : Rule) (plan : List ℕ) (p t s : ℕ) → held rule plan p t (s % length plan) ≡ held rule plan p t s
+unfolding owned ownsFrom
+held-around rule plan p t s = count-ext t _ _ (λ k l. ap (λ (x : ℕ). eqb x p) (service-around rule plan s k))
+
+-- ---- an exact minimum
+
+pub least-is-least : LeastIsLeast
+unfolding least
+least-is-least rule plan p t s h =
+    let l : least rule plan p t ≤ held rule plan p t (s % length plan) = smallest-le (held rule plan p t) _ (s % length plan) (omega (arith, mod-lt s h)) in
+    rw held-around at l
+
+pub least-attained : LeastAttained
+unfolding least
+least-attained rule plan p t h = smallest-is (held rule plan p t) (length plan) h
+
+pub serves-in-frame : ServesInFrame
+serves-in-frame rule plan p q m h within s = rw (← held-around rule plan p m s) (within (s % length plan) (mod-lt s h))
+
+-- ---- between 0 and t, growing
+
+-- the smallest is at most the first, also of no numbers
+smallest-first : (f : ℕ → ℕ) (n : ℕ) → smallest f n ≤ f 0
+unfolding smallest
+smallest-first f zero = omega arith
+smallest-first f (suc n) = smallest-le f (suc n) 0 (omega arith)
+
+pub least-bounds : LeastBounds
+unfolding least
+least-bounds rule plan p t = omega (arith, smallest-first (held rule plan p t) (length plan), held-le (service rule plan) p t 0)
+
+pub least-zero : LeastZero
+least-zero rule plan p = omega (arith, least-bounds rule plan p 0)
+
+pub least-grows : LeastGrows
+unfolding least owned count sum
+least-grows rule plan p t = smallest-mono (length plan) (held rule plan p t) (held rule plan p (suc t)) (λ s. omega arith)

@@ -1,0 +1,60 @@
+-- What Boolean tests say: of good records, and of a search. Assumes nothing.
+use mathlib.Core.Path.{_≡_, refl, sym, subst}
+use mathlib.Core.Logic.{_⊎_, inl, inr}
+use mathlib.Core.Bool.{Bool, true, false, _&&_, _||_, and-eq-true-iff}
+use Prim.Native.Nat.{ℕ, _≤_, _<_}
+use lib.Dec.{T, leb}
+use borrow.Author.Tests.{leb-true}
+use Rattle.rules.specs.Walk.{first}
+use Rattle.rules.specs.Table.{goodShare, goodTimes, longest}
+use Rattle.rules.proofs.First.{first-at, first-past}
+use Rattle.rules.proofs.Sum.{le-or-lt}
+
+pub to-T : (b : Bool) → b ≡ true → T b
+to-T b e = subst T (sym e) tt
+
+pub of-T : (b : Bool) → T b → b ≡ true
+of-T true t = refl
+of-T false t = absurd t
+
+pub and-parts : (a b : Bool) → a && b ≡ true → (a ≡ true) × (b ≡ true)
+and-parts a b = and-eq-true-iff a b .0
+
+pub and-intro : (a b : Bool) → a ≡ true → b ≡ true → a && b ≡ true
+and-intro a b e f = and-eq-true-iff a b .1 (e, f)
+
+pub or-left : (a b : Bool) → a ≡ true → a || b ≡ true
+or-left a b e = rw e
+
+pub or-right : (a b : Bool) → b ≡ true → a || b ≡ true
+or-right true b e = refl
+or-right false b e = e
+
+-- one that passes, or none does
+pub search : (p : ℕ → Bool) (n : ℕ) → ((k : ℕ) × (k < n) × (p k ≡ true)) ⊎ ((k : ℕ) → k < n → p k ≡ false)
+search p n = go (le-or-lt n (first p n))
+  where
+    go : (n ≤ first p n) ⊎ (first p n < n) → ((k : ℕ) × (k < n) × (p k ≡ true)) ⊎ ((k : ℕ) → k < n → p k ≡ false)
+    go (inl h) = inr (first-past p n h)
+    go (inr h) = inl (first p n, h, first-at p n h)
+
+-- "Share num/den with 1 ≤ num ≤ den ≤ 1,000"
+pub good-share : (limit m n d : ℕ) → goodShare limit m n d ≡ true → (1 ≤ m) × (m ≤ limit) × (1 ≤ n) × (n ≤ d) × (d ≤ 1000)
+unfolding goodShare
+good-share limit m n d e =
+    let a = and-parts (leb 1 m && leb m limit && leb 1 n && leb n d) (leb d 1000) e in
+    let b = and-parts (leb 1 m && leb m limit && leb 1 n) (leb n d) (a .0) in
+    let c = and-parts (leb 1 m && leb m limit) (leb 1 n) (b .0) in
+    let f = and-parts (leb 1 m) (leb m limit) (c .0) in
+    (leb-true 1 m (f .0), leb-true m limit (f .1), leb-true 1 n (c .1), leb-true n d (b .1), leb-true d 1000 (a .1))
+
+-- "A task has 1 ≤ C ≤ D ≤ T ≤ 4,096 and names a partition of the table"
+pub good-times : (parts p c d t : ℕ) → goodTimes parts p c d t ≡ true → (1 ≤ p) × (p ≤ parts) × (1 ≤ c) × (c ≤ d) × (d ≤ t) × (t ≤ longest)
+unfolding goodTimes
+good-times parts p c d t e =
+    let a = and-parts (leb 1 p && leb p parts && leb 1 c && leb c d && leb d t) (leb t longest) e in
+    let b = and-parts (leb 1 p && leb p parts && leb 1 c && leb c d) (leb d t) (a .0) in
+    let f = and-parts (leb 1 p && leb p parts && leb 1 c) (leb c d) (b .0) in
+    let g = and-parts (leb 1 p && leb p parts) (leb 1 c) (f .0) in
+    let h = and-parts (leb 1 p) (leb p parts) (g .0) in
+    (leb-true 1 p (h .0), leb-true p parts (h .1), leb-true 1 c (g .1), leb-true c d (f .1), leb-true d t (b .1), leb-true t longest (a .1))
