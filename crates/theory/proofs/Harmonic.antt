@@ -37,8 +37,8 @@ module _ (o : ℕ → ℕ) (m : ℕ) (per : Period o m) where
   unfolding owned count ownsFrom
   shift p a t =
       sum-eq t _ _ (λ k.
-          let e : a + m + k ≡ a + k + m = omega arith in
-          ap (λ (x : ℕ). only (eqb x p) 1) (ap o e ∙ per (a + k)))
+      let e : a + m + k ≡ a + k + m = omega arith in
+      ap (λ (x : ℕ). only (eqb x p) 1) (ap o e ∙ per (a + k)))
 
   slide-one : (p a : ℕ) → owned o p m (suc a) ≡ owned o p m a
   unfolding owned count ownsFrom sum
@@ -139,25 +139,25 @@ pos-factors (suc h) (suc m) l = (omega arith, omega arith)
 
 -- one turn, where q times H/m of H's ticks are idle: its owner is served, and that many are spent
 module _ (p q m : ℕ) (o : ℕ → ℕ) (H : ℕ) (pos : 0 < H) (d : Divides m H) (named : ¬ (p ≡ 0)) (per : Period o m) (w : q * (H / m) ≤ owned o 0 H 0) where
-  abbrev h : ℕ
-  h = d .0
+  abbrev times : ℕ
+  times = d .0
 
-  factors : (0 < h) × (0 < m)
-  factors = pos-factors h m (omega (arith, d .1))
+  factors : (0 < times) × (0 < m)
+  factors = pos-factors times m (omega (arith, d .1))
 
-  quotient : H / m ≡ h
-  quotient = ap (λ (x : ℕ). x / m) (d .1) ∙ mul-div-cancel h (factors .1)
+  quotient : H / m ≡ times
+  quotient = ap (λ (x : ℕ). x / m) (d .1) ∙ mul-div-cancel times (factors .1)
 
-  all-of : (u : ℕ → ℕ) → Period u m → owned u 0 H 0 ≡ h * owned u 0 m 0
-  all-of u e = ap (λ (x : ℕ). owned u 0 x 0) (d .1) ∙ blocks u m e 0 h
+  all-of : (u : ℕ → ℕ) → Period u m → owned u 0 H 0 ≡ times * owned u 0 m 0
+  all-of u e = ap (λ (x : ℕ). owned u 0 x 0) (d .1) ∙ blocks u m e 0 times
 
-  w′ : q * h ≤ owned o 0 H 0
+  w′ : q * times ≤ owned o 0 H 0
   w′ = rw quotient at w
 
   enough : q ≤ owned o 0 m 0
   enough =
-      let g : q * h ≤ owned o 0 m 0 * h = omega (arith, all-of o per, w′) in
-      le-of-mul-le-mul-right {m = q} {n = owned o 0 m 0} {k = h} g (factors .0)
+      let g : q * times ≤ owned o 0 m 0 * times = omega (arith, all-of o per, w′) in
+      le-of-mul-le-mul-right {m = q} {n = owned o 0 m 0} {k = times} g (factors .0)
 
   turn-served : (a : ℕ) → q ≤ owned (give p q m o) p m a
   turn-served a = omega (arith, slide (give p q m o) m (give-period p q m o per) p a, enough, fill p q m o named m (omega arith) .0)
@@ -165,7 +165,7 @@ module _ (p q m : ℕ) (o : ℕ → ℕ) (H : ℕ) (pos : 0 < H) (d : Divides m 
   turn-spent : owned (give p q m o) 0 H 0 + q * (H / m) ≡ owned o 0 H 0
   turn-spent =
       let f : owned (give p q m o) 0 m 0 + q ≡ owned o 0 m 0 = omega (arith, enough, fill p q m o named m (omega arith) .1) in
-      let g : h * (owned (give p q m o) 0 m 0 + q) ≡ h * owned o 0 m 0 = ap (λ (x : ℕ). h * x) f in
+      let g : times * (owned (give p q m o) 0 m 0 + q) ≡ times * owned o 0 m 0 = ap (λ (x : ℕ). times * x) f in
       rw quotient (omega (arith, all-of o per, all-of (give p q m o) (give-period p q m o per)))
 
 -- ---- all turns
@@ -203,10 +203,12 @@ pub record After (who want cyc : ℕ → ℕ) (n H r : ℕ) (o : ℕ → ℕ) : 
 module _ (who want cyc : ℕ → ℕ) (n H : ℕ) (ch : Chain who want cyc n H) where
   after-turn : (r : ℕ) (o : ℕ → ℕ) → r < n → After who want cyc n H r o → After who want cyc n H (suc r) (give (who r) (want r) (cyc r) o)
   unfolding sum
-  after-turn r o l v = record { repeats = λ s g m. period-longer o′ (cyc r) per′ (cyc s) (ch .later r s g m);
-      frames = period-longer o′ (cyc r) per′ H (ch .whole r l);
-      unspent = omega (arith, v .unspent, turn-spent (who r) (want r) (cyc r) o H (ch .positive) (ch .whole r l) (ch .named r) per room);
-      served = λ s a g. kept s a (le-or-lt r s) g }
+  after-turn r o l v = record {
+    repeats = λ s g m. period-longer o′ (cyc r) per′ (cyc s) (ch .later r s g m);
+    frames = period-longer o′ (cyc r) per′ H (ch .whole r l);
+    unspent = omega (arith, v .unspent, turn-spent (who r) (want r) (cyc r) o H (ch .positive) (ch .whole r l) (ch .named r) per room);
+    served = λ s a g. kept s a (le-or-lt r s) g;
+  }
     where
       o′ : ℕ → ℕ
       o′ = give (who r) (want r) (cyc r) o

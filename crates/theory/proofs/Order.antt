@@ -29,7 +29,7 @@ or-right : (a b : Bool) → b ≡ true → (a || b) ≡ true
 or-right true b e = refl
 or-right false b e = e
 
-and-both : (a b : Bool) → (a && b) ≡ true → (a ≡ true) × (b ≡ true)
+pub and-both : (a b : Bool) → (a && b) ≡ true → (a ≡ true) × (b ≡ true)
 and-both true b e = (refl, e)
 and-both false b e = absurd (true≢false (sym e))
 
@@ -190,7 +190,7 @@ module _ (ps : List ℕ) where
       go (inr h) = h
       go (inl h) =
           absurd (pigeons n (rank ps) rank-below rank-once r l (λ k m e.
-              true≢false (sym (ranked-is r k (sym e)) ∙ first-all (ranked ps r) n (omega (arith, first-le (ranked ps r) n)) k m)))
+          true≢false (sym (ranked-is r k (sym e)) ∙ first-all (ranked ps r) n (omega (arith, first-le (ranked ps r) n)) k m)))
 
   pub rank-taken : (r : ℕ) → r < n → rank ps (taken ps r) ≡ r
   rank-taken r l = ranked-at r (taken ps r) (first-at (ranked ps r) n (taken-below r l))
@@ -217,11 +217,11 @@ module _ (ps : List ℕ) where
       turns =
           sum-le n (λ r. f (taken ps r)) (λ r. sum (λ k. only (eqb (rank ps k) r) (f k)) n)
           (λ r l.
-              omega (
-                arith,
-                only-eq (rank ps (taken ps r)) r (f (taken ps r)) (rank-taken r l),
-                sum-term n (λ k. only (eqb (rank ps k) r) (f k)) (taken ps r) (taken-below r l),
-              ))
+          omega (
+            arith,
+            only-eq (rank ps (taken ps r)) r (f (taken ps r)) (rank-taken r l),
+            sum-term n (λ k. only (eqb (rank ps k) r) (f k)) (taken ps r) (taken-below r l),
+          ))
 
       places : sum (λ k. sum (λ r. only (eqb (rank ps k) r) (f k)) n) n ≤ sum f n
       places = sum-le n (λ k. sum (λ r. only (eqb (rank ps k) r) (f k)) n) f (λ k l. sum-one n (rank ps k) (λ r. r) (λ i j a b e. e) (f k))
