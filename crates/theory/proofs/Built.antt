@@ -1,20 +1,21 @@
 -- The plan that the harmonic rule writes for a table serves it, and it is refused only where no plan serves. Assumes nothing.
-use mathlib.Core.Path.{_≡_, refl, sym, ap, _∙_, subst}
+use mathlib.Core.Path.{_≡_, refl, ap, _∙_, subst}
 use mathlib.Core.Logic.{_⊎_, inl, inr}
-use mathlib.Core.Bool.{Bool, true, _&&_}
+use mathlib.Core.Bool.{true, _&&_}
 use mathlib.Core.List.{List}
-use Prim.Native.Nat.{ℕ, zero, suc, _+_, _*_, _/_, _%_, _≤_, _<_, zero-le}
+use Prim.Native.Nat.{ℕ, zero, suc, _+_, _*_, _/_, _%_, _≤_, _<_}
 use native.Mathlib.Nat.{mul-mod-left}
 use native.Mathlib.Omega.{arith}
 use lib.Dec.{leb}
-use lib.ListN.{length, getD}
+use lib.ListN.{getD}
 use borrow.Author.Tests.{leb-true}
-use Rattle.rules.specs.Walk.{sum, largest}
-use Rattle.rules.specs.Table.{cycle, num, den, partitions, wanted, goodShare, goodPart, longest}
+use Rattle.rules.specs.Walk.{sum, walk}
+use Rattle.rules.specs.Table.{cycle, num, den, partitions, wanted, goodShare, longest}
+use Rattle.rules.proofs.First.{walk-more}
 use Rattle.rules.proofs.Sum.{le-or-lt}
 use Rattle.rules.proofs.Least.{largest-le, largest-is}
-use Rattle.theory.specs.Plan.{Rule, service, owned, Serves}
-use Rattle.theory.specs.Harmonic.{Harmonic, pairs, frame, share, load, rank, taken, turn, planned, ticks, harmonicPlan}
+use Rattle.theory.specs.Plan.{service, owned}
+use Rattle.theory.specs.Harmonic.{Harmonic, frame, share, load, rank, taken, giveTo, turn, idle, planned, harmonicPlan}
 use Rattle.theory.specs.Theorems.{GoodParts, HarmonicServes, HarmonicRefused, HarmonicPlanGood}
 use Rattle.theory.proofs.Order.{and-both, Sooner, pairs-divide, rank-below, taken-rank, taken-below, taken-sooner, taken-sum}
 use Rattle.theory.proofs.Need.{needed}
@@ -135,3 +136,13 @@ harmonic-refused ps some good har h rule plan s =
 pub harmonic-plan-good : HarmonicPlanGood
 harmonic-plan-good ps some good =
     (ticks-length (planned ps (partitions ps)) (frame ps), frame-pos ps some good, frame-low ps some good, frame-longest ps some good, owner-low ps some good)
+
+-- ---- the rule's own steps
+
+pub planned-first : (ps : List ℕ) (t : ℕ) → planned ps 0 t ≡ 0
+unfolding planned walk idle
+planned-first ps t = refl
+
+pub planned-more : (ps : List ℕ) (r t : ℕ) → planned ps (r + 1) t ≡ giveTo ps (taken ps r) (planned ps r) t
+unfolding planned turn
+planned-more ps r t = ap (λ (o : ℕ → ℕ). o t) (walk-more (turn ps) idle r)

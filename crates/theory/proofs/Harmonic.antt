@@ -3,16 +3,17 @@
 use mathlib.Core.Path.{_≡_, refl, sym, ap, ap₂, _∙_, subst}
 use mathlib.Core.Logic.{_⊎_, inl, inr}
 use mathlib.Core.Bool.{Bool, true, false, _&&_}
-use mathlib.Core.List.{List, [], _∷_}
+use mathlib.Core.List.{List}
 use Prim.Native.Nat.{ℕ, zero, suc, _+_, _-_, _*_, _/_, _%_, _≤_, _<_, min, zero-le}
-use native.Mathlib.Nat.{add-zero, zero-add, suc-mul, add-mod-right, add-mul-mod-self-right, mod-le, mod-eq-of-lt, mod-lt, le-of-mul-le-mul-right, mul-div-cancel, le-trans, div-add-mod'}
+use native.Mathlib.Nat.{add-zero, zero-add, suc-mul, add-mod-right, add-mul-mod-self-right, mod-le, mod-add-mod, mod-eq-of-lt, mod-lt, mod-self, le-of-mul-le-mul-right, mul-div-cancel, le-trans, div-add-mod'}
 use native.Mathlib.Decide.{ℕ-discrete}
 use native.Mathlib.Omega.{arith}
 use lib.Dec.{eqb, ltb}
 use borrow.Author.Tests.{lt-ltb, le-ltb, eq-eqb, ne-eqb}
 use lib.ListN.{length, getD, List·getD-eq-default}
+use lib.Seq.{ext-getD}
 use Rattle.rules.specs.Walk.{pick, only, sum, count, walk}
-use Rattle.rules.proofs.Sum.{le-or-lt, only-eq, only-ne, only-self, sum-le, sum-eq, sum-first, sum-mono}
+use Rattle.rules.proofs.Sum.{le-or-lt, only-eq, only-ne, only-self, sum-le, sum-eq, sum-first, sum-mono, count-zero, count-more}
 use Rattle.theory.specs.Plan.{owner, own, ownsFrom, owned, held}
 use Rattle.theory.specs.Harmonic.{give, idle, ticks}
 use Rattle.theory.proofs.Need.{owned-split}
@@ -68,11 +69,35 @@ seen-in o m c i l =
     let s : c * m + i - i ≡ c * m = omega arith in
     rw (r, s)
 
+-- the same tick by tick: none at a cycle's first tick, and one tick later one more where the tick is idle
+pub seen-first : (o : ℕ → ℕ) (m t : ℕ) → t % m ≡ 0 → owned o 0 (t % m) (t - t % m) ≡ 0
+unfolding owned
+seen-first o m t e = rw e (count-zero (ownsFrom o 0 (t - 0)))
+
+pub seen-next : (o : ℕ → ℕ) (m t : ℕ) → 0 < m → ¬ ((t + 1) % m ≡ 0) → owned o 0 ((t + 1) % m) (t + 1 - (t + 1) % m) ≡ owned o 0 (t % m) (t - t % m) + only (eqb (o t) 0) 1
+unfolding owned ownsFrom
+seen-next o m t pos h = go (le-or-lt m (t % m + 1))
+  where
+    more : (t + 1) % m ≡ (t % m + 1) % m
+    more = sym (mod-add-mod t m 1)
+
+    go : (m ≤ t % m + 1) ⊎ (t % m + 1 < m) → owned o 0 ((t + 1) % m) (t + 1 - (t + 1) % m) ≡ owned o 0 (t % m) (t - t % m) + only (eqb (o t) 0) 1
+    go (inl l) = let e : t % m + 1 ≡ m = omega (arith, mod-lt t pos) in absurd (h (more ∙ ap (λ (x : ℕ). x % m) e ∙ mod-self m))
+    go (inr l) =
+        let r : (t + 1) % m ≡ t % m + 1 = more ∙ mod-eq-of-lt l in
+        let s : t + 1 - (t % m + 1) ≡ t - t % m = omega arith in
+        let u : t - t % m + t % m ≡ t = omega (arith, mod-le t m) in
+        rw (r, s) (count-more (ownsFrom o 0 (t - t % m)) (t % m) ∙ ap (λ (x : ℕ). owned o 0 (t % m) (t - t % m) + only (eqb (o x) 0) 1) u)
+
 module _ (p q m : ℕ) (o : ℕ → ℕ) where
   -- what a tick becomes, by the number of idle ticks seen before it in its cycle
   pub give-seen : (c i seen : ℕ) → i < m → seen ≡ owned o 0 i (c * m) → give p q m o (c * m + i) ≡ pick (eqb (o (c * m + i)) 0 && ltb seen q) p (o (c * m + i))
   unfolding give
   give-seen c i seen l e = ap (λ (x : ℕ). pick (eqb (o (c * m + i)) 0 && ltb x q) p (o (c * m + i))) (seen-in o m c i l ∙ sym e)
+
+  pub give-at : (t seen : ℕ) → seen ≡ owned o 0 (t % m) (t - t % m) → give p q m o t ≡ pick (eqb (o t) 0 && ltb seen q) p (o t)
+  unfolding give
+  give-at t seen e = ap (λ (x : ℕ). pick (eqb (o t) 0 && ltb x q) p (o t)) (sym e)
 
   pub give-keep : (t : ℕ) → ¬ (o t ≡ 0) → give p q m o t ≡ o t
   unfolding give
@@ -248,6 +273,10 @@ ticks-at o (suc n) (suc t) h = ticks-at (λ k. o (suc k)) n t (omega arith)
 
 pub ticks-past : (o : ℕ → ℕ) (n t : ℕ) → n ≤ t → getD (ticks o n) t 0 ≡ 0
 ticks-past o n t h = List·getD-eq-default (ticks o n) 0 {n = t} (omega (arith, ticks-length o n))
+
+-- a list that has them all is they
+pub ticks-are : (o : ℕ → ℕ) (l : List ℕ) → ((t : ℕ) → t < length l → getD l t 0 ≡ o t) → l ≡ ticks o (length l)
+ticks-are o l h = ext-getD 0 l (ticks o (length l)) (sym (ticks-length o (length l))) (λ t k. h t k ∙ sym (ticks-at o (length l) t k))
 
 -- repeated, they are the owner of every tick
 pub ticks-owner : (o : ℕ → ℕ) (H : ℕ) → 0 < H → Period o H → (t : ℕ) → owner (ticks o H) t ≡ o t

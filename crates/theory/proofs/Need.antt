@@ -1,6 +1,6 @@
 -- Stretches of owned ticks; and the necessity half of the harmonic rule: where any plan serves, the sum of q·H/m is at most H. Assumes nothing.
-use mathlib.Core.Path.{_≡_, refl, sym, ap, _∙_, subst}
-use Prim.Native.Nat.{ℕ, zero, suc, _+_, _*_, _/_, _%_, _≤_, _<_, zero-le}
+use mathlib.Core.Path.{_≡_, _∙_, subst}
+use Prim.Native.Nat.{ℕ, zero, suc, _+_, _*_, _/_, _%_, _≤_, _<_}
 use native.Mathlib.Nat.{add-assoc, suc-mul, div-add-mod'}
 use native.Mathlib.Omega.{arith}
 use lib.Dec.{eqb}

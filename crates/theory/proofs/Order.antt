@@ -1,15 +1,14 @@
 -- The order in which places are taken: by rising cycle, equal cycles by place; each place once. Assumes nothing.
-use mathlib.Core.Path.{_≡_, refl, sym, ap, _∙_, subst}
+use mathlib.Core.Path.{_≡_, refl, sym, ap, _∙_}
 use mathlib.Core.Logic.{_⊎_, inl, inr}
 use mathlib.Core.Bool.{Bool, true, false, true≢false, _&&_, _||_}
 use mathlib.Core.List.{List}
-use Prim.Native.Nat.{ℕ, zero, suc, _+_, _*_, _/_, _%_, _≤_, _<_, zero-le}
+use Prim.Native.Nat.{ℕ, zero, suc, _*_, _/_, _%_, _≤_, _<_, zero-le}
 use native.Mathlib.Nat.{div-add-mod', mul-mod-left}
-use native.Mathlib.Decide.{ℕ-discrete}
 use native.Mathlib.Omega.{arith}
-use lib.Dec.{T, eqb, ltb}
-use borrow.Author.Tests.{ltb-true, ltb-false, eqb-true, lt-ltb, le-ltb, eq-eqb}
-use Rattle.rules.specs.Walk.{only, first, sum, count}
+use lib.Dec.{eqb, ltb}
+use borrow.Author.Tests.{ltb-true, eqb-true, lt-ltb, eq-eqb}
+use Rattle.rules.specs.Walk.{only, sum, count}
 use Rattle.rules.specs.Table.{cycle, partitions}
 use Rattle.rules.proofs.First.{first-le, first-at, first-upto, first-all}
 use Rattle.rules.proofs.Sum.{le-or-lt, only-true, only-false, only-self, only-eq, only-ne, sum-le, sum-lt, sum-term, sum-none, sum-swap, sum-one}
