@@ -1,7 +1,7 @@
 -- The plan that the harmonic rule writes for a table serves it, and it is refused only where no plan serves. Assumes nothing.
 use mathlib.Core.Path.{_≡_, refl, ap, _∙_, subst}
 use mathlib.Core.Logic.{_⊎_, inl, inr}
-use mathlib.Core.Bool.{true, _&&_}
+use mathlib.Core.Bool.{true, _&&_, and-eq-true-iff}
 use mathlib.Core.List.{List}
 use Prim.Native.Nat.{ℕ, zero, suc, _+_, _*_, _/_, _%_, _≤_, _<_}
 use native.Mathlib.Nat.{mul-mod-left}
@@ -17,7 +17,7 @@ use Rattle.rules.proofs.Least.{largest-le, largest-is}
 use Rattle.theory.specs.Plan.{service, owned}
 use Rattle.theory.specs.Harmonic.{Harmonic, frame, share, load, rank, taken, giveTo, turn, idle, planned, harmonicPlan}
 use Rattle.theory.specs.Theorems.{GoodParts, HarmonicServes, HarmonicRefused, HarmonicPlanGood}
-use Rattle.theory.proofs.Order.{and-both, Sooner, pairs-divide, rank-below, taken-rank, taken-below, taken-sooner, taken-sum}
+use Rattle.theory.proofs.Order.{Sooner, pairs-divide, rank-below, taken-rank, taken-below, taken-sooner, taken-sum}
 use Rattle.theory.proofs.Need.{needed}
 use Rattle.theory.proofs.Harmonic.{Divides, Chain, After, built, built-bound, after, ticks-length, ticks-at, ticks-past, ticks-held}
 
@@ -26,10 +26,10 @@ pub good-cycle : (limit m k d : ℕ) → goodShare limit m k d ≡ true → (1 �
 unfolding goodShare
 good-cycle limit m k d e =
     let low = leb 1 m && leb m limit in
-    let a = and-both (low && leb 1 k && leb k d) (leb d 1000) e in
-    let b = and-both (low && leb 1 k) (leb k d) (a .0) in
-    let c = and-both low (leb 1 k) (b .0) in
-    let w = and-both (leb 1 m) (leb m limit) (c .0) in
+    let a = and-eq-true-iff (low && leb 1 k && leb k d) (leb d 1000) .0 e in
+    let b = and-eq-true-iff (low && leb 1 k) (leb k d) .0 (a .0) in
+    let c = and-eq-true-iff low (leb 1 k) .0 (b .0) in
+    let w = and-eq-true-iff (leb 1 m) (leb m limit) .0 (c .0) in
     (leb-true 1 m (w .0), leb-true m limit (w .1))
 
 module _ (ps : List ℕ) (some : 0 < partitions ps) (good : GoodParts ps) where

@@ -1,7 +1,7 @@
 -- The order in which places are taken: by rising cycle, equal cycles by place; each place once. Assumes nothing.
 use mathlib.Core.Path.{_≡_, refl, sym, ap, _∙_}
 use mathlib.Core.Logic.{_⊎_, inl, inr}
-use mathlib.Core.Bool.{Bool, true, false, true≢false, _&&_, _||_}
+use mathlib.Core.Bool.{Bool, true, false, true≢false, _&&_, _||_, and-eq-true-iff, or-true}
 use mathlib.Core.List.{List}
 use Prim.Native.Nat.{ℕ, zero, suc, _*_, _/_, _%_, _≤_, _<_, zero-le}
 use native.Mathlib.Nat.{div-add-mod', mul-mod-left}
@@ -20,17 +20,6 @@ use Rattle.theory.specs.Theorems.{PairsDivide, TakenOnce, TakenRises}
 either : (a b : Bool) → (a || b) ≡ true → (a ≡ true) ⊎ (b ≡ true)
 either true b e = inl refl
 either false b e = inr e
-
-or-left : (a b : Bool) → a ≡ true → (a || b) ≡ true
-or-left a b e = rw e
-
-or-right : (a b : Bool) → b ≡ true → (a || b) ≡ true
-or-right true b e = refl
-or-right false b e = e
-
-pub and-both : (a b : Bool) → (a && b) ≡ true → (a ≡ true) × (b ≡ true)
-and-both true b e = (refl, e)
-and-both false b e = absurd (true≢false (sym e))
 
 -- a stronger test counts no more
 only-imp : (a b : Bool) → (a ≡ true → b ≡ true) → only a 1 ≤ only b 1
@@ -58,8 +47,8 @@ pairs-divide ps j k = (λ e. there (either (down j k) (down k j) e), back)
     there (inr h) = inr (divides (cycle ps k) (cycle ps j) (eqb-true _ 0 h))
 
     back : ((c : ℕ) × (cycle ps k ≡ c * cycle ps j)) ⊎ ((c : ℕ) × (cycle ps j ≡ c * cycle ps k)) → (down j k || down k j) ≡ true
-    back (inl (c, e)) = or-left (down j k) (down k j) (multiple (cycle ps j) (cycle ps k) c e)
-    back (inr (c, e)) = or-right (down j k) (down k j) (multiple (cycle ps k) (cycle ps j) c e)
+    back (inl (c, e)) = rw (multiple (cycle ps j) (cycle ps k) c e)
+    back (inr (c, e)) = rw (multiple (cycle ps k) (cycle ps j) c e) (or-true (down j k))
 
 -- ---- a map of the numbers below n to themselves that takes no two to one takes some number to each
 
@@ -102,14 +91,14 @@ module _ (ps : List ℕ) where
       go : (ltb (cycle ps j) (cycle ps k) ≡ true) ⊎ ((eqb (cycle ps j) (cycle ps k) && ltb j k) ≡ true) → Sooner ps j k
       go (inl h) = inl (ltb-true (cycle ps j) (cycle ps k) h)
       go (inr h) =
-          let w = and-both (eqb (cycle ps j) (cycle ps k)) (ltb j k) h in
+          let w = and-eq-true-iff (eqb (cycle ps j) (cycle ps k)) (ltb j k) .0 h in
           inr (eqb-true (cycle ps j) (cycle ps k) (w .0), ltb-true j k (w .1))
 
   pub sooner-tells : (j k : ℕ) → Sooner ps j k → sooner ps k j ≡ true
   unfolding sooner
   sooner-tells j k (inl h) = rw (lt-ltb (cycle ps j) (cycle ps k) h)
   sooner-tells j k (inr (e, h)) =
-      or-right (ltb (cycle ps j) (cycle ps k)) (eqb (cycle ps j) (cycle ps k) && ltb j k) (rw (eq-eqb (cycle ps j) (cycle ps k) e) (lt-ltb j k h))
+      rw (eq-eqb (cycle ps j) (cycle ps k) e, lt-ltb j k h) (or-true (ltb (cycle ps j) (cycle ps k)))
 
   sooner-irr : (k : ℕ) → Sooner ps k k → ⊥
   sooner-irr k (inl h) = omega arith
