@@ -104,3 +104,7 @@ module _ (p : ℕ → Bool) where
 
   pub some-at : (n k : ℕ) → k < n → p k ≡ true → some p n ≡ true
   some-at n k l e = lt-ltb (first p n) n (omega (arith, first-upto n k e))
+
+  -- a loop that looks for one ran to its end
+  pub some-done : (n i : ℕ) → i ≤ n → n ≤ i → first p i ≡ i → some p n ≡ false
+  some-done n i h l e = rw (first-done n i h l e) (le-ltb n n (omega arith))

@@ -14,7 +14,7 @@ use Rattle.rules.proofs.Sum.{le-or-lt, sum-ext}
 use Rattle.theory.specs.Plan.{Rule, service}
 use Rattle.theory.specs.Run.{Ran, nothing, job, hit, done, Waiting, Before, Runs, Releases}
 use Rattle.theory.specs.Theorems.{LegalExists, LegalOne}
-use Rattle.theory.proofs.Tests.{and-parts, and-intro}
+use Rattle.rules.proofs.Tests.{and-parts, and-intro}
 
 -- ---- a run
 

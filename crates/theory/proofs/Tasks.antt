@@ -18,7 +18,7 @@ use Rattle.theory.specs.Task.{GoodTasks, rival, asked, demand, Fits, Pas
 use Rattle.theory.specs.Run.{Ran, nothing, job, Before, Runs, Waiting, LegalTo}
 use Rattle.theory.specs.Core.{Load, demandOf, PassesOn, PointOf, LowerBound, Queue}
 use Rattle.theory.specs.Theorems.{RunTheorem, EndlessTheorem, PointsEnough, PointSmallest}
-use Rattle.theory.proofs.Tests.{of-T, and-parts, and-intro, or-left, or-right, good-times}
+use Rattle.rules.proofs.Tests.{of-T, and-parts, and-intro, or-left, or-right, good-times}
 use Rattle.theory.proofs.Plan.{least-is-least, least-grows}
 use Rattle.theory.proofs.Core.{core-theorem}
 use Rattle.theory.proofs.Points.{core-points}

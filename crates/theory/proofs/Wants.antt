@@ -7,7 +7,7 @@ use Rattle.rules.specs.Table.{wants}
 use Rattle.rules.proofs.Sum.{le-or-lt}
 use Rattle.rules.proofs.Round.{round-enough, round-least}
 use Rattle.theory.specs.Theorems.{WantsSmallest, WantsRange}
-use Rattle.theory.proofs.Tests.{good-share}
+use Rattle.rules.proofs.Tests.{good-share}
 
 pub wants-smallest : WantsSmallest
 unfolding wants
