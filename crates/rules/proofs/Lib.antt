@@ -2,4 +2,4 @@ pub mod First
 pub mod Sum
 pub mod Least
 pub mod Round
-pub mod Pick
+pub mod Tests

@@ -2,16 +2,16 @@
 use mathlib.Core.Path.{_≡_, refl, sym, ap, ap₂, _∙_, subst}
 use mathlib.Core.Logic.{_⊎_, inl, inr}
 use mathlib.Core.Bool.{Bool, true, false}
-use Prim.Native.Nat.{ℕ, zero, suc, _+_, _-_, _*_, _/_, _≤_, _<_, zero-le}
-use native.Mathlib.Nat.{add-zero, add-suc, add-assoc, lt-div-mul-add, le-antisymm}
+use Prim.Native.Nat.{ℕ, zero, suc, _+_, _-_, _*_, _≤_, _<_, zero-le}
+use native.Mathlib.Nat.{add-zero, add-suc, add-assoc, le-antisymm}
 use native.Mathlib.Omega.{arith}
 use lib.Dec.{T, eqb, ltb, eqb→eq, eqb-refl, ltb→lt, lt→ltb}
 use Rattle.rules.specs.Walk.{only, sum, count, roundUp}
+use Rattle.rules.proofs.Sum.{only-le, only-lt, only-T, only-F, only-pos, only-self, only-add, sum-le, sum-lt, sum-add, sum-split, sum-mono, sum-find, sum-none, le-or-lt}
 use Rattle.rules.proofs.Round.{round-enough}
-use Rattle.theory.specs.Run.{Ran, nothing, job, hit, done, Before, Runs}
+use Rattle.theory.specs.Run.{Ran, nothing, job, hit, done, Before}
 use Rattle.theory.specs.Core.{Load, demandOf, PassesOn, LowerBound, Brings, Waits, Queue}
 use Rattle.theory.specs.Theorems.{CoreTheorem}
-use Rattle.rules.proofs.Sum.{only-le, only-lt, only-T, only-F, only-pos, only-self, only-add, sum-le, sum-lt, sum-add, sum-split, sum-mono, sum-find, sum-none, le-or-lt}
 
 -- ---- releases a period apart: in t ticks at most t / T of them, rounded up
 
@@ -114,7 +114,7 @@ module _ (L : Load) (i : ℕ) (rel work : ℕ → ℕ → ℕ) (sv : ℕ → Boo
   pub done-le : (j b n : ℕ) → n ≤ N → done ran j b n ≤ work j b
   done-le j b n u = omega (arith, done-due j b n u, due-le rel work j b n)
 
-  -- what the rivals above i have done, and what they have been owed for, before time n
+  -- what the rivals above i have done, and what work they were owed, before time n
   spent : ℕ → ℕ
   spent n = sum (λ j. only (L .rival i j) (sum (λ b. done ran j b n) n)) i
 

@@ -14,7 +14,7 @@ use Rattle.rules.proofs.Sum.{le-or-lt, sum-ext}
 use Rattle.theory.specs.Plan.{Rule, service}
 use Rattle.theory.specs.Run.{Ran, nothing, job, hit, done, Waiting, Before, Runs, Releases}
 use Rattle.theory.specs.Theorems.{LegalExists, LegalOne}
-use Rattle.theory.proofs.Tests.{and-parts, and-intro}
+use Rattle.rules.proofs.Tests.{and-parts, and-intro}
 
 -- ---- a run
 
@@ -100,7 +100,7 @@ module _ (rule : Rule) (plan : List ℕ) (start : ℕ) (ts : List ℕ) (work : �
             let r = first-at (ready n (state n)) (tasks ts) (ltb-true (task n (state n)) (tasks ts) e) in
             (ready-mine n (task n (state n)) r, ready-waits n (task n (state n)) r, before n)
         go false e = λ a b m w.
-            true≢false (sym (is-ready n a b m w) ∙ first-past (ready n (state n)) (tasks ts) (ltb-false (task n (state n)) (tasks ts) e) a (R .listed a b (omega (arith, w .1))))
+            absurd (true≢false (sym (is-ready n a b m w) ∙ first-past (ready n (state n)) (tasks ts) (ltb-false (task n (state n)) (tasks ts) e) a (R .listed a b (omega (arith, w .1)))))
 
 pub legal-exists : LegalExists
 legal-exists rule plan start ts work R = (schedule rule plan start ts work, λ N. record { releases = R; runs = λ n u. scheduled rule plan start ts work R n })

@@ -1,7 +1,7 @@
 -- Least service: the smallest over every start in ℕ, attained, 0 of no ticks, between 0 and t, growing with the stretch. Assumes nothing.
-use mathlib.Core.Path.{_≡_, refl, ap}
+use mathlib.Core.Path.{_≡_, ap}
 use mathlib.Core.List.{List}
-use Prim.Native.Nat.{ℕ, zero, suc, _+_, _%_, _≤_, _<_}
+use Prim.Native.Nat.{ℕ, zero, suc, _+_, _%_, _≤_}
 use native.Mathlib.Nat.{mod-add-mod, mod-lt}
 use native.Mathlib.Omega.{arith}
 use lib.Dec.{eqb}
@@ -47,7 +47,7 @@ held-around rule plan p t s = count-ext t _ _ (λ k l. ap (λ (x : ℕ). eqb x p
 pub least-is-least : LeastIsLeast
 unfolding least
 least-is-least rule plan p t s h =
-    let l : least rule plan p t ≤ held rule plan p t (s % length plan) = smallest-le (held rule plan p t) (length plan) (s % length plan) (mod-lt s h) in
+    let l : least rule plan p t ≤ held rule plan p t (s % length plan) = smallest-le (held rule plan p t) _ (s % length plan) (omega (arith, mod-lt s h)) in
     rw held-around at l
 
 pub least-attained : LeastAttained

@@ -7,12 +7,12 @@ use native.Mathlib.Nat.{mul-le-mul-left}
 use native.Mathlib.Omega.{arith}
 use lib.Dec.{T, eqb}
 use borrow.Author.Tests.{eqb-true, eq-eqb}
-use Rattle.rules.specs.Walk.{only, sum, roundUp}
+use Rattle.rules.specs.Walk.{only, roundUp}
 use Rattle.rules.proofs.Sum.{only-le, sum-le}
 use Rattle.rules.proofs.Round.{round-suc}
 use Rattle.theory.specs.Core.{Load, demandOf, PassesOn, PointOf}
 use Rattle.theory.specs.Theorems.{CorePoints}
-use Rattle.theory.proofs.Tests.{to-T, of-T, and-parts, and-intro, search}
+use Rattle.rules.proofs.Tests.{to-T, of-T, and-parts, and-intro, any-or-none}
 
 -- t is a multiple of the period of j, less its jitter
 multipleAt : Load → ℕ → ℕ → ℕ → Bool
@@ -49,7 +49,7 @@ module _ (L : Load) (low : ℕ → ℕ) (grows : (t : ℕ) → low t ≤ low (su
   up : (g t : ℕ) → t + g ≡ L .deadline i - L .jitter i → 1 ≤ t → demandOf L i t ≤ low t → Holds
   unfolding Holds
   up zero t e l d = (t, (l, omega arith, inl (omega arith)), d)
-  up (suc g) t e l d = go (λ d′. up g (suc t) (omega arith) (omega arith) d′) (search (multipleAt L i t) i)
+  up (suc g) t e l d = go (λ d′. up g (suc t) (omega arith) (omega arith) d′) (any-or-none (multipleAt L i t) i)
     where
       go : (demandOf L i (suc t) ≤ low (suc t) → Holds) → ((j : ℕ) × (j < i) × (multipleAt L i t j ≡ true)) ⊎ ((j : ℕ) → j < i → multipleAt L i t j ≡ false) → Holds
       go ih (inl (j, h, m)) = (t, point-of t j l (omega arith) h m, d)

@@ -1,15 +1,15 @@
 -- Tasks as an instance of the core: the run theorem, the scheduling points, the verdict's point. Assumes nothing.
 use mathlib.Core.Path.{_≡_, refl, sym, ap, _∙_, subst}
-use mathlib.Core.Logic.{_⊎_, inl, inr, _↔_}
+use mathlib.Core.Logic.{_⊎_, inl, inr, ⊎-elim}
 use mathlib.Core.Bool.{Bool, true, _&&_, _||_}
 use mathlib.Core.List.{List}
-use Prim.Native.Nat.{ℕ, zero, suc, _+_, _-_, _*_, _%_, _≤_, _<_}
+use Prim.Native.Nat.{ℕ, suc, _+_, _-_, _*_, _%_, _≤_, _<_}
 use native.Mathlib.Nat.{add-zero, add-assoc, le-antisymm}
 use native.Mathlib.Omega.{arith}
 use lib.Dec.{T, eqb, leb, eqb→eq, eqb-refl}
 use lib.ListN.{length}
-use borrow.Author.Tests.{ltb-true, leb-true, le-leb, eqb-true, eq-eqb}
-use Rattle.rules.specs.Walk.{only, first, some, count, sum, roundUp}
+use borrow.Author.Tests.{leb-true, le-leb, eq-eqb}
+use Rattle.rules.specs.Walk.{only, first, some, sum, count, roundUp}
 use Rattle.rules.specs.Table.{partition, budget, deadline, period, tasks}
 use Rattle.rules.proofs.First.{first-le, first-at, first-upto, some-at}
 use Rattle.rules.proofs.Sum.{le-or-lt, eq→eqb, sum-eq, count-ext}
@@ -18,7 +18,7 @@ use Rattle.theory.specs.Task.{GoodTasks, rival, asked, demand, Fits, Pas
 use Rattle.theory.specs.Run.{Ran, nothing, job, Before, Runs, Waiting, LegalTo}
 use Rattle.theory.specs.Core.{Load, demandOf, PassesOn, PointOf, LowerBound, Queue}
 use Rattle.theory.specs.Theorems.{RunTheorem, EndlessTheorem, PointsEnough, PointSmallest}
-use Rattle.theory.proofs.Tests.{to-T, of-T, and-parts, and-intro, or-parts, or-left, or-right, good-times}
+use Rattle.rules.proofs.Tests.{of-T, and-parts, and-intro, or-left, or-right, good-times}
 use Rattle.theory.proofs.Plan.{least-is-least, least-grows}
 use Rattle.theory.proofs.Core.{core-theorem}
 use Rattle.theory.proofs.Points.{core-points}
@@ -30,7 +30,10 @@ ofTasks ts = record { cost = budget ts; deadline = deadline ts; period = period 
 
 demand-of : (ts : List ℕ) (i t : ℕ) → demandOf (ofTasks ts) i t ≡ demand ts i t
 unfolding demandOf demand asked
-demand-of ts i t = simp add-zero
+demand-of ts i t =
+    let s : sum (λ j. only (rival ts i j) (budget ts j * roundUp (t + 0) (period ts j))) i ≡ sum (asked ts i t) i =
+    sum-eq i _ _ (λ j. ap (λ (x : ℕ). only (rival ts i j) (budget ts j * roundUp x (period ts j))) (add-zero t)) in
+    omega arith
 
 -- "1 ≤ C ≤ D ≤ T", so a period is at least 1
 in-period : (ts : List ℕ) (parts : ℕ) → GoodTasks parts ts → (j : ℕ) → j < tasks ts → (1 ≤ deadline ts j) × (deadline ts j ≤ period ts j)
@@ -114,13 +117,10 @@ module _ (ts : List ℕ) (i t : ℕ) where
   abbrev D : ℕ
   D = deadline ts i
 
-  abbrev behind : Bool
-  behind = eqb t D || some (multiple ts i t) i
-
   point-parts : point ts i t ≡ true → (1 ≤ t) × (t ≤ D)
   unfolding point
   point-parts e =
-      let a = and-parts (leb 1 t && leb t D) behind e in
+      let a = and-parts (leb 1 t && leb t D) _ e in
       let b = and-parts (leb 1 t) (leb t D) (a .0) in
       (leb-true 1 t (b .0), leb-true t D (b .1))
 
@@ -133,11 +133,9 @@ module _ (ts : List ℕ) (i t : ℕ) where
   unfolding point
   point-is (l, u, x) =
       let d : t ≤ D = omega arith in
-      and-intro (leb 1 t && leb t D) behind (and-intro (leb 1 t) (leb t D) (le-leb 1 t l) (le-leb t D d)) (side x)
-    where
-      side : (t ≡ D - 0) ⊎ ((j : ℕ) × (j < i) × T (rival ts i j) × ((t + 0) % period ts j ≡ 0)) → behind ≡ true
-      side (inl e) = or-left (eqb t D) (some (multiple ts i t) i) (eq-eqb t D (omega arith))
-      side (inr (j, h, b, m)) = or-right (eqb t D) (some (multiple ts i t) i) (some-at (multiple ts i t) i j h (multiple-is j b m))
+      let r = and-intro (leb 1 t) (leb t D) (le-leb 1 t l) (le-leb t D d) in
+      and-intro (leb 1 t && leb t D) _ r
+      (⊎-elim (λ e. or-left (eqb t D) _ (eq-eqb t D (omega arith))) (λ (j, h, b, m). or-right (eqb t D) _ (some-at (multiple ts i t) _ j h (multiple-is j b m))) x)
 
 module _ (rule : Rule) (plan ts : List ℕ) (i : ℕ) where
   holds-parts : (t : ℕ) → pointFits rule plan ts i t ≡ true → (point ts i t ≡ true) × Fits rule plan ts i t

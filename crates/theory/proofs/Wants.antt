@@ -1,13 +1,13 @@
 -- The ticks wanted: the smallest number that is enough, from 1 to the cycle. Assumes nothing.
 use mathlib.Core.Logic.{_⊎_, inl, inr}
-use Prim.Native.Nat.{ℕ, _*_, _≤_, _<_}
+use Prim.Native.Nat.{_*_, _≤_, _<_}
 use native.Mathlib.Nat.{le-refl, mul-le-mul, mul-le-mul-left}
 use native.Mathlib.Omega.{arith}
 use Rattle.rules.specs.Table.{wants}
 use Rattle.rules.proofs.Sum.{le-or-lt}
 use Rattle.rules.proofs.Round.{round-enough, round-least}
 use Rattle.theory.specs.Theorems.{WantsSmallest, WantsRange}
-use Rattle.theory.proofs.Tests.{good-share}
+use Rattle.rules.proofs.Tests.{good-share}
 
 pub wants-smallest : WantsSmallest
 unfolding wants

@@ -1,14 +1,24 @@
--- What Boolean tests say: of good records, and of a search. Assumes nothing.
+-- What Boolean tests say: a choice between two answers, conjunctions, a search, good records. Assumes nothing.
 use mathlib.Core.Path.{_≡_, refl, sym, subst}
 use mathlib.Core.Logic.{_⊎_, inl, inr}
 use mathlib.Core.Bool.{Bool, true, false, _&&_, _||_, and-eq-true-iff}
 use Prim.Native.Nat.{ℕ, _≤_, _<_}
 use lib.Dec.{T, leb}
 use borrow.Author.Tests.{leb-true}
-use Rattle.rules.specs.Walk.{first}
+use Rattle.rules.specs.Walk.{pick, first}
 use Rattle.rules.specs.Table.{goodShare, goodTimes, longest}
 use Rattle.rules.proofs.First.{first-at, first-past}
 use Rattle.rules.proofs.Sum.{le-or-lt}
+
+-- the answer is not the second: the test held
+pub pick-first : {A : Type 0} (b : Bool) (x y z : A) → ¬ (y ≡ z) → pick b x y ≡ z → (b ≡ true) × (x ≡ z)
+pick-first true x y z h e = (refl, e)
+pick-first false x y z h e = absurd (h e)
+
+-- the answer is not the first: it did not
+pub pick-second : {A : Type 0} (b : Bool) (x y z : A) → ¬ (x ≡ z) → pick b x y ≡ z → (b ≡ false) × (y ≡ z)
+pick-second true x y z h e = absurd (h e)
+pick-second false x y z h e = (refl, e)
 
 pub to-T : (b : Bool) → b ≡ true → T b
 to-T b e = subst T (sym e) tt
@@ -23,10 +33,6 @@ and-parts a b = and-eq-true-iff a b .0
 pub and-intro : (a b : Bool) → a ≡ true → b ≡ true → a && b ≡ true
 and-intro a b e f = and-eq-true-iff a b .1 (e, f)
 
-pub or-parts : (a b : Bool) → a || b ≡ true → (a ≡ true) ⊎ (b ≡ true)
-or-parts true b e = inl refl
-or-parts false b e = inr e
-
 pub or-left : (a b : Bool) → a ≡ true → a || b ≡ true
 or-left a b e = rw e
 
@@ -35,8 +41,8 @@ or-right true b e = refl
 or-right false b e = e
 
 -- one that passes, or none does
-pub search : (p : ℕ → Bool) (n : ℕ) → ((k : ℕ) × (k < n) × (p k ≡ true)) ⊎ ((k : ℕ) → k < n → p k ≡ false)
-search p n = go (le-or-lt n (first p n))
+pub any-or-none : (p : ℕ → Bool) (n : ℕ) → ((k : ℕ) × (k < n) × (p k ≡ true)) ⊎ ((k : ℕ) → k < n → p k ≡ false)
+any-or-none p n = go (le-or-lt n (first p n))
   where
     go : (n ≤ first p n) ⊎ (first p n < n) → ((k : ℕ) × (k < n) × (p k ≡ true)) ⊎ ((k : ℕ) → k < n → p k ≡ false)
     go (inl h) = inr (first-past p n h)

@@ -1,0 +1,36 @@
+-- Every statement of specs/Theorems.antt, with its proof. Assumes nothing.
+use Rattle.theory.specs.Theorems.{Proved}
+use Rattle.theory.proofs.Wants.{wants-smallest, wants-range}
+use Rattle.theory.proofs.Plan.{least-is-least, least-attained, least-zero, least-bounds, least-grows, serves-in-frame}
+use Rattle.theory.proofs.Tasks.{points-enough, point-smallest, run-theorem, endless-theorem}
+use Rattle.theory.proofs.Core.{core-theorem}
+use Rattle.theory.proofs.Points.{core-points}
+use Rattle.theory.proofs.Exists.{legal-exists, legal-one}
+use Rattle.theory.proofs.Order.{pairs-divide, taken-once, taken-rises}
+use Rattle.theory.proofs.Built.{harmonic-serves, harmonic-refused, harmonic-plan-good}
+
+pub proved : Proved
+proved = record {
+  wants-smallest = wants-smallest;
+  wants-range = wants-range;
+  least-is-least = least-is-least;
+  least-attained = least-attained;
+  least-zero = least-zero;
+  least-bounds = least-bounds;
+  least-grows = least-grows;
+  serves-in-frame = serves-in-frame;
+  points-enough = points-enough;
+  point-smallest = point-smallest;
+  run-theorem = run-theorem;
+  endless-theorem = endless-theorem;
+  core-theorem = core-theorem;
+  core-points = core-points;
+  legal-exists = legal-exists;
+  legal-one = legal-one;
+  pairs-divide = pairs-divide;
+  taken-once = taken-once;
+  taken-rises = taken-rises;
+  harmonic-serves = harmonic-serves;
+  harmonic-refused = harmonic-refused;
+  harmonic-plan-good = harmonic-plan-good;
+}
