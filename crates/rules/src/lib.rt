@@ -1,6 +1,7 @@
 // The rules that every call shares: what a share wants, which record of a table is bad, and why a call refuses.
 ghost use mathlib.Core.Path.{_≡_};
-ghost use Prim.Native.Nat.{_<_, min, max};
+ghost use Prim.Native.Nat.{_+_, _%_, _≤_, _<_, min, max};
+ghost use Rattle.rules.specs.Walk.{only};
 ghost use lib.ListN.{getD};
 ghost use Rattle.rules.specs.Table.{partField, cycle, num, den, partitions, taskField, partition, budget, deadline, period, tasks, wants, wanted, countedIn, partsCounted, tasksCounted, frameGood, goodShare, goodTimes, badPart, badTask, badTick, firstBadPart, firstBadTask, firstBadTick};
 ghost use Rattle.rules.specs.Refusals.{told, placed};
@@ -351,4 +352,20 @@ pub fn larger(a: usize, b: usize) -> usize
     ensures { λ r. ⌜ r ≡ max a b ⌝ }
 {
     if a < b { b } else { a }
+}
+
+// 1 where the test holds, else 0.
+pub fn one_if(test: bool) -> usize
+    ensures { λ r. ⌜ (r ≤ 1) × (r ≡ only test 1) ⌝ }
+{
+    if test { 1 } else { 0 }
+}
+
+// The place after `at` in a round of f: the end is joined to the start.
+pub fn after(at: usize, f: usize) -> usize
+    requires { ⌜ at < f ⌝ }
+    ensures { λ r. ⌜ (r < f) × (r ≡ (at + 1) % f) ⌝ }
+{
+    let next = at + 1;
+    if next < f { next } else { 0 }
 }

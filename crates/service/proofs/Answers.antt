@@ -13,7 +13,7 @@ use Rattle.rules.specs.Table.{partitions, cycle, wanted, partsCounted, frameGoo
 use Rattle.rules.specs.declared.Refusal.{Refusal}
 use Rattle.rules.specs.declared.Refusal.the-variants.{Limits, Partition, Tick, Shortfall}
 use Rattle.rules.proofs.First.{first-none, first-past, first-before, first-at, first-le}
-use Rattle.rules.proofs.Pick.{pick-first, pick-second, both-true}
+use Rattle.rules.proofs.Tests.{pick-first, pick-second, and-parts}
 use Rattle.theory.specs.Plan.{own, held}
 use Rattle.theory.specs.Plan as the-plan
 use Rattle.theory.proofs.Plan.{serves-in-frame}
@@ -27,7 +27,7 @@ not-serves r e = let z : _≡_ {A = ℕ} 0 1 = cc in absurd (omega arith)
 
 frame-some : (f : ℕ) → frameGood f ≡ true → 0 < f
 unfolding frameGood
-frame-some f e = leb-true 1 f (both-true (leb 1 f) _ e .0)
+frame-some f e = leb-true 1 f (and-parts (leb 1 f) _ e .0)
 
 module _ (plan ps : List ℕ) where
   -- ---- the scan
@@ -60,7 +60,7 @@ module _ (plan ps : List ℕ) where
   unfolding checkOf planOf badPart badTick
   accepted e =
       let a = pick-first (frameGood (length plan) && partsCounted ps) _ _ Serves (not-serves Limits) e in
-      let l = both-true (frameGood (length plan)) (partsCounted ps) (a .0) in
+      let l = and-parts (frameGood (length plan)) (partsCounted ps) (a .0) in
       let b = pick-second (ltb (firstBadPart (length plan) ps) (partitions ps)) _ _ Serves (not-serves _) (a .1) in
       let d = pick-second (ltb (firstBadTick (partitions ps) plan) (length plan)) _ _ Serves (not-serves _) (b .1) in (
         record {
@@ -93,7 +93,7 @@ module _ (plan ps : List ℕ) where
         let a = pick-first (frameGood (length plan) && partsCounted ps) _ _ nine (λ q. let z : _≡_ {A = ℕ} 0 1 = cc in absurd (omega arith)) e in
         let b = pick-second (ltb (firstBadPart (length plan) ps) (partitions ps)) _ _ nine (λ q. let z : _≡_ {A = ℕ} 0 1 = cc in absurd (omega arith)) (a .1) in
         let d = pick-second (ltb (firstBadTick (partitions ps) plan) (length plan)) _ _ nine (λ q. let z : _≡_ {A = ℕ} 0 1 = cc in absurd (omega arith)) (b .1) in
-        (frame-some (length plan) (both-true (frameGood (length plan)) (partsCounted ps) (a .0) .0), d .1)
+        (frame-some (length plan) (and-parts (frameGood (length plan)) (partsCounted ps) (a .0) .0), d .1)
 
     stopped : (k : ℕ) → k ≡ shortPart plan ps → 0 < length plan → k < partitions ps → Refused (shortfall plan ps k (shortStart plan ps k)) ≡ nine → Short plan ps p s h w
     unfolding shortIn shortAt

@@ -1,32 +1,14 @@
 // The service of a plan: what a stretch holds, the least over all stretches, and the checker.
 use rules::Refusal;
 ghost use mathlib.Core.Path.{_≡_};
-ghost use Prim.Native.Nat.{_+_, _%_, _≤_, _<_, _^_};
+ghost use Prim.Native.Nat.{_<_};
 ghost use lib.ListN.{length};
-ghost use Rattle.rules.specs.Walk.{only};
 ghost use Rattle.theory.specs.Plan.{own, held, least};
 ghost use Rattle.service.specs.Check.{scanOf, planOf, checkOf};
-ghost use lib.Dec.{eqb};
 
 pub enum Checked {
     Serves,
     Refused(Refusal),
-}
-
-// The tick after `at` in a frame of f: the frame's end is joined to its start.
-fn after(at: usize, f: usize) -> usize
-    requires { ⌜ at < f ⌝ }
-    ensures { λ r. ⌜ (r < f) × (r ≡ (at + 1) % f) ⌝ }
-{
-    let next = at + 1;
-    if next < f { next } else { 0 }
-}
-
-// 1 where the owner is p, else 0.
-fn one_if(owner: u16, p: usize) -> usize
-    ensures { λ r. ⌜ (r ≤ 1) × (r ≡ only (eqb owner p) 1) ⌝ }
-{
-    if (owner as usize) == p { 1 } else { 0 }
 }
 
 // How many of the n ticks from s on are p's, in a plan that has ticks.
@@ -39,8 +21,8 @@ fn counted(plan: &[u16], p: usize, n: usize, s: usize) -> usize
     let mut h = 0;
     let mut k = 0;
     while k < n {
-        h = h + one_if(plan[at], p);
-        at = after(at, f);
+        h = h + rules::one_if(rules::wide(plan[at]) == p);
+        at = rules::after(at, f);
         k += 1;
     }
     h

@@ -1,10 +1,10 @@
+use mathlib.Core.Path.{_≡_, sym, ap, _∙_}
+use mathlib.Core.Bool.{not, true, false}
+use Rattle.theory.specs.Harmonic.{pairs}
+use Rattle.harmonic.specs.Build.{clash}
 use borrow.Author.Needs.{needs}
 use Rattle.harmonic.proofs.clash.Statement.{statement}
 use Rattle.harmonic.proofs.clash.Tie as tie
-use Rattle.harmonic.proofs.clash.Reads as reads
-use Rattle.harmonic.proofs.clash.Lts as lts
-use Rattle.harmonic.proofs.divides.Reads as divides-reads
-use Rattle.rules.proofs.cycle.Reads as cycle-reads
 
 cycle-requires : tie.Need-cycle-requires
 cycle-requires c κs = search needs
@@ -16,13 +16,19 @@ divides-requires : tie.Need-divides-requires
 divides-requires c κs = search needs
 
 returns : tie.Need-returns
-returns c = ?
+unfolding clash pairs
+returns c =
+    let d = sym (c .before .divides .ensures) ∙ c .if1 .taken in
+    rw (← c .before .before .before .cycle .ensures, ← c .before .before .cycle2 .ensures, d)
 
 divides-requires-2 : tie.Need-divides-requires-2
 divides-requires-2 c κs = search needs
 
 returns-2 : tie.Need-returns-2
-returns-2 c = ?
+unfolding clash pairs
+returns-2 c =
+    let d = sym (c .before .before .divides .ensures) ∙ c .before .if1 .left in
+    rw (← c .before .before .before .before .cycle .ensures, ← c .before .before .before .cycle2 .ensures, d) (ap not (c .divides2 .ensures))
 
 pub clash-spec : {M : Type 1} → statement M
 clash-spec =

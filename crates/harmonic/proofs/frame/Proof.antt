@@ -37,11 +37,11 @@ loop-less : tie.Need-loop-less Inv-loop μ-loop
 loop-less c = search needs
 
 loop-again : tie.Need-loop-again Inv-loop μ-loop
-loop-again c = ?
+loop-again c = (search needs, omega (arith, c .larger .ensures), c .larger .ensures ∙ ap₂ max (c .before .before .before .before .loop .inv .2) (c .before .wide .ensures ∙ c .before .before .cycle .ensures) ∙ sym (largest-more _ _))
 
 returns : tie.Need-returns Inv-loop μ-loop
 unfolding frame
-returns c = ?
+returns c = let e : c .before .loop .k ≡ partitions (c .before .before .before .before .args .parts .now) = omega arith in (c .before .loop .inv .1, rw e at (c .before .loop .inv .2))
 
 pub frame-spec : {M : Type 1} → statement M
 frame-spec =

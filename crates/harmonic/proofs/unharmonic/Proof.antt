@@ -1,28 +1,30 @@
+use Prim.Native.Nat.{_≤_, _-_}
+use mathlib.Core.Path.{_≡_, sym, _∙_}
+use Rattle.rules.specs.Walk.{first}
+use Rattle.rules.proofs.First.{first-zero, first-more, some-at, some-done}
+use Rattle.harmonic.specs.Build.{clashes, unharmonic}
 use borrow.Author.Needs.{needs}
 use Rattle.harmonic.proofs.unharmonic.Statement.{statement}
 use Rattle.harmonic.proofs.unharmonic.Tie as tie
-use Rattle.harmonic.proofs.unharmonic.Reads as reads
-use Rattle.harmonic.proofs.unharmonic.Lts as lts
-use Rattle.harmonic.proofs.clashes.Reads as clashes-reads
-use Rattle.rules.proofs.partitions.Reads as partitions-reads
 
 abbrev Inv-loop : tie.InvT-loop
-Inv-loop parts n k₀ k = ?
+Inv-loop parts n k₀ k = (k ≤ n) × (first (clashes parts) k ≡ k)
 
 abbrev μ-loop : tie.MeasureT-loop
-μ-loop parts n k₀ k = ?
+μ-loop parts n k₀ k = n - k
 
 partitions-requires : tie.Need-partitions-requires Inv-loop μ-loop
 partitions-requires c κs = search needs
 
 loop-holds : tie.Need-loop-holds Inv-loop μ-loop
-loop-holds c = ?
+loop-holds c = (search needs, first-zero _)
 
 clashes-requires : tie.Need-clashes-requires Inv-loop μ-loop
 clashes-requires c κs = search needs
 
 returns : tie.Need-returns Inv-loop μ-loop
-returns c = ?
+unfolding unharmonic
+returns c = sym (some-at _ _ _ (search needs) (sym (c .before .clashes .ensures) ∙ c .if1 .taken))
 
 add-k : tie.Need-add-k Inv-loop μ-loop
 add-k c = search needs
@@ -31,10 +33,11 @@ loop-less : tie.Need-loop-less Inv-loop μ-loop
 loop-less c = search needs
 
 loop-again : tie.Need-loop-again Inv-loop μ-loop
-loop-again c = ?
+loop-again c = (search needs, first-more _ _ (c .before .before .before .loop .inv .1) (sym (c .before .clashes .ensures) ∙ c .if1 .left))
 
 returns-2 : tie.Need-returns-2 Inv-loop μ-loop
-returns-2 c = ?
+unfolding unharmonic
+returns-2 c = sym (some-done _ _ _ (search needs) (search needs) (c .before .loop .inv .1))
 
 pub unharmonic-spec : {M : Type 1} → statement M
 unharmonic-spec =

@@ -1,7 +1,7 @@
-use native.Mathlib.Nat.{mod-lt, add-zero}
-use native.Mathlib.Omega.{arith}
 use Prim.Native.Nat.{_+_, _-_, _%_, _≤_, _<_}
 use mathlib.Core.Path.{_≡_}
+use native.Mathlib.Nat.{mod-lt, add-zero}
+use native.Mathlib.Omega.{arith}
 use Rattle.theory.specs.Plan.{own, held}
 use Rattle.service.proofs.Turns.{held-none, held-turn, place-turn}
 use borrow.Author.Needs.{needs}
@@ -20,11 +20,14 @@ rem-at c = search needs
 loop-holds : tie.Need-loop-holds Inv-loop μ-loop
 loop-holds c = (search needs, search needs, mod-lt (c .before .args .s) (search needs), rw (add-zero (c .before .args .s)), held-none _ _ _)
 
-mul-one-if : tie.Need-mul-one-if Inv-loop μ-loop
-mul-one-if c = search needs
+mul-wide : tie.Need-mul-wide Inv-loop μ-loop
+mul-wide c = search needs
 
-shared-slice-read-one-if : tie.Need-shared-slice-read-one-if Inv-loop μ-loop
-shared-slice-read-one-if c = search needs
+shared-slice-read-wide : tie.Need-shared-slice-read-wide Inv-loop μ-loop
+shared-slice-read-wide c = search needs
+
+wide-requires : tie.Need-wide-requires Inv-loop μ-loop
+wide-requires c κs = search needs
 
 one-if-requires : tie.Need-one-if-requires Inv-loop μ-loop
 one-if-requires c κs = search needs
@@ -43,8 +46,8 @@ loop-less c = search needs
 
 loop-again : tie.Need-loop-again Inv-loop μ-loop
 loop-again c =
-    let l = c .before .before .before .before .loop in
-    (search needs, search needs, c .after .ensures .0, place-turn _ _ _ _ _ (l .inv .3) (c .after .ensures .1), held-turn _ _ _ _ _ _ _ (l .inv .3) (l .inv .4) (c .before .one-if .ensures .1))
+    let l = c .before .before .before .before .before .loop in
+    (search needs, search needs, c .after .ensures .0, place-turn _ _ _ _ _ (l .inv .3) (c .after .ensures .1), held-turn _ _ _ _ _ _ _ (l .inv .3) (l .inv .4) (rw (c .before .before .wide .ensures) at (c .before .one-if .ensures .1)))
 
 returns : tie.Need-returns Inv-loop μ-loop
 returns c = let e : c .before .loop .k ≡ c .before .before .before .args .n = omega arith in rw e at (c .before .loop .inv .4)
@@ -57,8 +60,9 @@ counted-spec =
     μ-loop
     rem-at
     loop-holds
-    mul-one-if
-    shared-slice-read-one-if
+    mul-wide
+    shared-slice-read-wide
+    wide-requires
     one-if-requires
     add-h
     after-requires

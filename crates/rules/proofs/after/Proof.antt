@@ -3,8 +3,8 @@ use mathlib.Core.Path.{_≡_, sym}
 use native.Mathlib.Nat.{mod-eq-of-lt, mod-self}
 use native.Mathlib.Omega.{arith}
 use borrow.Author.Needs.{needs}
-use Rattle.service.proofs.after.Statement.{statement}
-use Rattle.service.proofs.after.Tie as tie
+use Rattle.rules.proofs.after.Statement.{statement}
+use Rattle.rules.proofs.after.Tie as tie
 
 add-next : tie.Need-add-next
 add-next c = search needs
