@@ -82,7 +82,7 @@ module _ (ps : List ℕ) (room : ℕ) where
         harmonic = d .0;
         enough = ltb-false _ _ (w .0);
         is-frame = eh;
-        fits = omega (arith, ltb-false _ _ (o .0));
+        fits = omega (arith, ltb-false room (frame ps) (o .0));
       }
 
 pub fit : (ps : List ℕ) → partsCounted ps ≡ true → GoodParts ps → Fit ps

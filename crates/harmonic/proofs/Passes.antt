@@ -15,7 +15,8 @@ use Rattle.rules.specs.Walk.{pick, only, walk}
 use Rattle.rules.proofs.First.{walk-zero, walk-more}
 use Rattle.rules.proofs.Sum.{le-or-lt, only-self, count-ext}
 use Rattle.theory.specs.Plan.{owned, ownsFrom}
-use Rattle.theory.specs.Harmonic.{give, turn, idle, planned, ticks}
+use Rattle.rules.specs.Table.{cycle, wanted}
+use Rattle.theory.specs.Harmonic.{taken, give, turn, idle, planned, ticks}
 use Rattle.theory.proofs.Harmonic.{seen-first, seen-next, give-at, ticks-length, ticks-at}
 use Rattle.harmonic.specs.Written.{tickOf, Written}
 
@@ -50,6 +51,10 @@ written-as o o′ h before after e w = record { as-long = w .as-long; done = λ 
 pub written-then : (o o′ : ℕ → ℕ) (h : ℕ) (before cur after : List ℕ) → Written o h before cur → Written o′ h cur after → Written o′ h before after
 written-then o o′ h before cur after v w = record { as-long = w .as-long ∙ v .as-long; done = w .done; rest = λ t l. w .rest t l ∙ v .rest t l }
 
+-- what a pass left, as it stands
+pub written-self : (o : ℕ → ℕ) (h : ℕ) (before after : List ℕ) → Written o h before after → Written o h after after
+written-self o h before after w = record { as-long = refl; done = w .done; rest = λ t l. refl }
+
 -- all that is left is determined
 pub written-list : (o : ℕ → ℕ) (h : ℕ) (before after : List ℕ) → h ≤ length before → Written o h before after → after ≡ ticks o h ++ drop h before
 written-list o h before after l w =
@@ -82,6 +87,12 @@ unfolding give owned ownsFrom
 give-same p q m o o′ t e =
     let c = count-ext (t % m) (λ k. eqb (o (t - t % m + k)) 0) (λ k. eqb (o′ (t - t % m + k)) 0) (λ k l. ap (λ (x : ℕ). eqb x 0) (e (t - t % m + k) (omega (arith, mod-le t m)))) in
     rw (e t (omega arith), c)
+
+-- the numbers that a turn gives by
+pub turn-is : (ps : List ℕ) (r k q m h : ℕ) (o : ℕ → ℕ) (before after : List ℕ) → k ≡ taken ps r → q ≡ wanted ps k → m ≡ cycle ps k
+    → Written (give (k + 1) q m o) h before after → Written (turn ps r o) h before after
+unfolding turn
+turn-is ps r k q m h o before after ek eq em w = rw (← ek, ← eq, ← em) w
 
 -- one partition's turn, on what the turns before it left
 pub planned-turn : (ps : List ℕ) (r h : ℕ) (before cur after : List ℕ) → Written (planned ps r) h before cur → Written (turn ps r (tickOf cur)) h cur after → Written (planned ps (r + 1)) h before after
