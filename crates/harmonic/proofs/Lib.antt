@@ -1,3 +1,4 @@
 pub mod Sizes
 pub mod Passes
 pub mod Orders
+pub mod Answers
