@@ -35,6 +35,7 @@ pub enum Refusal {
 }
 
 // A refusal as the paper tells it: its number, and what is returned beside it.
+#[repr(C)]
 pub struct Told {
     pub number: usize,
     pub first: usize,

@@ -1,0 +1,66 @@
+// The one export crate: every entry over plain numbers and slices, for C and Rust. include/merkazobi.h declares it.
+use harmonic::Built;
+use rules::Told;
+use service::Checked;
+ghost use mathlib.Core.Path.{_≡_};
+ghost use lib.ListN.{length};
+ghost use Rattle.rules.specs.Table.{wants};
+ghost use Rattle.theory.specs.Plan.{own, held, least};
+ghost use Rattle.service.specs.Check.{checkOf};
+ghost use Rattle.harmonic.specs.Build.{buildOf, leftOf};
+ghost use Rattle.api.specs.Answers.{toldChecked, toldBuilt};
+
+fn answer(first: usize, second: usize) -> Told
+    ensures { λ r. ⌜ r ≡ record { number = 0; first = first; second = second; third = 0; fourth = 0 } ⌝ }
+{
+    Told {
+        number: 0,
+        first,
+        second,
+        third: 0,
+        fourth: 0,
+    }
+}
+
+#[no_mangle]
+pub extern "C" fn merkazobi_wants(m: u16, num: u16, den: u16) -> usize
+    ensures { λ r. ⌜ r ≡ wants m num den ⌝ }
+{
+    rules::wants(m, num, den)
+}
+
+#[no_mangle]
+pub extern "C" fn merkazobi_held(plan: &[u16], p: u16, s: u32, n: u32) -> usize
+    ensures { λ r. ⌜ r ≡ held own (now (plan .entry)) p n s ⌝ }
+{
+    service::held(plan, p, s, n)
+}
+
+#[no_mangle]
+pub extern "C" fn merkazobi_least(plan: &[u16], p: u16, t: u32) -> usize
+    ensures { λ r. ⌜ r ≡ least own (now (plan .entry)) p t ⌝ }
+{
+    service::least(plan, p, t)
+}
+
+#[no_mangle]
+pub extern "C" fn merkazobi_check(plan: &[u16], parts: &[u16]) -> Told
+    ensures { λ r. ⌜ r ≡ toldChecked (checkOf (now (plan .entry)) (now (parts .entry))) ⌝ }
+{
+    let checked = service::check(plan, parts);
+    match checked {
+        Checked::Serves => answer(0, 0),
+        Checked::Refused(r) => rules::tell(r),
+    }
+}
+
+#[no_mangle]
+pub extern "C" fn merkazobi_build(parts: &[u16], out: &mut [u16]) -> Told
+    ensures { λ r. ⌜ (r ≡ toldBuilt (buildOf (now (parts .entry)) (length (now (out .entry))))) × (now (out .exit) ≡ leftOf (buildOf (now (parts .entry)) (length (now (out .entry)))) (now (parts .entry)) (now (out .entry))) ⌝ }
+{
+    let built = harmonic::build(parts, out);
+    match built {
+        Built::Frame(h) => answer(h, 0),
+        Built::Refused(r) => rules::tell(r),
+    }
+}
