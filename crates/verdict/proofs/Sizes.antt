@@ -1,0 +1,62 @@
+-- Bounds, and what a higher task adds. Assumes nothing.
+use Prim.Native.Nat.{ℕ, suc, _+_, _-_, _*_, _/_, _%_, _≤_, _<_}
+use mathlib.Core.Path.{_≡_, refl, sym, ap, _∙_}
+use mathlib.Core.Bool.{Bool, true, false, _&&_}
+use mathlib.Core.List.{List}
+use native.Mathlib.Nat.{mul-le-mul, mul-le-mul-left, mul-one, div-zero}
+use native.Mathlib.Omega.{arith}
+use lib.Dec.{eqb}
+use borrow.Author.Tests.{eq-eqb}
+use Rattle.rules.specs.Walk.{only, first, roundUp}
+use Rattle.rules.specs.Table.{budget, deadline, period}
+use Rattle.rules.proofs.First.{first-found, first-done}
+use Rattle.rules.proofs.Round.{round-least}
+use Rattle.rules.proofs.Sum.{only-true, only-false}
+use Rattle.theory.specs.Plan.{own}
+use Rattle.theory.specs.Task.{rival, asked, multiple, pointFits, firstPoint}
+
+-- rounded up, t/T is no more than t
+pub times-small : (t p : ℕ) → 0 < p → roundUp t p ≤ t
+times-small t p h =
+    let m : t * 1 ≤ t * p = mul-le-mul-left t h in
+    round-least t p t h (omega (arith, mul-one t))
+
+pub times-none : (t p : ℕ) → p ≡ 0 → 0 ≡ roundUp t p
+unfolding roundUp
+times-none t p e = rw (e, div-zero (t + (0 - 1)))
+
+pub asked-small : (c n : ℕ) → c ≤ 65535 → n < 4294967296 → c * n < 281474976710656
+asked-small c n h k =
+    let l : n ≤ 4294967295 = omega arith in
+    let p : c * n ≤ 65535 * 4294967295 = mul-le-mul h l in
+    omega arith
+
+module _ (ts : List ℕ) (i t j : ℕ) where
+  pub asked-is : (c w p n : ℕ) → rival ts i j ≡ true → c ≡ budget ts j → w ≡ c → p ≡ period ts j → n ≡ roundUp t p → w * n ≡ asked ts i t j
+  unfolding asked
+  asked-is c w p n r ec ew ep en = rw (only-true (rival ts i j) (budget ts j * roundUp t (period ts j)) r, ← ep, ← en, ← ec, ew)
+
+  pub asked-none : rival ts i j ≡ false → 0 ≡ asked ts i t j
+  unfolding asked
+  asked-none r = sym (only-false (rival ts i j) (budget ts j * roundUp t (period ts j)) r)
+
+  pub multiple-is : (p : ℕ) (b : Bool) → rival ts i j ≡ true → p ≡ period ts j → b ≡ eqb (t % p) 0 → b ≡ multiple ts i t j
+  unfolding multiple
+  multiple-is p b r ep eb = rw (r, ← ep) eb
+
+  pub multiple-none : rival ts i j ≡ false → false ≡ multiple ts i t j
+  unfolding multiple
+  multiple-none r = rw r
+
+-- the search for a point, at the numbers that the code holds
+module _ (plan ts : List ℕ) (i d : ℕ) (e : d ≡ deadline ts i) where
+  past : d + 1 ≡ suc (deadline ts i)
+  past = omega arith
+
+  pub point-found : (t : ℕ) → t < d + 1 → first (pointFits own plan ts i) t ≡ t → pointFits own plan ts i t ≡ true → t ≡ firstPoint own plan ts i
+  unfolding firstPoint
+  point-found t l f h = sym (first-found (pointFits own plan ts i) (suc (deadline ts i)) t (omega (arith, past)) f h)
+
+  pub point-done : (t : ℕ) → t ≤ d + 1 → d + 1 ≤ t → first (pointFits own plan ts i) t ≡ t → d + 1 ≡ firstPoint own plan ts i
+  unfolding firstPoint
+  point-done t l m f = past ∙ sym (first-done (pointFits own plan ts i) (suc (deadline ts i)) t (omega (arith, past)) (omega (arith, past)) f)
