@@ -2,13 +2,15 @@
 use harmonic::Built;
 use rules::Told;
 use service::Checked;
+use verdict::Judged;
 ghost use mathlib.Core.Path.{_≡_};
 ghost use lib.ListN.{length};
 ghost use Rattle.rules.specs.Table.{wants};
 ghost use Rattle.theory.specs.Plan.{own, held, least};
 ghost use Rattle.service.specs.Check.{checkOf};
 ghost use Rattle.harmonic.specs.Build.{buildOf, leftOf};
-ghost use Rattle.api.specs.Answers.{toldChecked, toldBuilt};
+ghost use Rattle.verdict.specs.Verdict.{verdictOf};
+ghost use Rattle.api.specs.Answers.{toldChecked, toldBuilt, toldJudged};
 
 fn answer(first: usize, second: usize) -> Told
     ensures { λ r. ⌜ r ≡ record { number = 0; first = first; second = second; third = 0; fourth = 0 } ⌝ }
@@ -62,5 +64,22 @@ pub extern "C" fn merkazobi_build(parts: &[u16], out: &mut [u16]) -> Told
     match built {
         Built::Frame(h) => answer(h, 0),
         Built::Refused(r) => rules::tell(r),
+    }
+}
+
+#[no_mangle]
+pub extern "C" fn merkazobi_verdict(
+    plan: &[u16],
+    parts: &[u16],
+    tasks: &[u16],
+    place: usize,
+) -> Told
+    ensures { λ r. ⌜ r ≡ toldJudged (verdictOf (now (plan .entry)) (now (parts .entry)) (now (tasks .entry)) place) ⌝ }
+{
+    let judged = verdict::verdict(plan, parts, tasks, place);
+    match judged {
+        Judged::Pass(t) => answer(t, 0),
+        Judged::Fail => answer(0, 0),
+        Judged::Refused(r) => rules::tell(r),
     }
 }

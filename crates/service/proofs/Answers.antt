@@ -25,7 +25,7 @@ use Rattle.service.specs.Theorems.{GoodTables, CheckServes, Short, Check
 not-serves : (r : Refusal) → ¬ (_≡_ {A = Checked} (Refused r) Serves)
 not-serves r e = let z : _≡_ {A = ℕ} 0 1 = cc in absurd (omega arith)
 
-frame-some : (f : ℕ) → frameGood f ≡ true → 0 < f
+pub frame-some : (f : ℕ) → frameGood f ≡ true → 0 < f
 unfolding frameGood
 frame-some f e = leb-true 1 f (and-parts (leb 1 f) _ e .0)
 
