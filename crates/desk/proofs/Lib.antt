@@ -1,0 +1,10 @@
+pub mod Walk
+pub mod Find
+pub mod Push
+pub mod Back
+pub mod Keep
+pub mod Serve
+pub mod Check
+pub mod Afresh
+pub mod Chain
+pub mod Spot
