@@ -3,7 +3,7 @@ pub mod Find
 pub mod Push
 pub mod Back
 pub mod Keep
-pub mod Serve
+pub mod Served
 pub mod Check
 pub mod Afresh
 pub mod Chain

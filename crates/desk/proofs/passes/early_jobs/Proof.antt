@@ -1,0 +1,80 @@
+use Rattle.desk.proofs.Find.{early-one, early-not}
+use Prim.Native.Nat.{ℕ, suc, _≤_, _<_, _-_, _+_}
+use mathlib.Core.Path.{_≡_, refl, sym, ap, _∙_}
+use mathlib.Core.Logic.{⊎-elim}
+use lib.ListN.{length, getD, set, take, drop}
+use borrow.Author.Tests.{lt-ltb, le-ltb, le-leb, lt-leb}
+use Rattle.desk.specs.Facts.{Small}
+use Rattle.desk.proofs.Walk.{rest-cons, rest-nil}
+use Rattle.rules.specs.Walk.{pick}
+use Rattle.desk.specs.Table.{none}
+use Rattle.desk.specs.Request.{early}
+use borrow.Author.Needs.{needs}
+use native.Mathlib.Omega.{arith}
+use Rattle.desk.proofs.passes.early_jobs.Statement.{statement}
+use Rattle.desk.proofs.passes.early_jobs.Tie as tie
+
+abbrev Inv-loop : tie.InvT-loop
+Inv-loop n d jobs k₀ i₀ k i = (i ≤ n) × (k + i ≤ n) × (k ≡ early d (drop i (take n jobs)))
+
+abbrev μ-loop : tie.MeasureT-loop
+μ-loop n d jobs k₀ i₀ k i = i
+
+loop-holds : tie.Need-loop-holds Inv-loop μ-loop
+loop-holds c = (omega arith, omega arith, ap (early (c .args .d)) (sym (rest-nil (c .args .n) (c .args .n) (c .args .t1) (omega arith))))
+
+sub-i : tie.Need-sub-i Inv-loop μ-loop
+sub-i c = search needs
+
+mul-j : tie.Need-mul-j Inv-loop μ-loop
+mul-j c = search needs
+
+array-copy-out-j : tie.Need-array-copy-out-j Inv-loop μ-loop
+array-copy-out-j c = search needs
+
+add-k : tie.Need-add-k Inv-loop μ-loop
+add-k c = search needs
+
+loop-less : tie.Need-loop-less Inv-loop μ-loop
+loop-less c = search needs
+
+loop-again : tie.Need-loop-again Inv-loop μ-loop
+loop-again c = (
+  omega arith,
+  omega arith,
+  rw (early-one (c .before .before .before .before .before .args .n) (c .before .before .before .before .before .args .t1) (search needs) (c .before .before .before .before .before .args .d) (c .before .before .before .before .loop .i - 1) (c .before .before .before .before .loop .i) (omega arith) (search needs) (c .if1 .taken))
+      (omega arith),
+)
+
+loop-less-2 : tie.Need-loop-less-2 Inv-loop μ-loop
+loop-less-2 c = search needs
+
+loop-again-2 : tie.Need-loop-again-2 Inv-loop μ-loop
+loop-again-2 c = (
+  omega arith,
+  omega arith,
+  rw (early-not (c .before .before .before .before .before .args .n) (c .before .before .before .before .before .args .t1) (search needs) (c .before .before .before .before .before .args .d) (c .before .before .before .before .loop .i - 1) (c .before .before .before .before .loop .i) (omega arith) (search needs) (c .if1 .left))
+      (c .before .before .before .before .loop .inv .2),
+)
+
+returns : tie.Need-returns Inv-loop μ-loop
+returns c =
+    let zero-left : c .before .loop .i ≡ 0 = omega arith in
+    (c .before .loop .inv .2 ∙ ap (λ (i : ℕ). early (c .before .before .args .d) (drop i (take (c .before .before .args .n) (c .before .before .args .t1)))) zero-left, omega arith)
+
+pub early-jobs-spec : {M : Type 1} → statement M
+early-jobs-spec =
+    tie.close
+    (tie.spec
+    Inv-loop
+    μ-loop
+    loop-holds
+    sub-i
+    mul-j
+    array-copy-out-j
+    add-k
+    loop-less
+    loop-again
+    loop-less-2
+    loop-again-2
+    returns)

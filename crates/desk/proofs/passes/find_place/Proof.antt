@@ -1,0 +1,75 @@
+use Rattle.desk.proofs.Find.{find-here, find-on, find-none}
+use Prim.Native.Nat.{ℕ, suc, _≤_, _<_, _-_, _+_}
+use mathlib.Core.Path.{_≡_, refl, sym, ap, _∙_}
+use mathlib.Core.Logic.{⊎-elim}
+use lib.ListN.{length, getD, set, take, drop}
+use borrow.Author.Tests.{lt-ltb, le-ltb, le-leb, lt-leb}
+use Rattle.desk.specs.Facts.{Small}
+use Rattle.desk.proofs.Walk.{rest-cons, rest-nil}
+use Rattle.rules.specs.Walk.{pick}
+use Rattle.desk.specs.Table.{none}
+use Rattle.desk.specs.Request.{room, findFrom}
+use borrow.Author.Needs.{needs}
+use native.Mathlib.Omega.{arith}
+use Rattle.desk.proofs.passes.find_place.Statement.{statement}
+use Rattle.desk.proofs.passes.find_place.Tie as tie
+
+abbrev Inv-loop : tie.InvT-loop
+Inv-loop l t c d jobs s₀ i₀ s i = (i ≤ l) × (findFrom 0 t c d (take l jobs) ≡ findFrom i s c d (drop i (take l jobs))) × (s ≤ 2000000)
+
+abbrev μ-loop : tie.MeasureT-loop
+μ-loop l t c d jobs s₀ i₀ s i = l - i
+
+loop-holds : tie.Need-loop-holds Inv-loop μ-loop
+loop-holds c = (omega arith, refl, omega arith)
+
+mul-j : tie.Need-mul-j Inv-loop μ-loop
+mul-j c = search needs
+
+array-copy-out-j : tie.Need-array-copy-out-j Inv-loop μ-loop
+array-copy-out-j c = search needs
+
+room-at-requires : tie.Need-room-at-requires Inv-loop μ-loop
+room-at-requires c κs = omega (arith, c .before .before .before .pre .0 .starts (c .before .before .loop .i) (search needs), c .before .before .before .pre .0 .budgets (c .before .before .loop .i) (search needs))
+
+returns : tie.Need-returns Inv-loop μ-loop
+returns c =
+    let g : c .before .before .before .before .before .args .c ≤ room (c .before .before .before .before .loop .s) (c .before .before .before .before .before .args .d) (getD (c .before .before .before .before .before .args .t1) (c .before .before .before .before .loop .i) none) = omega arith in
+    (sym (c .before .before .before .before .loop .inv .1 ∙ find-here (c .before .before .before .before .before .args .l) (c .before .before .before .before .before .args .t1) (search needs) _ _ _ _ (search needs) g), (search needs, search needs))
+
+add-s : tie.Need-add-s Inv-loop μ-loop
+add-s c = omega (arith, c .before .before .before .before .before .before .pre .0 .starts (c .before .before .before .before .before .loop .i) (search needs), c .before .before .before .before .before .before .pre .0 .budgets (c .before .before .before .before .before .loop .i) (search needs))
+
+add-i : tie.Need-add-i Inv-loop μ-loop
+add-i c = search needs
+
+loop-less : tie.Need-loop-less Inv-loop μ-loop
+loop-less c = search needs
+
+loop-again : tie.Need-loop-again Inv-loop μ-loop
+loop-again c =
+    let g : room (c .before .before .before .before .before .loop .s) (c .before .before .before .before .before .before .args .d) (getD (c .before .before .before .before .before .before .args .t1) (c .before .before .before .before .before .loop .i) none) < c .before .before .before .before .before .before .args .c = omega arith in (
+      omega arith,
+      c .before .before .before .before .before .loop .inv .1 ∙ find-on (c .before .before .before .before .before .before .args .l) (c .before .before .before .before .before .before .args .t1) (search needs) _ _ _ _ (search needs) g,
+      omega (arith, c .before .before .before .before .before .before .pre .0 .starts (c .before .before .before .before .before .loop .i) (search needs), c .before .before .before .before .before .before .pre .0 .budgets (c .before .before .before .before .before .loop .i) (search needs)),
+    )
+
+returns-2 : tie.Need-returns-2 Inv-loop μ-loop
+returns-2 c = (sym (c .before .loop .inv .1 ∙ find-none (c .before .before .args .l) (c .before .before .args .t1) (search needs) _ _ _ _ (c .loop-test .left)), tt)
+
+pub find-place-spec : {M : Type 1} → statement M
+find-place-spec =
+    tie.close
+    (tie.spec
+    Inv-loop
+    μ-loop
+    loop-holds
+    mul-j
+    array-copy-out-j
+    room-at-requires
+    returns
+    add-s
+    add-i
+    loop-less
+    loop-again
+    returns-2)
