@@ -8,7 +8,7 @@ use native.Mathlib.Numerals.{add-one}
 use lib.Dec.{leb, eqb}
 use lib.ListN.{length, take, drop, getD, drop-of-length-le, replicate, length-drop}
 use lib.Seq.{drop-cons, length-take-le}
-use borrow.Author.Tests.{leb-true, eqb-true, eq-eqb, ne-eqb}
+use borrow.Author.Tests.{leb-true, eqb-true, eq-eqb, ne-eqb, le-leb, lt-leb}
 use Rattle.desk.specs.declared.Job.{Job}
 use mathlib.Core.Bool.{_&&_}
 use Rattle.desk.specs.Table.{none, before, jobOk, ordered, same, allNone, rightX, xOf, tableOk, deskOk, refit, flexes, filled}
@@ -30,13 +30,6 @@ both-no true b h = h
 both-no false b h = refl
 
 module _ (n : ℕ) (l : List Job) (fits : n ≤ length l) where
-  pub before-some : (i : ℕ) → i + 1 < n
-      → leb (getD l i none .a + getD l i none .c) (getD l (i + 1) none .a) ≡ before (getD l i none) (drop (i + 1) (take n l))
-  before-some i h = rw (rest-cons n (i + 1) l h fits)
-
-  pub before-last : (i : ℕ) → n ≤ i + 1 → true ≡ before (getD l i none) (drop (i + 1) (take n l))
-  before-last i h = rw (rest-nil n (i + 1) l h)
-
   pub x-some : (i : ℕ) → i + 1 < n
       → min (getD l i none .d - getD l i none .a - getD l i none .c) (getD l (i + 1) none .x + getD l (i + 1) none .a - getD l i none .a - getD l i none .c)
       ≡ xOf (getD l i none) (drop (i + 1) (take n l))
@@ -47,18 +40,53 @@ module _ (n : ℕ) (l : List Job) (fits : n ≤ length l) where
   x-none i h = rw (rest-nil n (i + 1) l h)
 
   module _ (i : ℕ) (h : i < n) where
-    pub ordered-at : (p q : Bool) → p ≡ jobOk (getD l i none) → q ≡ before (getD l i none) (drop (i + 1) (take n l))
-        → ordered (drop i (take n l)) ≡ p && (q && ordered (drop (i + 1) (take n l)))
-    ordered-at p q ep eq = rw (rest-cons n i l h fits, ep, eq)
-
-    pub ordered-not : jobOk (getD l i none) ≡ false → ordered (drop i (take n l)) ≡ false
-    ordered-not e = rw (rest-cons n i l h fits) (ap (λ (b : Bool). b && (before (getD l i none) (drop (i + 1) (take n l)) && ordered (drop (i + 1) (take n l)))) e)
-
     pub right-yes : getD l i none .x ≡ xOf (getD l i none) (drop (i + 1) (take n l)) → rightX (drop i (take n l)) ≡ rightX (drop (i + 1) (take n l))
     right-yes e = rw (rest-cons n i l h fits, eq-eqb _ _ e)
 
     pub right-no : (getD l i none .x ≡ xOf (getD l i none) (drop (i + 1) (take n l)) → ⊥) → rightX (drop i (take n l)) ≡ false
     right-no e = rw (rest-cons n i l h fits, ne-eqb _ _ e)
+
+-- the first job, if there is one, starts no earlier than e
+abbrev pub startsFrom : ℕ → List Job → Bool
+startsFrom e [] = true
+startsFrom e (j ∷ js) = leb e (j .a)
+
+pub starts-zero : (js : List Job) → startsFrom 0 js ≡ true
+starts-zero [] = refl
+starts-zero (j ∷ js) = le-leb 0 (j .a) (omega arith)
+
+before-starts : (j : Job) (js : List Job) → before j js ≡ startsFrom (j .a + j .c) js
+before-starts j [] = refl
+before-starts j (k ∷ ks) = refl
+
+pub job-ends : (j : Job) → jobOk j ≡ true → j .a + j .c ≤ 1000000
+job-ends j h =
+    let two = both-right (leb 1 (j .c)) _ h in
+    let ends : j .a + j .c ≤ j .d = leb-true _ _ (both-left _ _ two) in
+    let due : j .d ≤ 1000000 = leb-true _ _ (both-right (leb (j .a + j .c) (j .d)) _ two) in
+    omega arith
+
+-- the jobs of l from i to n, after one that ends at e
+abbrev pub orderedFrom : ℕ → ℕ → List Job → ℕ → Bool
+orderedFrom n e l i = startsFrom e (drop i (take n l)) && ordered (drop i (take n l))
+
+module _ (n : ℕ) (l : List Job) (fits : n ≤ length l) (e i : ℕ) where
+  pub ordered-early : i < n → getD l i none .a < e → orderedFrom n e l i ≡ false
+  ordered-early h g = rw (rest-cons n i l h fits, lt-leb e (getD l i none .a) g)
+
+  pub ordered-bad : i < n → jobOk (getD l i none) ≡ false → orderedFrom n e l i ≡ false
+  ordered-bad h g =
+      rw (rest-cons n i l h fits)
+      (both-no (leb e (getD l i none .a)) _ (ap (λ (b : Bool). b && (before (getD l i none) (drop (i + 1) (take n l)) && ordered (drop (i + 1) (take n l)))) g))
+
+  pub ordered-on : i < n → e ≤ getD l i none .a → jobOk (getD l i none) ≡ true
+      → orderedFrom n e l i ≡ orderedFrom n (getD l i none .a + getD l i none .c) l (i + 1)
+  ordered-on h g ok =
+      rw (rest-cons n i l h fits, le-leb e (getD l i none .a) g, ← before-starts (getD l i none) (drop (i + 1) (take n l)))
+      (ap (λ (b : Bool). b && (before (getD l i none) (drop (i + 1) (take n l)) && ordered (drop (i + 1) (take n l)))) ok)
+
+  pub ordered-end : n ≤ i → orderedFrom n e l i ≡ true
+  ordered-end h = rw (rest-nil n i l h)
 
 pub none-at : (l : List Job) (i : ℕ) (b : Bool) → i < length l → b ≡ same (getD l i none) none → allNone (drop i l) ≡ b && allNone (drop (i + 1) l)
 none-at l i b h e = rw (add-one i, drop-cons l i none h, e)

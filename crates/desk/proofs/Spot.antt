@@ -92,7 +92,7 @@ chain-insert c d e (suc p) (j ∷ js) s hc hd g r h = (
   chain-insert c d (j .a + j .c) p js s hc hd (g .2) (right-tail j js r) h,
 )
 
-length-shift : (e : ℕ) (js : List Job) → length (shift e js) ≡ length js
+pub length-shift : (e : ℕ) (js : List Job) → length (shift e js) ≡ length js
 length-shift e [] = refl
 length-shift e (j ∷ js) = ap suc (length-shift (max e (j .a) + j .c) js)
 

@@ -2,12 +2,13 @@
 ghost use mathlib.Core.Path.{_≡_};
 ghost use Rattle.desk.specs.Table.{openOf};
 ghost use Rattle.desk.specs.Request.{requestOf};
-
 use numbers::numbers_ok;
 use passes::refit_front;
 use rules::Refusal;
-use serve::{refused, served};
-use table::{desk_ok, table_ok};
+use serve::refused;
+use serve::served;
+use table::desk_ok;
+use table::table_ok;
 
 pub mod numbers; // numbers.rt: differences that stop at 0, and a request's limits
 pub mod records; // records.rt: the rules of one job record

@@ -6,10 +6,13 @@ ghost use lib.ListN.{length, take, drop};
 ghost use Rattle.desk.specs.Table.{filled, refit};
 ghost use Rattle.desk.specs.Request.{kept, busy, early, room, findFrom, shift, tooFar};
 ghost use Rattle.desk.specs.Facts.{Small, Inside};
-
-use crate::{Job, Place};
-use crate::numbers::{least, less};
-use crate::records::{moved_to, x_before, x_last};
+use crate::Job;
+use crate::Place;
+use crate::numbers::least;
+use crate::numbers::less;
+use crate::records::moved_to;
+use crate::records::x_before;
+use crate::records::x_last;
 
 // A table after dropping.
 pub struct Left {

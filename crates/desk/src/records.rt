@@ -3,9 +3,9 @@ ghost use mathlib.Core.Path.{_≡_};
 ghost use Prim.Native.Nat.{_+_, _-_, min, max};
 ghost use Rattle.desk.specs.Table.{jobOk, same, none};
 ghost use Rattle.desk.specs.Request.{moved};
-
 use crate::Job;
-use crate::numbers::{less, most};
+use crate::numbers::less;
+use crate::numbers::most;
 
 // The flexibility of the last job.
 pub fn x_last(j: Job) -> u32

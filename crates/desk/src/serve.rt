@@ -7,9 +7,17 @@ ghost use Rattle.desk.specs.declared.Answer.the-variants.{Taken, Refused
 ghost use Rattle.desk.specs.Table.{outcome};
 ghost use Rattle.desk.specs.Request.{kept, insertAt, afterDrop};
 ghost use Rattle.desk.specs.Facts.{Small, Smalls};
-
-use crate::{Answer, Job, Outcome, Place};
-use crate::passes::{dropped, early_jobs, find_place, is_busy, put_in, refit_front, too_far};
+use crate::Answer;
+use crate::Job;
+use crate::Outcome;
+use crate::Place;
+use crate::passes::dropped;
+use crate::passes::early_jobs;
+use crate::passes::find_place;
+use crate::passes::is_busy;
+use crate::passes::put_in;
+use crate::passes::refit_front;
+use crate::passes::too_far;
 use rules::Refusal;
 
 pub fn refused(jobs: [Job; 64], count: usize, clock: u32, why: Refusal) -> Outcome
@@ -61,12 +69,7 @@ pub fn served(jobs: [Job; 64], n: usize, clock: u32, t: u32, c: u32, d: u32) -> 
             if too_far(js, k, i, s + c) {
                 return refused(jobs, n, clock, Refusal::TooFar);
             }
-            let new = Job {
-                a: s,
-                c,
-                d,
-                x: 0,
-            };
+            let new = Job { a: s, c, d, x: 0 };
             taken_in(js, k, i, new, t)
         }
     }

@@ -3,9 +3,11 @@ ghost use mathlib.Core.Path.{_≡_};
 ghost use Prim.Native.Nat.{_≤_};
 ghost use lib.ListN.{take, drop};
 ghost use Rattle.desk.specs.Table.{ordered, allNone, rightX, tableOk, deskOk};
-
 use crate::Job;
-use crate::records::{is_none, job_ok, x_before, x_last};
+use crate::records::is_none;
+use crate::records::job_ok;
+use crate::records::x_before;
+use crate::records::x_last;
 
 // Each of the first n jobs is in its limits and starts when the one before has ended.
 fn all_ordered(jobs: [Job; 64], n: usize) -> bool
@@ -55,15 +57,18 @@ fn all_right(jobs: [Job; 64], n: usize) -> bool
         let j = jobs[i];
         if i + 1 < n {
             let k = jobs[i + 1];
-            if j.x != x_before(j, k) {
+            if j.x == x_before(j, k) {
+                i += 1;
+            } else {
                 return false;
             }
         } else {
-            if j.x != x_last(j) {
+            if j.x == x_last(j) {
+                i += 1;
+            } else {
                 return false;
             }
         }
-        i += 1;
     }
     true
 }
@@ -88,13 +93,8 @@ pub fn desk_ok(jobs: [Job; 64], n: usize, clock: u32) -> bool
     if 1000000 < clock {
         return false;
     }
-    if 64 < n {
-        return false;
-    }
-    if all_ordered(jobs, n) {
-        if none_past(jobs, n) {
-            return all_right(jobs, n);
-        }
+    if table_ok(jobs, n) {
+        return all_right(jobs, n);
     }
     false
 }

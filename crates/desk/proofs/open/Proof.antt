@@ -1,27 +1,34 @@
+use Prim.Native.Nat.{ℕ, _≤_}
+use mathlib.Core.Path.{_≡_, sym, _∙_}
+use mathlib.Core.Bool.{true, false}
+use native.Mathlib.Omega.{arith}
+use Rattle.desk.specs.Table.{tableOk, openOf}
+use Rattle.desk.proofs.Check.{listed-of, opened-is}
 use borrow.Author.Needs.{needs}
 use Rattle.desk.proofs.open.Statement.{statement}
 use Rattle.desk.proofs.open.Tie as tie
-use Rattle.desk.proofs.open.Reads as reads
-use Rattle.desk.proofs.open.Lts as lts
-use Rattle.desk.proofs.passes.refit_front.Reads as refit-front-reads
-use Rattle.desk.proofs.serve.refused.Reads as refused-reads
-use Rattle.desk.proofs.table.table_ok.Reads as table-ok-reads
 
 table-ok-requires : tie.Need-table-ok-requires
 table-ok-requires c κs = search needs
 
 refit-front-requires : tie.Need-refit-front-requires
-refit-front-requires c κs = search needs
+refit-front-requires c κs =
+    omega (arith, listed-of (c .before .before .args .n) (c .before .before .args .jobs) (sym (c .before .table-ok .ensures) ∙ c .if1 .taken) .few)
 
 returns : tie.Need-returns
-returns c = ?
+unfolding openOf
+returns c =
+    let ok : tableOk (c .before .before .before .args .n) (c .before .before .before .args .jobs) ≡ true = sym (c .before .before .table-ok .ensures) ∙ c .before .if1 .taken in
+    rw (ok, c .refit-front .ensures, opened-is (c .before .before .before .args .n) (c .before .before .before .args .jobs) ok)
 
 refused-requires : tie.Need-refused-requires
 refused-requires c κs = search needs
 
 returns-2 : tie.Need-returns-2
-returns-2 c = ?
+unfolding openOf
+returns-2 c =
+    let ok : tableOk (c .before .before .before .args .n) (c .before .before .before .args .jobs) ≡ false = sym (c .before .before .table-ok .ensures) ∙ c .before .if1 .left in
+    rw ok (c .refused .ensures)
 
 pub open-spec : {M : Type 1} → statement M
-open-spec =
-    tie.close (tie.spec table-ok-requires refit-front-requires returns refused-requires returns-2)
+open-spec = tie.close (tie.spec table-ok-requires refit-front-requires returns refused-requires returns-2)

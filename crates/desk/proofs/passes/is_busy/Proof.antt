@@ -1,5 +1,5 @@
 use native.Mathlib.Omega.{arith}
-use Rattle.desk.proofs.Serve.{busy-at}
+use Rattle.desk.proofs.Served.{busy-at}
 use borrow.Author.Needs.{needs}
 use Rattle.desk.proofs.passes.is_busy.Statement.{statement}
 use Rattle.desk.proofs.passes.is_busy.Tie as tie

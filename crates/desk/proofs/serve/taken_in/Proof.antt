@@ -1,10 +1,12 @@
+use mathlib.Core.Path.{_≡_, ap}
+use mathlib.Core.List.{List}
+use Rattle.desk.specs.declared.Job.{Job}
+use Rattle.desk.specs.declared.Answer.the-variants.{Taken}
+use Rattle.desk.specs.Table.{outcome}
+use Rattle.desk.proofs.Served.{taken-is}
 use borrow.Author.Needs.{needs}
 use Rattle.desk.proofs.serve.taken_in.Statement.{statement}
 use Rattle.desk.proofs.serve.taken_in.Tie as tie
-use Rattle.desk.proofs.serve.taken_in.Reads as reads
-use Rattle.desk.proofs.serve.taken_in.Lts as lts
-use Rattle.desk.proofs.passes.put_in.Reads as put-in-reads
-use Rattle.desk.proofs.passes.refit_front.Reads as refit-front-reads
 
 put-in-requires : tie.Need-put-in-requires
 put-in-requires c κs = search needs
@@ -22,7 +24,8 @@ add-t8 : tie.Need-add-t8
 add-t8 c = search needs
 
 returns : tie.Need-returns
-returns c = ?
+returns c =
+    rw (taken-is (c .before .before .args .jobs) (c .before .before .args .k) (c .before .before .args .p) (c .before .before .args .new) (search needs) (search needs) _ _ (c .before .put-in .ensures) (c .refit-front .ensures))
 
 pub taken-in-spec : {M : Type 1} → statement M
 taken-in-spec =

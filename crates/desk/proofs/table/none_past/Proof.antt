@@ -2,7 +2,7 @@ use mathlib.Core.Path.{_≡_, refl, sym, ap, _∙_}
 use Prim.Native.Nat.{ℕ, _+_, _-_, _≤_, _<_}
 use native.Mathlib.Omega.{arith}
 use borrow.Author.Tests.{le-leb, lt-leb, eq-eqb, ne-eqb}
-use Rattle.desk.proofs.Check.{both-no, before-some, before-last, x-some, x-none, ordered-at, ordered-not, right-yes, right-no, none-at, none-end}
+use Rattle.desk.proofs.Check.{none-at, none-end}
 use lib.ListN.{take, drop, length}
 use mathlib.Core.Bool.{true, false}
 use Rattle.desk.specs.Table.{ordered, allNone, rightX}
