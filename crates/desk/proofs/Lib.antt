@@ -8,3 +8,9 @@ pub mod Check
 pub mod Afresh
 pub mod Chain
 pub mod Spot
+pub mod Rules
+pub mod Runs
+pub mod Promise
+pub mod Still
+pub mod Proved
+pub mod Worked

@@ -2,9 +2,11 @@
 use Prim.Native.Nat.{ℕ, suc, _+_, _-_, min, max}
 use mathlib.Core.Bool.{Bool, true, false, not, _&&_, _||_}
 use mathlib.Core.List.{List, [], _∷_, _++_}
-use lib.Dec.{leb, ltb}
+use lib.Dec.{leb, ltb, eqb}
 use lib.ListN.{length, take, drop}
 use Rattle.rules.specs.Walk.{pick}
+use Rattle.rules.specs.Refusals.{told}
+use Rattle.rules.specs.declared.Refusal.{Refusal}
 use Rattle.rules.specs.declared.Refusal.the-variants.{Rules, Numbers, Past, Busy, Full, NoPlace, TooFar}
 use Rattle.desk.specs.declared.Job.{Job}
 use Rattle.desk.specs.declared.Place.{Place}
@@ -63,6 +65,16 @@ tooFar e (j ∷ js) = ltb (j .x) (max e (j .a) - j .a) || tooFar (moved e j .a +
 -- the new job at place i: later jobs move, "earlier x are worked out again from there towards the front"
 abbrev pub insertAt : ℕ → Job → List Job → List Job
 insertAt i new js = refit (take i js ++ (new ∷ [])) (shift (new .a + new .c) (drop i js))
+
+-- REFUSALS
+
+-- whether a refusal is the other, by the paper's number
+abbrev pub is : Refusal → Refusal → Bool
+is r q = eqb (told r .number) (told q .number)
+
+-- "16, 17, 18 set the clock to t and drop finished jobs"
+abbrev pub drops : Refusal → Bool
+drops r = is r Busy || (is r Full || is r NoPlace)
 
 -- THE REQUEST: clock, n and l are those at the call, js the jobs left
 
