@@ -1,17 +1,16 @@
 -- The order of a table as facts on numbers, kept by dropping, moving and taking in. Assumes nothing.
-use Prim.Native.Nat.{ℕ, zero, suc, _+_, _-_, _<_, _≤_, min, max}
-use mathlib.Core.Path.{_≡_, refl, sym, ap, _∙_, subst}
+use Prim.Native.Nat.{ℕ, _+_, _-_, _<_, _≤_, max}
+use mathlib.Core.Path.{_≡_, refl, ap}
 use mathlib.Core.Bool.{Bool, true, false}
-use mathlib.Core.List.{List, [], _∷_, _++_}
+use mathlib.Core.List.{List, [], _∷_}
 use native.Mathlib.Omega.{arith}
-use lib.Dec.{leb, ltb, eqb}
-use lib.ListN.{take, drop}
-use borrow.Author.Tests.{ltb-false, eqb-true, leb-true, le-leb, lt-leb, leb-false}
+use lib.Dec.{leb, eqb}
+use borrow.Author.Tests.{eqb-true, leb-true, le-leb, lt-leb, leb-false}
 use Rattle.desk.specs.declared.Job.{Job}
 use Rattle.rules.specs.Walk.{pick}
 use mathlib.Core.Bool.{_&&_}
-use Rattle.desk.specs.Table.{job, withX, xOf, refit, rightX, before, ordered, jobOk}
-use Rattle.desk.specs.Request.{moved, shift, insertAt, kept}
+use Rattle.desk.specs.Table.{xOf, rightX, before, ordered, jobOk}
+use Rattle.desk.specs.Request.{shift, kept}
 use Rattle.desk.proofs.Check.{both-left, both-right, xOf-le}
 use Rattle.desk.proofs.Afresh.{Near, near-next}
 

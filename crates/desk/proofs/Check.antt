@@ -1,6 +1,6 @@
 -- The laws of the table check, one job at a time. Assumes nothing.
-use Prim.Native.Nat.{ℕ, suc, _+_, _-_, _<_, _≤_, min}
-use mathlib.Core.Path.{_≡_, refl, sym, ap, _∙_}
+use Prim.Native.Nat.{ℕ, _+_, _-_, _<_, _≤_, min}
+use mathlib.Core.Path.{_≡_, refl, ap}
 use mathlib.Core.Bool.{Bool, true, false}
 use mathlib.Core.List.{List, [], _∷_, _++_}
 use native.Mathlib.Omega.{arith}
@@ -13,7 +13,7 @@ use Rattle.desk.specs.declared.Job.{Job}
 use mathlib.Core.Bool.{_&&_}
 use Rattle.desk.specs.Table.{none, before, jobOk, ordered, same, allNone, rightX, xOf, tableOk, deskOk, refit, flexes, filled}
 use Rattle.desk.specs.Request.{numbersOk}
-use Rattle.desk.specs.Facts.{Smalls, SmallJob}
+use Rattle.desk.specs.Facts.{Smalls}
 use Rattle.desk.proofs.Back.{length-refit}
 use Rattle.desk.proofs.Walk.{rest-cons, rest-nil}
 

@@ -1,12 +1,11 @@
 -- The laws of counting early jobs and of finding a place, one job at a time. Assumes nothing.
 use Prim.Native.Nat.{ℕ, suc, _+_, _<_, _≤_}
-use mathlib.Core.Path.{_≡_, refl, sym}
+use mathlib.Core.Path.{_≡_}
 use mathlib.Core.List.{List}
 use native.Mathlib.Omega.{arith}
 use borrow.Author.Tests.{le-leb, lt-leb}
 use lib.ListN.{length, take, drop, getD}
 use Rattle.desk.specs.declared.Job.{Job}
-use Rattle.desk.specs.declared.Place.{Place}
 use Rattle.desk.specs.declared.Place.the-variants.{At, Nowhere}
 use Rattle.desk.specs.Table.{none}
 use Rattle.desk.specs.Request.{early, room, findFrom}

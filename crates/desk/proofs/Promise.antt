@@ -1,26 +1,21 @@
 -- The promise over many requests. Assumes nothing.
-use Prim.Native.Nat.{ℕ, zero, suc, _+_, _-_, _<_, _≤_, min, max}
-use mathlib.Core.Path.{_≡_, refl, sym, ap, _∙_, subst}
-use mathlib.Core.Bool.{Bool, true, false}
+use Prim.Native.Nat.{ℕ, _+_, _-_}
+use mathlib.Core.Path.{_≡_, refl}
+use mathlib.Core.Bool.{true}
 use mathlib.Core.List.{List, [], _∷_, _++_, append-assoc}
 use native.Mathlib.Omega.{arith}
-use lib.Dec.{leb, ltb}
-use lib.ListN.{length, take, drop, getD, length-append, replicate, List·getD-append}
-use lib.Seq.{take-append-seam, getD-append-add}
-use borrow.Author.Tests.{leb-true, leb-false, le-leb, lt-leb, ltb-true, ltb-false}
-use Rattle.rules.specs.declared.Refusal.{Refusal}
+use lib.ListN.{length, take, drop, replicate}
+use lib.Seq.{take-append-seam}
 use Rattle.desk.specs.declared.Job.{Job}
-use Rattle.desk.specs.declared.Answer.{Answer}
-use Rattle.desk.specs.declared.Answer.the-variants.{Opened, Taken, Refused}
 use Rattle.desk.specs.declared.Outcome.{Outcome}
-use Rattle.desk.specs.Table.{job, none, filled, flexes, tableOk, outcome, openOf}
-use Rattle.desk.specs.Request.{kept, insertAt, drops, requestOf}
-use Rattle.desk.proofs.Rules.{Sound, SoundAfter}
-use Rattle.desk.specs.Story.{Terms, terms, Run, run, blank, finish, ended, unended, termsOf, termsAt, runs, put, Story, live, ever, Asked, begin, after, grown, next, many, Promise}
+use Rattle.desk.specs.Table.{job, none, filled, flexes, tableOk, openOf}
+use Rattle.desk.specs.Request.{kept, insertAt}
+use Rattle.desk.proofs.Rules.{SoundAfter}
+use Rattle.desk.specs.Story.{Terms, terms, Run, ended, unended, termsOf, termsAt, runs, put, Story, live, ever, Asked, begin, grown, next, many, Promise}
 use Rattle.desk.proofs.Chain.{Chain}
-use Rattle.desk.proofs.Spot.{Spot, spot-start, chain-insert, length-insert}
+use Rattle.desk.proofs.Spot.{spot-start, chain-insert, length-insert}
 use Rattle.desk.proofs.Rules.{Good, good-of, good-kept, Way, same, dropped, taken, way, sound-way, open-is, open-sound, open-good}
-use Rattle.desk.proofs.Runs.{Follow, Line, Held, AllBy, line-runs, follow-kept, runs-kept, ended-first, ended-by, by-later, by-join, line-join, follow-insert, follow-open, line-held, line-promise}
+use Rattle.desk.proofs.Runs.{Follow, Line, AllBy, line-runs, follow-kept, runs-kept, ended-first, ended-by, by-later, by-join, line-join, follow-insert, follow-open, line-promise}
 
 pub take-filled : (js : List Job) (n : ℕ) → length js ≡ n → take n (filled js) ≡ js
 take-filled js n e = rw (← e) (take-append-seam js (replicate (64 - length js) none))

@@ -1,8 +1,8 @@
 -- Each statement of specs/Theorems.antt, proved. Assumes nothing.
-use Prim.Native.Nat.{ℕ, zero, suc, _+_, _<_, _≤_}
+use Prim.Native.Nat.{ℕ, zero, suc, _+_, _<_}
 use mathlib.Core.Path.{_≡_, refl, sym, ap, _∙_}
 use mathlib.Core.Bool.{Bool, true, false, not, true≢false}
-use mathlib.Core.List.{List, [], _∷_, _++_}
+use mathlib.Core.List.{List, [], _∷_}
 use native.Mathlib.Omega.{arith}
 use lib.Dec.{leb, ltb}
 use lib.ListN.{length, take, drop, getD}
@@ -13,50 +13,13 @@ use Rattle.rules.specs.declared.Refusal.the-variants.{Rules, Numbers, Past, Bus
 use Rattle.desk.specs.declared.Job.{Job}
 use Rattle.desk.specs.declared.Place.{Place}
 use Rattle.desk.specs.declared.Place.the-variants.{At, Nowhere}
-use Rattle.desk.specs.declared.Answer.{Answer}
 use Rattle.desk.specs.declared.Answer.the-variants.{Opened, Taken, Refused}
 use Rattle.desk.specs.declared.Outcome.{Outcome}
-use Rattle.desk.specs.Table.{job, none, filled, outcome, flexes, refit, tableOk, deskOk, openOf}
-use Rattle.desk.specs.Request.{kept, busy, find, tooFar, insertAt, placed, afterDrop, numbersOk, drops, requestOf}
-use Rattle.desk.specs.Story.{Terms, terms, Run, run, blank, termsAt, runs, Story, live, ever, Asked, begin, reply, next, many}
-use Rattle.desk.specs.Theorems.{
-  OpenOne,
-  RequestOne,
-  OpenLeaves,
-  RequestLeaves,
-  TakenSetsClock,
-  OpenKeepsRules,
-  RequestKeepsRules,
-  NotRulesAfterOpen,
-  NotRulesAfterRequest,
-  OpenAfresh,
-  RequestAfresh,
-  NeverTooFar,
-  OpenTells,
-  InEveryStory,
-  Tells,
-  StoryTells,
-  KeepsPromise,
-  LosesNone,
-  RefusedMovesNone,
-  TakenJoins,
-  StartedStays,
-  StartedStaysEver,
-  Proved,
-}
-use Rattle.desk.proofs.Rules.{
-  Sound,
-  request-sound,
-  request-refusals,
-  opened-table,
-  open-is,
-  open-refused,
-  open-sound,
-  open-good,
-  open-sound-unless,
-  sound-unless,
-  afresh,
-}
+use Rattle.desk.specs.Table.{none, filled, outcome, flexes, tableOk, deskOk, openOf}
+use Rattle.desk.specs.Request.{kept, busy, find, tooFar, placed, numbersOk, drops, requestOf}
+use Rattle.desk.specs.Story.{Terms, terms, Run, run, blank, termsAt, runs, Story, begin}
+use Rattle.desk.specs.Theorems.{OpenOne, RequestOne, OpenLeaves, NeverTooFar, OpenTells, InEveryStory, Tells, Proved}
+use Rattle.desk.proofs.Rules.{Sound, request-sound, request-refusals, opened-table, open-is, open-sound, open-good, open-sound-unless, sound-unless, afresh}
 use Rattle.desk.proofs.Runs.{Follow}
 use Rattle.desk.proofs.Promise.{take-filled, table, Kept, kept-good, kept-many, kept-begin, promise}
 use Rattle.desk.proofs.Still.{refused-same, taken-joined, still, all-since-opening, still-ever, length-runs}

@@ -2,12 +2,12 @@
 use Prim.Native.Nat.{ℕ, suc, _+_, _-_, _<_, _≤_, max}
 use mathlib.Core.Path.{_≡_, refl, sym, ap, _∙_}
 use mathlib.Core.Bool.{true, false}
-use mathlib.Core.List.{List, [], _∷_, _++_, append-assoc, append-nil}
+use mathlib.Core.List.{List, _∷_, _++_, append-assoc, append-nil}
 use native.Mathlib.Omega.{arith}
 use native.Mathlib.Numerals.{add-one}
 use borrow.Author.Tests.{lt-ltb, le-ltb}
 use lib.ListN.{length, take, drop, getD, set, length-set, take-append-drop}
-use lib.Seq.{drop-cons, take-suc, set-at, length-take-le, take-suc-set, drop-set-lt, drop-drop}
+use lib.Seq.{take-suc-set, drop-set-lt, drop-drop}
 use Rattle.desk.specs.declared.Job.{Job}
 use Rattle.desk.specs.Table.{none}
 use Rattle.desk.specs.Request.{moved, shift, tooFar}

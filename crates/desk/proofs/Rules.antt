@@ -1,10 +1,10 @@
 -- The table rules survive each call, refusal 19 is never given, and each x is the rule's own. Assumes nothing.
-use Prim.Native.Nat.{ℕ, zero, suc, _+_, _-_, _<_, _≤_, min, max}
-use mathlib.Core.Path.{_≡_, refl, sym, ap, _∙_, subst}
+use Prim.Native.Nat.{ℕ, zero, suc, _+_, _-_, _<_, _≤_}
+use mathlib.Core.Path.{_≡_, refl, sym, ap, subst}
 use mathlib.Core.Bool.{Bool, true, false, not}
-use mathlib.Core.List.{List, [], _∷_, _++_}
+use mathlib.Core.List.{List, [], _∷_}
 use native.Mathlib.Omega.{arith}
-use lib.Dec.{leb, ltb, eqb}
+use lib.Dec.{leb, ltb}
 use lib.ListN.{length, take, drop, replicate, length-append, length-replicate}
 use lib.Seq.{take-append-seam, drop-append-seam, length-take-le}
 use borrow.Author.Tests.{leb-true, leb-false, le-leb, ltb-false, eqb-true, eq-eqb}
@@ -13,18 +13,16 @@ use Rattle.rules.specs.declared.Refusal.the-variants.{Rules, Numbers, Past, Bus
 use Rattle.desk.specs.declared.Job.{Job}
 use Rattle.desk.specs.declared.Place.{Place}
 use Rattle.desk.specs.declared.Place.the-variants.{At, Nowhere}
-use Rattle.desk.specs.declared.Answer.{Answer}
 use Rattle.desk.specs.declared.Answer.the-variants.{Opened, Taken, Refused}
 use Rattle.desk.specs.declared.Outcome.{Outcome}
 use Rattle.rules.specs.Walk.{pick}
-use mathlib.Core.Bool.{_&&_}
-use Rattle.desk.specs.Table.{job, none, withX, filled, xOf, refit, flexes, before, ordered, jobOk, allNone, rightX, tableOk, deskOk, outcome, openOf}
+use Rattle.desk.specs.Table.{job, none, withX, filled, xOf, refit, flexes, ordered, allNone, rightX, tableOk, deskOk, outcome, openOf}
 use Rattle.desk.specs.Request.{kept, busy, find, tooFar, insertAt, placed, afterDrop, numbersOk, is, drops, requestOf}
-use Rattle.desk.proofs.Check.{both-left, both-right, numbers-small, Listed, listed-of, desk-table, desk-right}
+use Rattle.desk.proofs.Check.{both-left, both-right, numbers-small, listed-of, desk-table, desk-right}
 use Rattle.desk.proofs.Back.{length-refit}
 use Rattle.desk.proofs.Afresh.{insert-right, refit-right}
-use Rattle.desk.proofs.Chain.{Fine, Chain, chain-low, chain-of, chain-ok, chain-kept, right-kept}
-use Rattle.desk.proofs.Spot.{Spot, Found, find-spot, spot-near, chain-insert, length-insert, right-tail}
+use Rattle.desk.proofs.Chain.{Chain, chain-low, chain-of, chain-ok, chain-kept, right-kept}
+use Rattle.desk.proofs.Spot.{Spot, find-spot, spot-near, chain-insert, length-insert, right-tail}
 
 -- a table, count and clock that pass 13
 pub record Sound (clock n : ℕ) (l : List Job) : Type 0 where

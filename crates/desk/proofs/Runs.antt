@@ -1,18 +1,18 @@
 -- The laws of runs: how terms follow their jobs. Assumes nothing.
-use Prim.Native.Nat.{ℕ, zero, suc, _+_, _-_, _<_, _≤_, min, max}
-use mathlib.Core.Path.{_≡_, refl, sym, ap, _∙_, subst}
+use Prim.Native.Nat.{ℕ, zero, suc, _+_, _-_, _<_, _≤_, max}
+use mathlib.Core.Path.{_≡_, refl, sym, ap}
 use mathlib.Core.Bool.{Bool, true, false}
-use mathlib.Core.List.{List, [], _∷_, _++_, append-assoc}
+use mathlib.Core.List.{List, [], _∷_, _++_}
 use native.Mathlib.Omega.{arith}
-use lib.Dec.{leb, ltb}
-use lib.ListN.{length, take, drop, getD, length-append}
-use borrow.Author.Tests.{leb-true, leb-false, le-leb, lt-leb}
+use lib.Dec.{leb}
+use lib.ListN.{length, getD}
+use borrow.Author.Tests.{leb-true, leb-false, lt-leb}
 use Rattle.desk.specs.declared.Job.{Job}
 use Rattle.rules.specs.Walk.{pick}
 use Rattle.desk.specs.Table.{job, flexes}
 use Rattle.desk.specs.Request.{kept, shift, insertAt}
 use Rattle.desk.specs.Story.{Terms, terms, Run, run, blank, finish, ended, unended, termsOf, termsAt, runs, put, Promise}
-use Rattle.desk.proofs.Chain.{Fine, Chain}
+use Rattle.desk.proofs.Chain.{Chain}
 
 -- the terms gs are those of the jobs js, one for one
 pub record Tells (g : Terms) (j : Job) : Type 0 where

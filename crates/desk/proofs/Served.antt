@@ -1,6 +1,6 @@
 -- From the contracts of the passes to the rule of a request. Assumes nothing.
 use Prim.Native.Nat.{ℕ, zero, suc, _+_, _-_, _<_, _≤_}
-use mathlib.Core.Path.{_≡_, refl, sym, ap, _∙_}
+use mathlib.Core.Path.{_≡_, sym, ap, _∙_}
 use mathlib.Core.Bool.{Bool, true, false}
 use mathlib.Core.List.{List, [], _∷_, _++_, append-assoc}
 use native.Mathlib.Omega.{arith}
@@ -15,7 +15,7 @@ use Rattle.rules.specs.declared.Refusal.the-variants.{Busy, Full, NoPlace, TooF
 use Rattle.desk.specs.declared.Answer.the-variants.{Taken, Refused}
 use Rattle.rules.specs.Walk.{pick}
 use Rattle.desk.specs.Table.{none, filled, refit, job, outcome}
-use Rattle.desk.specs.Request.{kept, early, find, findFrom, shift, insertAt, moved, busy, tooFar, afterDrop}
+use Rattle.desk.specs.Request.{kept, early, find, findFrom, shift, insertAt, busy, tooFar, afterDrop}
 use Rattle.desk.specs.Facts.{Small, SmallJob, Smalls}
 use Rattle.desk.proofs.Walk.{rest-cons}
 use Rattle.desk.proofs.Spot.{length-shift, length-insert}

@@ -1,6 +1,6 @@
 -- What the search for a place gives, and what taking a job in there leaves. Assumes nothing.
-use Prim.Native.Nat.{ℕ, zero, suc, _+_, _-_, _<_, _≤_, min, max}
-use mathlib.Core.Path.{_≡_, refl, sym, ap, _∙_, subst}
+use Prim.Native.Nat.{ℕ, zero, suc, _+_, _-_, _<_, _≤_, max}
+use mathlib.Core.Path.{_≡_, refl, ap}
 use mathlib.Core.Bool.{Bool, true, false}
 use mathlib.Core.List.{List, [], _∷_, _++_}
 use native.Mathlib.Omega.{arith}
@@ -8,15 +8,14 @@ use lib.Dec.{leb, eqb}
 use lib.ListN.{length, take, drop, length-append, length-take, length-drop}
 use borrow.Author.Tests.{leb-true, leb-false, lt-leb}
 use Rattle.desk.specs.declared.Job.{Job}
-use Rattle.desk.specs.declared.Place.{Place}
 use Rattle.desk.specs.declared.Place.the-variants.{At, Nowhere}
 use Rattle.rules.specs.Walk.{pick}
-use Rattle.desk.specs.Table.{job, xOf, refit, rightX}
-use Rattle.desk.specs.Request.{moved, shift, tooFar, insertAt, early, room, findFrom}
+use Rattle.desk.specs.Table.{job, xOf, rightX}
+use Rattle.desk.specs.Request.{shift, tooFar, insertAt, early, room, findFrom}
 use Rattle.desk.proofs.Check.{both-right}
 use Rattle.desk.proofs.Back.{length-refit}
 use Rattle.desk.proofs.Afresh.{Near, never-far}
-use Rattle.desk.proofs.Chain.{Fine, Chain, chain-low, chain-ok, chain-shift}
+use Rattle.desk.proofs.Chain.{Chain, chain-low, chain-ok, chain-shift}
 
 -- p is a place for c and d among js, with start s: the end of the job before it, or e in front of all
 abbrev pub Spot : ℕ → ℕ → ℕ → ℕ → List Job → ℕ → Type 0

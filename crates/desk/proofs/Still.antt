@@ -1,27 +1,24 @@
 -- What one request does to the jobs ever listed: nothing that has started moves, nothing is lost. Assumes nothing.
-use Prim.Native.Nat.{ℕ, zero, suc, _+_, _-_, _<_, _≤_, min, max}
-use mathlib.Core.Path.{_≡_, refl, sym, ap, _∙_, subst}
+use Prim.Native.Nat.{ℕ, zero, suc, _+_, _-_, _<_, _≤_, max}
+use mathlib.Core.Path.{_≡_, refl, sym, ap, _∙_}
 use mathlib.Core.Bool.{Bool, true, false}
 use mathlib.Core.List.{List, [], _∷_, _++_, append-assoc}
 use native.Mathlib.Omega.{arith}
-use lib.Dec.{leb, ltb}
+use lib.Dec.{ltb}
 use lib.ListN.{length, take, drop, getD, length-append, List·getD-append}
 use lib.Seq.{take-append-add, drop-append-add, getD-append-add}
-use borrow.Author.Tests.{le-leb, lt-leb, ltb-true, ltb-false}
+use borrow.Author.Tests.{ltb-true, ltb-false}
 use Rattle.rules.specs.declared.Refusal.{Refusal}
-use Rattle.rules.specs.Walk.{pick}
 use Rattle.desk.specs.declared.Job.{Job}
 use Rattle.desk.specs.declared.Answer.{Answer}
-use Rattle.desk.specs.declared.Answer.the-variants.{Opened, Taken, Refused}
+use Rattle.desk.specs.declared.Answer.the-variants.{Taken, Refused}
 use Rattle.desk.specs.declared.Outcome.{Outcome}
-use mathlib.Core.Bool.{_&&_}
-use Rattle.desk.specs.Table.{job, filled, flexes, tableOk, outcome, openOf}
-use Rattle.desk.specs.Request.{kept, shift, insertAt, drops, requestOf}
-use Rattle.desk.specs.Story.{Terms, terms, Run, run, blank, finish, ended, unended, termsOf, termsAt, runs, put, Story, live, ever, Asked, begin, after, grown, next, many, Promise, Later, without, Joined, countTaken, takens, Fixed, reply}
-use Rattle.desk.proofs.Chain.{Chain}
+use Rattle.desk.specs.Table.{job, filled, tableOk, openOf}
+use Rattle.desk.specs.Request.{kept, shift, insertAt}
+use Rattle.desk.specs.Story.{Terms, terms, Run, run, blank, ended, unended, termsOf, termsAt, runs, put, Story, live, ever, Asked, begin, grown, next, many, Later, without, Joined, countTaken, takens, Fixed, reply}
 use Rattle.desk.proofs.Spot.{Spot, length-insert}
-use Rattle.desk.proofs.Rules.{Good, Way, same, dropped, taken, way, open-is, open-good}
-use Rattle.desk.proofs.Runs.{Tells, Follow, Line, Held, line-runs, follow-kept, runs-kept, line-held, follow-open}
+use Rattle.desk.proofs.Rules.{Way, same, dropped, taken, way, open-is}
+use Rattle.desk.proofs.Runs.{Follow, Line, line-runs, follow-kept, runs-kept, line-held}
 use Rattle.desk.proofs.Promise.{take-filled, table, Kept, kept-good, drop-same, kept-next, kept-begin}
 
 later-shift : (e : ℕ) (gs : List Terms) (js : List Job) → Follow gs js → Later (runs gs js) (runs gs (shift e js))

@@ -1,11 +1,9 @@
 -- D1 to D6 of document 01, as the rules give them. Assumes nothing.
-use Prim.Native.Nat.{ℕ}
 use mathlib.Core.Path.{_≡_, refl}
 use mathlib.Core.List.{List, [], _∷_}
 use Rattle.rules.specs.declared.Refusal.the-variants.{Busy, NoPlace}
 use Rattle.desk.specs.declared.Job.{Job}
 use Rattle.desk.specs.declared.Answer.the-variants.{Opened, Taken, Refused}
-use Rattle.desk.specs.declared.Outcome.{Outcome}
 use Rattle.desk.specs.Table.{job, filled, outcome, openOf}
 use Rattle.desk.specs.Request.{room, requestOf}
 use Rattle.desk.specs.Story.{terms, run, ever, many, begin}

@@ -1,6 +1,6 @@
 -- A request at time t, of budget c and deadline d: document 01, "The desk", and refusals 13 to 19 in their order. Assumes nothing.
 use Prim.Native.Nat.{ℕ, suc, _+_, _-_, min, max}
-use mathlib.Core.Bool.{Bool, true, false, not, _&&_, _||_}
+use mathlib.Core.Bool.{Bool, false, not, _&&_, _||_}
 use mathlib.Core.List.{List, [], _∷_, _++_}
 use lib.Dec.{leb, ltb, eqb}
 use lib.ListN.{length, take, drop}

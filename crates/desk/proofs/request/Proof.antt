@@ -1,7 +1,5 @@
-use Prim.Native.Nat.{ℕ, _≤_}
 use mathlib.Core.Path.{_≡_, sym, _∙_}
 use mathlib.Core.Bool.{true, false}
-use native.Mathlib.Omega.{arith}
 use borrow.Author.Tests.{lt-ltb, le-ltb}
 use Rattle.desk.specs.Table.{deskOk}
 use Rattle.desk.specs.Request.{numbersOk, requestOf}

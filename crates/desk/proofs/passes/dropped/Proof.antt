@@ -1,9 +1,7 @@
-use Prim.Native.Nat.{ℕ, suc, _≤_, _<_, _-_, _+_}
-use mathlib.Core.Path.{_≡_, refl, sym, ap, _∙_}
+use Prim.Native.Nat.{_≤_, _<_, _-_}
+use mathlib.Core.Path.{_≡_, refl}
 use mathlib.Core.Logic.{⊎-elim}
-use lib.ListN.{length, take}
-use Rattle.desk.specs.Table.{none, filled}
-use Rattle.desk.specs.Request.{kept}
+use lib.ListN.{length}
 use Rattle.desk.proofs.Keep.{Held, held-more, held-same}
 use borrow.Author.Needs.{needs}
 use native.Mathlib.Omega.{arith}

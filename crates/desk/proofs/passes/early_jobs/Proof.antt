@@ -1,13 +1,8 @@
 use Rattle.desk.proofs.Find.{early-one, early-not}
-use Prim.Native.Nat.{ℕ, suc, _≤_, _<_, _-_, _+_}
-use mathlib.Core.Path.{_≡_, refl, sym, ap, _∙_}
-use mathlib.Core.Logic.{⊎-elim}
-use lib.ListN.{length, getD, set, take, drop}
-use borrow.Author.Tests.{lt-ltb, le-ltb, le-leb, lt-leb}
-use Rattle.desk.specs.Facts.{Small}
-use Rattle.desk.proofs.Walk.{rest-cons, rest-nil}
-use Rattle.rules.specs.Walk.{pick}
-use Rattle.desk.specs.Table.{none}
+use Prim.Native.Nat.{ℕ, _≤_, _-_, _+_}
+use mathlib.Core.Path.{_≡_, sym, ap, _∙_}
+use lib.ListN.{take, drop}
+use Rattle.desk.proofs.Walk.{rest-nil}
 use Rattle.desk.specs.Request.{early}
 use borrow.Author.Needs.{needs}
 use native.Mathlib.Omega.{arith}

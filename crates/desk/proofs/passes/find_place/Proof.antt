@@ -1,12 +1,7 @@
 use Rattle.desk.proofs.Find.{find-here, find-on, find-none}
-use Prim.Native.Nat.{ℕ, suc, _≤_, _<_, _-_, _+_}
-use mathlib.Core.Path.{_≡_, refl, sym, ap, _∙_}
-use mathlib.Core.Logic.{⊎-elim}
-use lib.ListN.{length, getD, set, take, drop}
-use borrow.Author.Tests.{lt-ltb, le-ltb, le-leb, lt-leb}
-use Rattle.desk.specs.Facts.{Small}
-use Rattle.desk.proofs.Walk.{rest-cons, rest-nil}
-use Rattle.rules.specs.Walk.{pick}
+use Prim.Native.Nat.{_≤_, _<_, _-_}
+use mathlib.Core.Path.{_≡_, refl, sym, _∙_}
+use lib.ListN.{getD, take, drop}
 use Rattle.desk.specs.Table.{none}
 use Rattle.desk.specs.Request.{room, findFrom}
 use borrow.Author.Needs.{needs}

@@ -1,12 +1,8 @@
-use Prim.Native.Nat.{ℕ, suc, _≤_, _<_, _-_, _+_, _*_, max}
-use mathlib.Core.Path.{_≡_, refl, sym, ap, _∙_}
+use Prim.Native.Nat.{ℕ, _≤_, _-_}
+use mathlib.Core.Path.{_≡_, sym, ap, _∙_}
 use mathlib.Core.Logic.{⊎-elim}
-use mathlib.Core.List.{List, [], _∷_, _++_}
-use lib.ListN.{length, getD, set, take, drop}
-use borrow.Author.Tests.{lt-ltb, le-ltb, le-leb, lt-leb}
-use Rattle.desk.specs.Facts.{Small}
-use Rattle.desk.proofs.Walk.{rest-cons, rest-nil}
-use Rattle.desk.specs.Table.{none, withX, xOf, refit}
+use lib.ListN.{getD, set}
+use Rattle.desk.specs.Table.{none, withX}
 use Rattle.desk.proofs.Back.{state, begins, Turn, turns}
 use borrow.Author.Needs.{needs}
 use native.Mathlib.Omega.{arith}

@@ -1,15 +1,10 @@
 use Rattle.desk.specs.declared.Job.{Job}
 use Rattle.desk.proofs.Push.{far-here, far-on, far-none}
-use Prim.Native.Nat.{ℕ, suc, _≤_, _<_, _-_, _+_, _*_, max}
+use Prim.Native.Nat.{_≤_, _<_, _-_, _+_, _*_, max}
 use mathlib.Core.Path.{_≡_, refl, sym, ap, _∙_}
-use mathlib.Core.Logic.{⊎-elim}
-use mathlib.Core.List.{List, [], _∷_, _++_}
-use lib.ListN.{length, getD, set, take, drop}
-use borrow.Author.Tests.{lt-ltb, le-ltb, le-leb, lt-leb}
-use Rattle.desk.specs.Facts.{Small}
-use Rattle.desk.proofs.Walk.{rest-cons, rest-nil}
+use lib.ListN.{getD, take, drop}
 use Rattle.desk.specs.Table.{none}
-use Rattle.desk.specs.Request.{moved, tooFar}
+use Rattle.desk.specs.Request.{tooFar}
 use borrow.Author.Needs.{needs}
 use native.Mathlib.Omega.{arith}
 use Rattle.desk.proofs.passes.too_far.Statement.{statement}

@@ -1,4 +1,5 @@
-use mathlib.Core.Path.{_≡_, ap}
+use Prim.Native.Nat.{_+_}
+use mathlib.Core.Path.{ap}
 use mathlib.Core.List.{List}
 use Rattle.desk.specs.declared.Job.{Job}
 use Rattle.desk.specs.declared.Answer.the-variants.{Taken}
@@ -25,7 +26,8 @@ add-t8 c = search needs
 
 returns : tie.Need-returns
 returns c =
-    rw (taken-is (c .before .before .args .jobs) (c .before .before .args .k) (c .before .before .args .p) (c .before .before .args .new) (search needs) (search needs) _ _ (c .before .put-in .ensures) (c .refit-front .ensures))
+    ap (λ (l : List Job). outcome l (c .before .before .args .k + 1) (c .before .before .args .t) (Taken (c .before .before .args .p) (c .before .before .args .new .a)))
+    (taken-is (c .before .before .args .jobs) (c .before .before .args .k) (c .before .before .args .p) (c .before .before .args .new) (search needs) (search needs) _ _ (c .before .put-in .ensures) (c .refit-front .ensures))
 
 pub taken-in-spec : {M : Type 1} → statement M
 taken-in-spec =

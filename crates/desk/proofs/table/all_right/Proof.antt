@@ -1,10 +1,9 @@
 use mathlib.Core.Path.{_≡_, refl, sym, ap, _∙_}
-use Prim.Native.Nat.{ℕ, _+_, _-_, _≤_, _<_}
+use Prim.Native.Nat.{_-_, _≤_}
 use Rattle.desk.proofs.Check.{x-some, x-none, right-yes, right-no}
 use Rattle.desk.proofs.Walk.{rest-nil}
-use lib.ListN.{take, drop, length}
-use mathlib.Core.Bool.{true, false}
-use Rattle.desk.specs.Table.{ordered, rightX}
+use lib.ListN.{take, drop}
+use Rattle.desk.specs.Table.{rightX}
 use borrow.Author.Needs.{needs}
 use native.Mathlib.Omega.{arith}
 use Rattle.desk.proofs.table.all_right.Statement.{statement}

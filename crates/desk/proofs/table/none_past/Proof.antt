@@ -1,11 +1,8 @@
-use mathlib.Core.Path.{_≡_, refl, sym, ap, _∙_}
-use Prim.Native.Nat.{ℕ, _+_, _-_, _≤_, _<_}
-use native.Mathlib.Omega.{arith}
-use borrow.Author.Tests.{le-leb, lt-leb, eq-eqb, ne-eqb}
+use mathlib.Core.Path.{_≡_, refl, sym, _∙_}
+use Prim.Native.Nat.{_-_, _≤_}
 use Rattle.desk.proofs.Check.{none-at, none-end}
-use lib.ListN.{take, drop, length}
-use mathlib.Core.Bool.{true, false}
-use Rattle.desk.specs.Table.{ordered, allNone, rightX}
+use lib.ListN.{drop}
+use Rattle.desk.specs.Table.{allNone}
 use borrow.Author.Needs.{needs}
 use native.Mathlib.Omega.{arith}
 use Rattle.desk.proofs.table.none_past.Statement.{statement}
