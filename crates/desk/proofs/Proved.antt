@@ -1,7 +1,7 @@
 -- Each statement of specs/Theorems.antt, proved. Assumes nothing.
 use Prim.Native.Nat.{ℕ, zero, suc, _+_, _<_}
 use mathlib.Core.Path.{_≡_, refl, sym, ap, _∙_}
-use mathlib.Core.Bool.{Bool, true, false, not, true≢false}
+use mathlib.Core.Bool.{Bool, true, false, not}
 use mathlib.Core.List.{List, [], _∷_}
 use native.Mathlib.Omega.{arith}
 use lib.Dec.{leb, ltb}
@@ -18,8 +18,8 @@ use Rattle.desk.specs.declared.Outcome.{Outcome}
 use Rattle.desk.specs.Table.{none, filled, outcome, flexes, tableOk, deskOk, openOf}
 use Rattle.desk.specs.Request.{kept, busy, find, tooFar, placed, numbersOk, drops, requestOf}
 use Rattle.desk.specs.Story.{Terms, terms, Run, run, blank, termsAt, runs, Story, begin}
-use Rattle.desk.specs.Theorems.{OpenOne, RequestOne, OpenLeaves, NeverTooFar, OpenTells, InEveryStory, Tells, Proved}
-use Rattle.desk.proofs.Rules.{Sound, request-sound, request-refusals, opened-table, open-is, open-sound, open-good, open-sound-unless, sound-unless, afresh}
+use Rattle.desk.specs.Theorems.{OpenOne, RequestOne, OpenLeaves, NeverTooFar, Refuses, OpenTells, InEveryStory, Tells, Proved}
+use Rattle.desk.proofs.Rules.{Sound, request-sound, request-numbers, opened-table, open-is, open-sound, open-good, open-sound-unless, sound-unless, afresh}
 use Rattle.desk.proofs.Runs.{Follow}
 use Rattle.desk.proofs.Promise.{take-filled, table, Kept, kept-good, kept-many, kept-begin, promise}
 use Rattle.desk.proofs.Still.{refused-same, taken-joined, still, all-since-opening, still-ever, length-runs}
@@ -123,13 +123,12 @@ tells h w =
       deadline = λ k g. run-at (h .listed) (table h) k (w .follow) (omega (arith, long)) .2 ∙ ap (λ (j : Job). j .d) (at k g);
     }
 
-not-rules : (clock n : ℕ) (l : List Job) → Sound clock n l → (t c d : ℕ) → requestOf clock n l t c d .answer ≡ Refused Rules → ⊥
-not-rules clock n l s t c d e = true≢false (request-refusals clock n l t c d s Rules e .0)
+not-rules : (clock n : ℕ) (l : List Job) → Sound clock n l → (t c d : ℕ) → Refuses (requestOf clock n l t c d) Rules → ⊥
+not-rules clock n l s t c d = request-numbers clock n l t c d s .0
 
 never-too-far : NeverTooFar
 never-too-far clock n l t c d e =
-    let passes : requestOf clock n l t c d .answer ≡ Refused Rules → ⊥ = λ f. absurd (let z : _≡_ {A = ℕ} 0 1 = cc in omega arith) in
-    true≢false (request-refusals clock n l t c d (sound-unless clock n l t c d passes) TooFar e .1)
+    request-numbers clock n l t c d (sound-unless clock n l t c d (λ f. absurd (omega arith))) .1 e
 
 pub proved : Proved
 proved =

@@ -1,7 +1,7 @@
 -- The table rules survive each call, refusal 19 is never given, and each x is the rule's own. Assumes nothing.
 use Prim.Native.Nat.{ℕ, zero, suc, _+_, _-_, _<_, _≤_}
-use mathlib.Core.Path.{_≡_, refl, sym, ap, subst}
-use mathlib.Core.Bool.{Bool, true, false, not}
+use mathlib.Core.Path.{_≡_, refl, sym, ap, subst, _∙_}
+use mathlib.Core.Bool.{Bool, true, false, not, true≢false}
 use mathlib.Core.List.{List, [], _∷_}
 use native.Mathlib.Omega.{arith}
 use lib.Dec.{leb, ltb}
@@ -13,10 +13,11 @@ use Rattle.rules.specs.declared.Refusal.the-variants.{Rules, Numbers, Past, Bus
 use Rattle.desk.specs.declared.Job.{Job}
 use Rattle.desk.specs.declared.Place.{Place}
 use Rattle.desk.specs.declared.Place.the-variants.{At, Nowhere}
+use Rattle.desk.specs.declared.Answer.{Answer}
 use Rattle.desk.specs.declared.Answer.the-variants.{Opened, Taken, Refused}
 use Rattle.desk.specs.declared.Outcome.{Outcome}
 use Rattle.rules.specs.Walk.{pick}
-use Rattle.desk.specs.Table.{job, none, withX, filled, xOf, refit, flexes, ordered, allNone, rightX, tableOk, deskOk, outcome, openOf}
+use Rattle.desk.specs.Table.{job, none, withX, filled, xOf, refit, flexes, ordered, allNone, rightX, tableOk, deskOk, outcome, openOf, said}
 use Rattle.desk.specs.Request.{kept, busy, find, tooFar, insertAt, placed, afterDrop, numbersOk, is, drops, requestOf}
 use Rattle.desk.proofs.Check.{both-left, both-right, numbers-small, listed-of, desk-table, desk-right}
 use Rattle.desk.proofs.Back.{length-refit}
@@ -157,14 +158,14 @@ module _ (clock n : ℕ) (l : List Job) (t c d : ℕ) (sound : Sound clock n l) 
   pub request-sound : SoundAfter (requestOf clock n l t c d)
   request-sound = sound-way (requestOf clock n l t c d) way
 
-  -- 2. and it refuses neither with 13 nor with 19
-  refusal-way : (o : Outcome) (r : Refusal) → o .answer ≡ Refused r → Way clock n l t c d o → (is r Rules ≡ false) × (is r TooFar ≡ false)
-  refusal-way o r e (same q h) = let z : q ≡ r = cc in rw (← z) (h .table, h .far)
-  refusal-way o r e (dropped q h late small) = let z : q ≡ r = cc in rw (← z) (h .table, h .far)
-  refusal-way o r e (taken i s late small some due few g spot) = absurd (let z : _≡_ {A = ℕ} 0 1 = cc in omega arith)
+  -- 2. and it answers neither 13 nor 19
+  numbers-way : (o : Outcome) → Way clock n l t c d o → (said (o .answer) .number ≡ 13 → ⊥) × (said (o .answer) .number ≡ 19 → ⊥)
+  numbers-way o (same q h) = (λ e. true≢false (sym (eq-eqb _ _ e) ∙ h .table), λ e. true≢false (sym (eq-eqb _ _ e) ∙ h .far))
+  numbers-way o (dropped q h late small) = (λ e. true≢false (sym (eq-eqb _ _ e) ∙ h .table), λ e. true≢false (sym (eq-eqb _ _ e) ∙ h .far))
+  numbers-way o (taken i s late small some due few g spot) = (λ e. absurd (omega arith), λ e. absurd (omega arith))
 
-  pub request-refusals : (r : Refusal) → requestOf clock n l t c d .answer ≡ Refused r → (is r Rules ≡ false) × (is r TooFar ≡ false)
-  request-refusals r e = refusal-way (requestOf clock n l t c d) r e way
+  pub request-numbers : (said (requestOf clock n l t c d .answer) .number ≡ 13 → ⊥) × (said (requestOf clock n l t c d .answer) .number ≡ 19 → ⊥)
+  request-numbers = numbers-way (requestOf clock n l t c d) way
 
 -- the place that is found, on any table in order with right flexibilities, moves no job beyond its x
 pub room-never-far : (t c d : ℕ) (js : List Job) (i s : ℕ) → ordered js ≡ true → rightX js ≡ true → busy t js ≡ false
@@ -231,14 +232,14 @@ unfolding requestOf
 refuse-rules clock n l t c d z = rw z
 
 -- a request that is not refused with 13 found the table sound
-pub sound-unless : (clock n : ℕ) (l : List Job) (t c d : ℕ) → (requestOf clock n l t c d .answer ≡ Refused Rules → ⊥) → Sound clock n l
+pub sound-unless : (clock n : ℕ) (l : List Job) (t c d : ℕ) → (said (requestOf clock n l t c d .answer) .number ≡ 13 → ⊥) → Sound clock n l
 sound-unless clock n l t c d h = cases (deskOk clock n l) refl where
   cases : (b : Bool) → deskOk clock n l ≡ b → Sound clock n l
   cases true z = record { test = z }
-  cases false z = absurd (h (refuse-rules clock n l t c d z))
+  cases false z = absurd (h (ap (λ (a : Answer). said a .number) (refuse-rules clock n l t c d z)))
 
-pub open-sound-unless : (clock n : ℕ) (l : List Job) → (openOf clock n l .answer ≡ Refused Rules → ⊥) → SoundAfter (openOf clock n l)
+pub open-sound-unless : (clock n : ℕ) (l : List Job) → (said (openOf clock n l .answer) .number ≡ 13 → ⊥) → SoundAfter (openOf clock n l)
 open-sound-unless clock n l h = cases (tableOk n l) refl where
   cases : (b : Bool) → tableOk n l ≡ b → SoundAfter (openOf clock n l)
   cases true z = open-sound clock n l z
-  cases false z = absurd (h (ap (λ (o : Outcome). o .answer) (open-refused clock n l z)))
+  cases false z = absurd (h (ap (λ (o : Outcome). said (o .answer) .number) (open-refused clock n l z)))

@@ -5,12 +5,13 @@ use mathlib.Core.Bool.{Bool, true}
 use mathlib.Core.List.{List}
 use lib.ListN.{length, take, getD}
 use Rattle.rules.specs.Walk.{pick}
+use Rattle.rules.specs.Refusals.{told}
 use Rattle.rules.specs.declared.Refusal.{Refusal}
 use Rattle.rules.specs.declared.Refusal.the-variants.{Rules, TooFar}
 use Rattle.desk.specs.declared.Job.{Job}
 use Rattle.desk.specs.declared.Answer.the-variants.{Opened, Taken, Refused}
 use Rattle.desk.specs.declared.Outcome.{Outcome}
-use Rattle.desk.specs.Table.{none, filled, outcome, flexes, deskOk, openOf}
+use Rattle.desk.specs.Table.{none, filled, outcome, said, flexes, deskOk, openOf}
 use Rattle.desk.specs.Request.{kept, drops, requestOf}
 use Rattle.desk.specs.Story.{run, terms, termsAt, runs, blank, Story, live, ever, Asked, begin, reply, next, many, Promise, Joined, Fixed, takens}
 
@@ -44,6 +45,10 @@ abbrev pub TakenSetsClock : Type 0
 TakenSetsClock =
     (clock n : ℕ) (l : List Job) (t c d i s : ℕ) → requestOf clock n l t c d .answer ≡ Taken i s → requestOf clock n l t c d .clock ≡ t
 
+-- a call's answer is this refusal, by the paper's number
+abbrev pub Refuses : Outcome → Refusal → Type 0
+Refuses o r = said (o .answer) .number ≡ told r .number
+
 -- THE TABLE RULES SURVIVE: 13 is for a "job table, clock or count" that "breaks the rules", and no call makes one such
 
 abbrev pub sound : Outcome → Bool
@@ -59,7 +64,7 @@ RequestKeepsRules =
 -- a request on what a call left, where that call did not answer 13, does not answer 13
 abbrev pub NotRulesAfter : Outcome → Type 0
 NotRulesAfter o =
-    (o .answer ≡ Refused Rules → ⊥) → (t c d : ℕ) → requestOf (o .clock) (o .count) (o .jobs) t c d .answer ≡ Refused Rules → ⊥
+    (Refuses o Rules → ⊥) → (t c d : ℕ) → Refuses (requestOf (o .clock) (o .count) (o .jobs) t c d) Rules → ⊥
 
 abbrev pub NotRulesAfterOpen : Type 0
 NotRulesAfterOpen = (clock n : ℕ) (l : List Job) → NotRulesAfter (openOf clock n l)
@@ -70,7 +75,7 @@ NotRulesAfterRequest = (clock n : ℕ) (l : List Job) (t c d : ℕ) → NotRules
 -- AFRESH: after every call that does not refuse the table, each x is the rule's own, worked out from nothing
 
 abbrev pub Afresh : Outcome → Type 0
-Afresh o = (o .answer ≡ Refused Rules → ⊥) → flexes (take (o .count) (o .jobs)) ≡ take (o .count) (o .jobs)
+Afresh o = (Refuses o Rules → ⊥) → flexes (take (o .count) (o .jobs)) ≡ take (o .count) (o .jobs)
 
 abbrev pub OpenAfresh : Type 0
 OpenAfresh = (clock n : ℕ) (l : List Job) → Afresh (openOf clock n l)
@@ -80,7 +85,7 @@ RequestAfresh = (clock n : ℕ) (l : List Job) (t c d : ℕ) → Afresh (request
 
 -- 19: "a move would exceed a job's x" is never so: a table that passes 13 never gives 19, and any other gives 13
 abbrev pub NeverTooFar : Type 0
-NeverTooFar = (clock n : ℕ) (l : List Job) (t c d : ℕ) → requestOf clock n l t c d .answer ≡ Refused TooFar → ⊥
+NeverTooFar = (clock n : ℕ) (l : List Job) (t c d : ℕ) → Refuses (requestOf clock n l t c d) TooFar → ⊥
 
 -- THE STORY: "Over any requests after one opening, the caller changing nothing lent between them"
 
