@@ -1,8 +1,12 @@
-use mathlib.Core.Path.{_≡_, sym, _∙_}
-use mathlib.Core.Bool.{true, false}
+use mathlib.Core.Path.{_≡_, sym, ap, _∙_}
+use mathlib.Core.List.{List}
+use mathlib.Core.Bool.{true}
 use native.Mathlib.Omega.{arith}
-use Rattle.desk.specs.Table.{tableOk, openOf}
+use Rattle.desk.specs.declared.Job.{Job}
+use Rattle.desk.specs.declared.Answer.the-variants.{Opened}
+use Rattle.desk.specs.Table.{outcome, tableOk}
 use Rattle.desk.proofs.Check.{listed-of, opened-is}
+use Rattle.desk.proofs.Rules.{open-is, open-refused}
 use borrow.Author.Needs.{needs}
 use Rattle.desk.proofs.open.Statement.{statement}
 use Rattle.desk.proofs.open.Tie as tie
@@ -15,19 +19,18 @@ refit-front-requires c κs =
     omega (arith, listed-of (c .before .before .args .n) (c .before .before .args .jobs) (sym (c .before .table-ok .ensures) ∙ c .if1 .taken) .few)
 
 returns : tie.Need-returns
-unfolding openOf
 returns c =
     let ok : tableOk (c .before .before .before .args .n) (c .before .before .before .args .jobs) ≡ true = sym (c .before .before .table-ok .ensures) ∙ c .before .if1 .taken in
-    rw (ok, c .refit-front .ensures, opened-is (c .before .before .before .args .n) (c .before .before .before .args .jobs) ok)
+    ap (λ (l : List Job). outcome l (c .before .before .before .args .n) 0 Opened) (c .refit-front .ensures ∙ opened-is (c .before .before .before .args .n) (c .before .before .before .args .jobs) ok)
+    ∙ sym (open-is (c .before .before .before .args .clock) (c .before .before .before .args .n) (c .before .before .before .args .jobs) ok)
 
 refused-requires : tie.Need-refused-requires
 refused-requires c κs = search needs
 
 returns-2 : tie.Need-returns-2
-unfolding openOf
 returns-2 c =
-    let ok : tableOk (c .before .before .before .args .n) (c .before .before .before .args .jobs) ≡ false = sym (c .before .before .table-ok .ensures) ∙ c .before .if1 .left in
-    rw ok (c .refused .ensures)
+    c .refused .ensures
+    ∙ sym (open-refused (c .before .before .before .args .clock) (c .before .before .before .args .n) (c .before .before .before .args .jobs) (sym (c .before .before .table-ok .ensures) ∙ c .before .if1 .left))
 
 pub open-spec : {M : Type 1} → statement M
 open-spec = tie.close (tie.spec table-ok-requires refit-front-requires returns refused-requires returns-2)
