@@ -2,9 +2,10 @@ use mathlib.Core.Path.{_≡_, sym, ap, _∙_}
 use mathlib.Core.List.{List}
 use mathlib.Core.Bool.{true}
 use native.Mathlib.Omega.{arith}
+use lib.ListN.{take}
 use Rattle.desk.specs.declared.Job.{Job}
 use Rattle.desk.specs.declared.Answer.the-variants.{Opened}
-use Rattle.desk.specs.Table.{outcome, tableOk}
+use Rattle.desk.specs.Table.{filled, outcome, flexes, tableOk}
 use Rattle.desk.proofs.Check.{listed-of, opened-is}
 use Rattle.desk.proofs.Rules.{open-is, open-refused}
 use borrow.Author.Needs.{needs}
@@ -20,9 +21,10 @@ refit-front-requires c κs =
 
 returns : tie.Need-returns
 returns c =
-    let ok : tableOk (c .before .before .before .args .n) (c .before .before .before .args .jobs) ≡ true = sym (c .before .before .table-ok .ensures) ∙ c .before .if1 .taken in
-    ap (λ (l : List Job). outcome l (c .before .before .before .args .n) 0 Opened) (c .refit-front .ensures ∙ opened-is (c .before .before .before .args .n) (c .before .before .before .args .jobs) ok)
-    ∙ sym (open-is (c .before .before .before .args .clock) (c .before .before .before .args .n) (c .before .before .before .args .jobs) ok)
+    let a = c .before .before .before .args in
+    let ok : tableOk (a .n) (a .jobs) ≡ true = sym (c .before .before .table-ok .ensures) ∙ c .before .if1 .taken in
+    let fit : c .refit-front .result ≡ filled (flexes (take (a .n) (a .jobs))) = rw (c .refit-front .ensures) (opened-is (a .n) (a .jobs) ok) in
+    ap (λ (l : List Job). outcome l (a .n) 0 Opened) fit ∙ sym (open-is (a .clock) (a .n) (a .jobs) ok)
 
 refused-requires : tie.Need-refused-requires
 refused-requires c κs = search needs
