@@ -1,0 +1,105 @@
+-- The promise over many requests. Assumes nothing.
+use Prim.Native.Nat.{ℕ, _+_, _-_}
+use mathlib.Core.Path.{_≡_, refl}
+use mathlib.Core.Bool.{true}
+use mathlib.Core.List.{List, [], _∷_, _++_, append-assoc}
+use native.Mathlib.Omega.{arith}
+use lib.ListN.{length, take, drop, replicate}
+use lib.Seq.{take-append-seam}
+use Rattle.desk.specs.declared.Job.{Job}
+use Rattle.desk.specs.declared.Outcome.{Outcome}
+use Rattle.desk.specs.Table.{job, none, filled, flexes, tableOk, openOf}
+use Rattle.desk.specs.Request.{kept, insertAt}
+use Rattle.desk.proofs.Rules.{SoundAfter}
+use Rattle.desk.specs.Story.{Terms, terms, Run, ended, unended, termsOf, termsAt, runs, put, Story, live, ever, Asked, begin, grown, next, many, Promise}
+use Rattle.desk.proofs.Chain.{Chain}
+use Rattle.desk.proofs.Spot.{spot-start, chain-insert, length-insert}
+use Rattle.desk.proofs.Rules.{Good, good-of, good-kept, Way, same, dropped, taken, way, sound-way, open-is, open-sound, open-good}
+use Rattle.desk.proofs.Runs.{Follow, Line, AllBy, line-runs, follow-kept, runs-kept, ended-first, ended-by, by-later, by-join, line-join, follow-insert, follow-open, line-promise}
+
+pub take-filled : (js : List Job) (n : ℕ) → length js ≡ n → take n (filled js) ≡ js
+take-filled js n e = rw (← e) (take-append-seam js (replicate (64 - length js) none))
+
+abbrev pub table : Story → List Job
+table h = take (h .desk .count) (h .desk .jobs)
+
+-- what holds of a story after each call
+pub record Kept (h : Story) : Type 0 where
+  pub sound : SoundAfter (h .desk)
+  pub follow : Follow (h .listed) (table h)
+  pub line : Line 0 (ever h)
+  pub past : AllBy (h .desk .clock) (h .gone)
+
+pub kept-good : (h : Story) → Kept h → Good (h .desk .count) (table h)
+kept-good h k = good-of (h .desk .clock) (h .desk .count) (h .desk .jobs) (k .sound)
+
+-- dropping changes no run
+pub drop-same : (t : ℕ) (gone : List Run) (gs : List Terms) (js : List Job) → Chain 0 js → Follow gs js
+    → (gone ++ ended t (runs gs js)) ++ unended t (runs gs js) ≡ gone ++ runs gs js
+drop-same t gone gs js g f =
+    rw (append-assoc gone (ended t (runs gs js)) (unended t (runs gs js)), ended-first t 0 (runs gs js) (line-runs 0 gs js g f))
+
+module _ (h : Story) (q : Asked) (k : Kept h) where
+  -- any call that goes one of the ways keeps the story's promise
+  pub story-way : (o : Outcome) → Way (h .desk .clock) (h .desk .count) (h .desk .jobs) (q .time) (q .budget) (q .deadline) o → Kept (grown h q o)
+  story-way o (same r a) =
+      rw (a .drop) (record { sound = k .sound; follow = k .follow; line = k .line; past = k .past })
+  story-way o (dropped r a late small) =
+      let t = q .time in
+      let js = kept t (table h) in
+      let good = kept-good h k in
+      let left : take (length js) (filled js) ≡ js = take-filled js (length js) refl in
+      rw (a .drop)
+      (record {
+        sound = sound-way (h .desk .clock) (h .desk .count) (h .desk .jobs) t (q .budget) (q .deadline) (k .sound) o (dropped r a late small);
+        follow = rw left (follow-kept t (h .listed) (table h) (k .follow));
+        line = rw (left, runs-kept t (h .listed) (table h) (k .follow), drop-same t (h .gone) (h .listed) (table h) (good .order) (k .follow)) (k .line);
+        past = by-join t (h .gone) _ (by-later (h .desk .clock) t (h .gone) late (k .past)) (ended-by t (live h));
+      })
+  story-way o (taken i s late small some due few g spot) =
+      let t = q .time in
+      let js = kept t (table h) in
+      let new = job s (q .budget) (q .deadline) 0 in
+      let mark = terms t (q .budget) (q .deadline) in
+      let good = kept-good h k in
+      let right = good-kept t (h .desk .count) (table h) good .right in
+      let left : take (length js + 1) (filled (insertAt i new js)) ≡ insertAt i new js = take-filled (insertAt i new js) (length js + 1) (length-insert i new js) in
+      let follows : Follow (put i mark (termsOf (unended t (live h)))) (insertAt i new js) =
+      follow-insert i mark (termsOf (unended t (live h))) js s (spot-start (q .budget) (q .deadline) t i js s g spot) (follow-kept t (h .listed) (table h) (k .follow)) in
+      let past : AllBy t (h .gone ++ ended t (live h)) =
+      by-join t (h .gone) (ended t (live h)) (by-later (h .desk .clock) t (h .gone) late (k .past)) (ended-by t (live h)) in
+      let before : Line 0 ((h .gone ++ ended t (live h)) ++ unended t (live h)) =
+      rw (drop-same t (h .gone) (h .listed) (table h) (good .order) (k .follow)) (k .line) in
+      record {
+        sound = sound-way (h .desk .clock) (h .desk .count) (h .desk .jobs) t (q .budget) (q .deadline) (k .sound) o (taken i s late small some due few g spot);
+        follow = rw left follows;
+        line = rw left (line-join 0 t (h .gone ++ ended t (live h)) (unended t (live h)) _ (omega arith) before past
+            (line-runs t (put i mark (termsOf (unended t (live h)))) (insertAt i new js) (chain-insert (q .budget) (q .deadline) t i js s some due g right spot) follows));
+        past = past;
+      }
+
+  pub kept-next : Kept (next h q)
+  kept-next = story-way _ (way (h .desk .clock) (h .desk .count) (h .desk .jobs) (q .time) (q .budget) (q .deadline) (k .sound))
+
+pub kept-many : (qs : List Asked) (h : Story) → Kept h → Kept (many qs h)
+kept-many [] h k = k
+kept-many (q ∷ qs) h k = kept-many qs (next h q) (kept-next h q k)
+
+pub kept-begin : (clock n : ℕ) (l : List Job) → tableOk n l ≡ true → Kept (begin clock n l)
+kept-begin clock n l h =
+    let good = open-good clock n l h in
+    let is = open-is clock n l h in
+    let left : take n (filled (flexes (take n l))) ≡ flexes (take n l) = take-filled (flexes (take n l)) n (good .count) in
+    let listed : take (openOf clock n l .count) (openOf clock n l .jobs) ≡ flexes (take n l) = rw is left in
+    record {
+      sound = open-sound clock n l h;
+      follow = rw listed (follow-open (take n l));
+      line = rw listed (line-runs 0 (termsAt (take n l)) (flexes (take n l)) (good .order) (follow-open (take n l)));
+      past = tt;
+    }
+
+-- 4. over any requests after one opening, no job starts before its opening start or its request time, each ends by its
+-- deadline, and no two overlap
+pub promise : (clock n : ℕ) (l : List Job) → tableOk n l ≡ true → (qs : List Asked)
+    → Promise (ever (many qs (begin clock n l)))
+promise clock n l h qs = line-promise 0 _ (kept-many qs (begin clock n l) (kept-begin clock n l h) .line)

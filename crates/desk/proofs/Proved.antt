@@ -1,0 +1,156 @@
+-- Each statement of specs/Theorems.antt, proved. Assumes nothing.
+use Prim.Native.Nat.{ℕ, zero, suc, _+_, _<_}
+use mathlib.Core.Path.{_≡_, refl, sym, ap, _∙_}
+use mathlib.Core.Bool.{Bool, true, false, not}
+use mathlib.Core.List.{List, [], _∷_}
+use native.Mathlib.Omega.{arith}
+use lib.Dec.{leb, ltb}
+use lib.ListN.{length, take, drop, getD}
+use lib.Seq.{getD-take}
+use Rattle.rules.specs.Walk.{pick}
+use Rattle.rules.specs.declared.Refusal.{Refusal}
+use Rattle.rules.specs.declared.Refusal.the-variants.{Rules, Numbers, Past, Busy, Full, NoPlace, TooFar}
+use Rattle.desk.specs.declared.Job.{Job}
+use Rattle.desk.specs.declared.Place.{Place}
+use Rattle.desk.specs.declared.Place.the-variants.{At, Nowhere}
+use Rattle.desk.specs.declared.Answer.the-variants.{Opened, Taken, Refused}
+use Rattle.desk.specs.declared.Outcome.{Outcome}
+use Rattle.desk.specs.Table.{none, filled, outcome, flexes, tableOk, deskOk, openOf}
+use Rattle.desk.specs.Request.{kept, busy, find, tooFar, placed, numbersOk, drops, requestOf}
+use Rattle.desk.specs.Story.{Terms, terms, Run, run, blank, termsAt, runs, Story, begin}
+use Rattle.desk.specs.Theorems.{OpenOne, RequestOne, OpenLeaves, NeverTooFar, Refuses, OpenTells, InEveryStory, Tells, Proved}
+use Rattle.desk.proofs.Rules.{Sound, request-sound, request-numbers, opened-table, open-is, open-sound, open-good, open-sound-unless, sound-unless, afresh}
+use Rattle.desk.proofs.Runs.{Follow}
+use Rattle.desk.proofs.Promise.{take-filled, table, Kept, kept-good, kept-many, kept-begin, promise}
+use Rattle.desk.proofs.Still.{refused-same, taken-joined, still, all-since-opening, still-ever, length-runs}
+
+-- ONE OUTCOME
+
+open-one : OpenOne
+open-one clock n l o p e f = e ∙ sym f
+
+request-one : RequestOne
+request-one clock n l t c d o p e f = e ∙ sym f
+
+-- WHAT A REFUSAL LEAVES
+
+open-leaves : OpenLeaves
+unfolding openOf
+open-leaves clock n l r e = cases (tableOk n l) e where
+  cases : (b : Bool) → pick b (outcome (filled (flexes (take n l))) n 0 Opened) (outcome l n clock (Refused Rules)) .answer ≡ Refused r
+      → pick b (outcome (filled (flexes (take n l))) n 0 Opened) (outcome l n clock (Refused Rules)) ≡ outcome l n clock (Refused Rules)
+  cases true w = absurd (let z : _≡_ {A = ℕ} 0 1 = cc in omega arith)
+  cases false w = refl
+
+module _ (clock n : ℕ) (l : List Job) (t c d : ℕ) where
+  -- a call that leaves what its refusal says, and the time where it takes the job in
+  record Right (o : Outcome) : Type 0 where
+    refused : (r : Refusal) → o .answer ≡ Refused r
+        → o ≡ pick (drops r) (outcome (filled (kept t (take n l))) (length (kept t (take n l))) t (Refused r)) (outcome l n clock (Refused r))
+    taken : (i s : ℕ) → o .answer ≡ Taken i s → o .clock ≡ t
+
+  same-refused : (q r : Refusal) → Refused q ≡ Refused r → q ≡ r
+  same-refused q r e = cc
+
+  stays : (q : Refusal) → drops q ≡ false → Right (outcome l n clock (Refused q))
+  stays q h =
+      record {
+        refused = λ r e. let z = same-refused q r e in rw (← z, h);
+        taken = λ i s e. absurd (let z : _≡_ {A = ℕ} 0 1 = cc in omega arith);
+      }
+
+  drops-all : (q : Refusal) → drops q ≡ true → Right (outcome (filled (kept t (take n l))) (length (kept t (take n l))) t (Refused q))
+  drops-all q h =
+      record {
+        refused = λ r e. let z = same-refused q r e in rw (← z, h);
+        taken = λ i s e. refl;
+      }
+
+  choose : (b : Bool) (o p : Outcome) → Right o → Right p → Right (pick b o p)
+  choose true o p h g = h
+  choose false o p h g = g
+
+  right-placed : (p : Place) → Right (placed clock n l t c d (kept t (take n l)) p)
+  right-placed Nowhere = drops-all NoPlace refl
+  right-placed (At i s) =
+      choose (tooFar (s + c) (drop i (kept t (take n l)))) _ _ (stays TooFar refl)
+      (record { refused = λ r e. absurd (let z : _≡_ {A = ℕ} 0 1 = cc in omega arith); taken = λ k u e. refl })
+
+  right-request : Right (requestOf clock n l t c d)
+  unfolding requestOf
+  right-request =
+      choose (not (deskOk clock n l)) _ _ (stays Rules refl)
+      (choose (not (numbersOk t c d)) _ _ (stays Numbers refl)
+      (choose (ltb t clock) _ _ (stays Past refl)
+      (choose (busy t (kept t (take n l))) _ _ (drops-all Busy refl)
+      (choose (leb 64 (length (kept t (take n l)))) _ _ (drops-all Full refl) (right-placed (find t c d (kept t (take n l))))))))
+
+-- THE STORY
+
+runs-flexes : (js : List Job) → runs (termsAt js) (flexes js) ≡ runs (termsAt js) js
+runs-flexes [] = refl
+runs-flexes (j ∷ js) = ap (λ (rs : List Run). run (terms (j .a) (j .c) (j .d)) (j .a) ∷ rs) (runs-flexes js)
+
+open-tells : OpenTells
+open-tells clock n l e =
+    let ok = opened-table clock n l e in
+    let left : take (openOf clock n l .count) (openOf clock n l .jobs) ≡ flexes (take n l) =
+    rw (open-is clock n l ok) (take-filled (flexes (take n l)) n (open-good clock n l ok .count)) in
+    rw left (runs-flexes (take n l))
+
+kept-story : InEveryStory (λ h. Kept h)
+kept-story clock n l e qs = kept-many qs (begin clock n l) (kept-begin clock n l (opened-table clock n l e))
+
+run-at : (gs : List Terms) (js : List Job) (k : ℕ) → Follow gs js → k < length js
+    → (getD (runs gs js) k blank .start ≡ getD js k none .a)
+    × (getD (runs gs js) k blank .terms .budget ≡ getD js k none .c)
+    × (getD (runs gs js) k blank .terms .deadline ≡ getD js k none .d)
+run-at [] [] k f h = absurd (omega arith)
+run-at [] (j ∷ js) k f h = absurd f
+run-at (g ∷ gs) [] k f h = absurd f
+run-at (g ∷ gs) (j ∷ js) zero f h = (refl, f .0 .budget, f .0 .due)
+run-at (g ∷ gs) (j ∷ js) (suc k) f h = run-at gs js k (f .1) (omega arith)
+
+tells : (h : Story) → Kept h → Tells h
+tells h w =
+    let long = kept-good h w .count in
+    let at : (k : ℕ) → k < h .desk .count → getD (table h) k none ≡ getD (h .desk .jobs) k none =
+    λ k g. getD-take (h .desk .count) (h .desk .jobs) k none g in
+    record {
+      all = length-runs (h .listed) (table h) (w .follow) ∙ long;
+      start = λ k g. run-at (h .listed) (table h) k (w .follow) (omega (arith, long)) .0 ∙ ap (λ (j : Job). j .a) (at k g);
+      budget = λ k g. run-at (h .listed) (table h) k (w .follow) (omega (arith, long)) .1 ∙ ap (λ (j : Job). j .c) (at k g);
+      deadline = λ k g. run-at (h .listed) (table h) k (w .follow) (omega (arith, long)) .2 ∙ ap (λ (j : Job). j .d) (at k g);
+    }
+
+not-rules : (clock n : ℕ) (l : List Job) → Sound clock n l → (t c d : ℕ) → Refuses (requestOf clock n l t c d) Rules → ⊥
+not-rules clock n l s t c d = request-numbers clock n l t c d s .0
+
+never-too-far : NeverTooFar
+never-too-far clock n l t c d e =
+    request-numbers clock n l t c d (sound-unless clock n l t c d (λ f. absurd (omega arith))) .1 e
+
+pub proved : Proved
+proved =
+    record {
+      open-one = open-one;
+      request-one = request-one;
+      open-leaves = open-leaves;
+      request-leaves = λ clock n l t c d. right-request clock n l t c d .refused;
+      taken-sets-clock = λ clock n l t c d. right-request clock n l t c d .taken;
+      open-keeps-rules = λ clock n l e. open-sound clock n l (opened-table clock n l e) .test;
+      request-keeps-rules = λ clock n l t c d h. request-sound clock n l t c d (record { test = h }) .test;
+      not-rules-after-open = λ clock n l h. not-rules _ _ _ (open-sound-unless clock n l h);
+      not-rules-after-request = λ clock n l t c d h. not-rules _ _ _ (request-sound clock n l t c d (sound-unless clock n l t c d h));
+      open-afresh = λ clock n l h. afresh (openOf clock n l) (open-sound-unless clock n l h);
+      request-afresh = λ clock n l t c d h. afresh (requestOf clock n l t c d) (request-sound clock n l t c d (sound-unless clock n l t c d h));
+      never-too-far = never-too-far;
+      open-tells = open-tells;
+      story-tells = λ clock n l e qs. tells _ (kept-story clock n l e qs);
+      keeps-promise = λ clock n l e qs. promise clock n l (opened-table clock n l e) qs;
+      loses-none = λ clock n l e qs. all-since-opening clock n l (opened-table clock n l e) qs;
+      refused-moves-none = λ clock n l e qs q. refused-same _ q (kept-story clock n l e qs);
+      taken-joins = λ clock n l e qs q. taken-joined _ q (kept-story clock n l e qs);
+      started-stays = λ clock n l e qs q. still _ q (kept-story clock n l e qs);
+      started-stays-ever = λ clock n l e qs more. still-ever more _ (kept-story clock n l e qs);
+    }

@@ -1,0 +1,161 @@
+-- What is proved of the desk's rules, each statement below document 01's words. `Proved` has a field for each. Assumes nothing.
+use Prim.Native.Nat.{ℕ, _+_, _<_}
+use mathlib.Core.Path.{_≡_}
+use mathlib.Core.Bool.{Bool, true}
+use mathlib.Core.List.{List}
+use lib.ListN.{length, take, getD}
+use Rattle.rules.specs.Walk.{pick}
+use Rattle.rules.specs.Refusals.{told}
+use Rattle.rules.specs.declared.Refusal.{Refusal}
+use Rattle.rules.specs.declared.Refusal.the-variants.{Rules, TooFar}
+use Rattle.desk.specs.declared.Job.{Job}
+use Rattle.desk.specs.declared.Answer.the-variants.{Opened, Taken, Refused}
+use Rattle.desk.specs.declared.Outcome.{Outcome}
+use Rattle.desk.specs.Table.{none, filled, outcome, said, flexes, deskOk, openOf}
+use Rattle.desk.specs.Request.{kept, drops, requestOf}
+use Rattle.desk.specs.Story.{run, terms, termsAt, runs, blank, Story, live, ever, Asked, begin, reply, next, many, Promise, Joined, Fixed, takens}
+
+-- ONE OUTCOME: "The team shows that any two outcomes it permits are equal"
+
+abbrev pub OpenOne : Type 0
+OpenOne = (clock n : ℕ) (l : List Job) (o p : Outcome) → o ≡ openOf clock n l → p ≡ openOf clock n l → o ≡ p
+
+abbrev pub RequestOne : Type 0
+RequestOne =
+    (clock n : ℕ) (l : List Job) (t c d : ℕ) (o p : Outcome)
+    → o ≡ requestOf clock n l t c d → p ≡ requestOf clock n l t c d → o ≡ p
+
+-- WHAT A REFUSAL LEAVES
+
+-- opening's refusal is 13, and "13, 14, 15 and 19 change nothing at the desk"
+abbrev pub OpenLeaves : Type 0
+OpenLeaves =
+    (clock n : ℕ) (l : List Job) (r : Refusal) → openOf clock n l .answer ≡ Refused r
+    → openOf clock n l ≡ outcome l n clock (Refused Rules)
+
+-- "13, 14, 15 and 19 change nothing at the desk. 16, 17, 18 set the clock to t and drop finished jobs .. nothing else changes."
+abbrev pub RequestLeaves : Type 0
+RequestLeaves =
+    (clock n : ℕ) (l : List Job) (t c d : ℕ) (r : Refusal) → requestOf clock n l t c d .answer ≡ Refused r
+    → requestOf clock n l t c d
+    ≡ pick (drops r) (outcome (filled (kept t (take n l))) (length (kept t (take n l))) t (Refused r)) (outcome l n clock (Refused r))
+
+-- "A job taken in sets the clock too."
+abbrev pub TakenSetsClock : Type 0
+TakenSetsClock =
+    (clock n : ℕ) (l : List Job) (t c d i s : ℕ) → requestOf clock n l t c d .answer ≡ Taken i s → requestOf clock n l t c d .clock ≡ t
+
+-- a call's answer is this refusal, by the paper's number
+abbrev pub Refuses : Outcome → Refusal → Type 0
+Refuses o r = said (o .answer) .number ≡ told r .number
+
+-- THE TABLE RULES SURVIVE: 13 is for a "job table, clock or count" that "breaks the rules", and no call makes one such
+
+abbrev pub sound : Outcome → Bool
+sound o = deskOk (o .clock) (o .count) (o .jobs)
+
+abbrev pub OpenKeepsRules : Type 0
+OpenKeepsRules = (clock n : ℕ) (l : List Job) → openOf clock n l .answer ≡ Opened → sound (openOf clock n l) ≡ true
+
+abbrev pub RequestKeepsRules : Type 0
+RequestKeepsRules =
+    (clock n : ℕ) (l : List Job) (t c d : ℕ) → deskOk clock n l ≡ true → sound (requestOf clock n l t c d) ≡ true
+
+-- a request on what a call left, where that call did not answer 13, does not answer 13
+abbrev pub NotRulesAfter : Outcome → Type 0
+NotRulesAfter o =
+    (Refuses o Rules → ⊥) → (t c d : ℕ) → Refuses (requestOf (o .clock) (o .count) (o .jobs) t c d) Rules → ⊥
+
+abbrev pub NotRulesAfterOpen : Type 0
+NotRulesAfterOpen = (clock n : ℕ) (l : List Job) → NotRulesAfter (openOf clock n l)
+
+abbrev pub NotRulesAfterRequest : Type 0
+NotRulesAfterRequest = (clock n : ℕ) (l : List Job) (t c d : ℕ) → NotRulesAfter (requestOf clock n l t c d)
+
+-- AFRESH: after every call that does not refuse the table, each x is the rule's own, worked out from nothing
+
+abbrev pub Afresh : Outcome → Type 0
+Afresh o = (Refuses o Rules → ⊥) → flexes (take (o .count) (o .jobs)) ≡ take (o .count) (o .jobs)
+
+abbrev pub OpenAfresh : Type 0
+OpenAfresh = (clock n : ℕ) (l : List Job) → Afresh (openOf clock n l)
+
+abbrev pub RequestAfresh : Type 0
+RequestAfresh = (clock n : ℕ) (l : List Job) (t c d : ℕ) → Afresh (requestOf clock n l t c d)
+
+-- 19: "a move would exceed a job's x" is never so: a table that passes 13 never gives 19, and any other gives 13
+abbrev pub NeverTooFar : Type 0
+NeverTooFar = (clock n : ℕ) (l : List Job) (t c d : ℕ) → Refuses (requestOf clock n l t c d) TooFar → ⊥
+
+-- THE STORY: "Over any requests after one opening, the caller changing nothing lent between them"
+
+-- at opening every listed job stands at the start that was lent
+abbrev pub OpenTells : Type 0
+OpenTells =
+    (clock n : ℕ) (l : List Job) → openOf clock n l .answer ≡ Opened
+    → ever (begin clock n l) ≡ runs (termsAt (take n l)) (take n l)
+
+-- the story of any requests after one opening
+abbrev pub InEveryStory : (Story → Type 0) → Type 0
+InEveryStory P = (clock n : ℕ) (l : List Job) → openOf clock n l .answer ≡ Opened → (qs : List Asked) → P (many qs (begin clock n l))
+
+-- its live runs are the listed jobs, one for one
+pub record Tells (h : Story) : Type 0 where
+  pub all : length (live h) ≡ h .desk .count
+  pub start : (k : ℕ) → k < h .desk .count → getD (live h) k blank .start ≡ getD (h .desk .jobs) k none .a
+  pub budget : (k : ℕ) → k < h .desk .count → getD (live h) k blank .terms .budget ≡ getD (h .desk .jobs) k none .c
+  pub deadline : (k : ℕ) → k < h .desk .count → getD (live h) k blank .terms .deadline ≡ getD (h .desk .jobs) k none .d
+
+abbrev pub StoryTells : Type 0
+StoryTells = InEveryStory (λ h. Tells h)
+
+-- "no job starts before its opening start (a job taken in later: before its request time), no two overlap, each ends by its deadline"
+abbrev pub KeepsPromise : Type 0
+KeepsPromise = InEveryStory (λ h. Promise (ever h))
+
+-- no job is lost: there are those of the opening and one for each request taken
+abbrev pub LosesNone : Type 0
+LosesNone =
+    (clock n : ℕ) (l : List Job) → openOf clock n l .answer ≡ Opened → (qs : List Asked)
+    → length (ever (many qs (begin clock n l))) ≡ n + takens qs (begin clock n l)
+
+-- a refusal moves nothing
+abbrev pub RefusedMovesNone : Type 0
+RefusedMovesNone = InEveryStory (λ h. (q : Asked) (r : Refusal) → reply h q .answer ≡ Refused r → ever (next h q) ≡ ever h)
+
+-- a job taken in stands at the start that was answered, those before it stay, "Later jobs move"
+abbrev pub TakenJoins : Type 0
+TakenJoins =
+    InEveryStory
+    (λ h. (q : Asked) (i s : ℕ) → reply h q .answer ≡ Taken i s
+    → Joined (ever h) (ever (next h q)) (length (next h q .gone) + i) (run (terms (q .time) (q .budget) (q .deadline)) s))
+
+-- nothing that has started by a request's time is moved by it
+abbrev pub StartedStays : Type 0
+StartedStays = InEveryStory (λ h. (q : Asked) → Fixed (q .time) (ever h) (ever (next h q)))
+
+-- nor by any later request, once the clock has passed its start
+abbrev pub StartedStaysEver : Type 0
+StartedStaysEver = InEveryStory (λ h. (qs : List Asked) → Fixed (h .desk .clock) (ever h) (ever (many qs h)))
+
+pub record Proved : Type 0 where
+  pub open-one : OpenOne
+  pub request-one : RequestOne
+  pub open-leaves : OpenLeaves
+  pub request-leaves : RequestLeaves
+  pub taken-sets-clock : TakenSetsClock
+  pub open-keeps-rules : OpenKeepsRules
+  pub request-keeps-rules : RequestKeepsRules
+  pub not-rules-after-open : NotRulesAfterOpen
+  pub not-rules-after-request : NotRulesAfterRequest
+  pub open-afresh : OpenAfresh
+  pub request-afresh : RequestAfresh
+  pub never-too-far : NeverTooFar
+  pub open-tells : OpenTells
+  pub story-tells : StoryTells
+  pub keeps-promise : KeepsPromise
+  pub loses-none : LosesNone
+  pub refused-moves-none : RefusedMovesNone
+  pub taken-joins : TakenJoins
+  pub started-stays : StartedStays
+  pub started-stays-ever : StartedStaysEver
