@@ -3,3 +3,6 @@ pub mod Runs
 pub mod Limits
 pub mod Reader
 pub mod Writer
+pub mod Trip
+pub mod Worked
+pub mod Proved

@@ -57,7 +57,7 @@ within frame p t r e =
       tasks-high = ct .most;
       runs-whole = omega (arith, cr .whole);
       runs-low = cr .least;
-      runs-high = cr .most
+      runs-high = cr .most;
     }
 
 pub placed : (po to ro p t : ℕ) → offsetsRight po to ro p t ≡ true → (po ≡ partsAt) × (to ≡ tasksAt p) × (ro ≡ runsAt p t)

@@ -162,7 +162,7 @@ accepted b f p t r e =
       runs-at = at .2;
       is-nr = refl;
       limits = e3 .0;
-      good = e4 .0
+      good = e4 .0;
     } in
     rw (← e4 .1, ← e4 .2, ← e4 .3, ← e4 .4) all
 

@@ -90,7 +90,7 @@ module _ (n : ℕ) where
         limits = not-false _ (e1 .0);
         good = e2 .0;
         room-left = ltb-false _ _ (e3 .0);
-        is-size = cc
+        is-size = cc;
       }
 
 -- what the writer leaves, from what it answers

@@ -108,7 +108,15 @@ fn put_all(table: &[u16], out: &mut [u8])
 
 // RECORDS
 
-fn good_run(parts: usize, frame: usize, again: bool, last: bool, owner: u16, long: u16, total: usize) -> bool
+fn good_run(
+    parts: usize,
+    frame: usize,
+    again: bool,
+    last: bool,
+    owner: u16,
+    long: u16,
+    total: usize,
+) -> bool
     ensures { λ r. ⌜ r ≡ goodRun parts frame again last owner long total ⌝ }
 {
     if parts < (owner as usize) {
@@ -135,7 +143,12 @@ fn bad_part_in(body: &[u8], limit: usize, k: usize) -> bool
     requires { ⌜ 3 * k + 2 < 2 ^ 64 ⌝ }
     ensures { λ r. ⌜ r ≡ badPart limit (numsOf (now (body .entry))) k ⌝ }
 {
-    !rules::good_share(limit, field(body, 3, k, 0), field(body, 3, k, 1), field(body, 3, k, 2))
+    !rules::good_share(
+        limit,
+        field(body, 3, k, 0),
+        field(body, 3, k, 1),
+        field(body, 3, k, 2),
+    )
 }
 
 fn first_bad_part_in(body: &[u8], limit: usize) -> usize
@@ -156,7 +169,13 @@ fn bad_task_in(body: &[u8], parts: usize, k: usize) -> bool
     requires { ⌜ 4 * k + 3 < 2 ^ 64 ⌝ }
     ensures { λ r. ⌜ r ≡ badTask parts (numsOf (now (body .entry))) k ⌝ }
 {
-    !rules::good_times(parts, field(body, 4, k, 0), field(body, 4, k, 1), field(body, 4, k, 2), field(body, 4, k, 3))
+    !rules::good_times(
+        parts,
+        field(body, 4, k, 0),
+        field(body, 4, k, 1),
+        field(body, 4, k, 2),
+        field(body, 4, k, 3),
+    )
 }
 
 fn first_bad_task_in(body: &[u8], parts: usize) -> usize
@@ -187,7 +206,15 @@ fn bad_run_in(body: &[u8], parts: usize, frame: usize, n: usize, k: usize, total
     requires { ⌜ (2 * k + 1 < 2 ^ 64) × (n ≡ runs (numsOf (now body))) × (total ≡ sum (runLength (numsOf (now body))) (k + 1)) ⌝ }
     ensures { λ r. ⌜ r ≡ badRun parts frame (numsOf (now (body .entry))) k ⌝ }
 {
-    !good_run(parts, frame, repeats_in(body, k), k + 1 == n, field(body, 2, k, 0), field(body, 2, k, 1), total)
+    !good_run(
+        parts,
+        frame,
+        repeats_in(body, k),
+        k + 1 == n,
+        field(body, 2, k, 0),
+        field(body, 2, k, 1),
+        total,
+    )
 }
 
 fn first_bad_run_in(body: &[u8], parts: usize, frame: usize) -> usize
@@ -230,7 +257,15 @@ fn bad_run(table: &[u16], parts: usize, frame: usize, n: usize, k: usize, total:
     requires { ⌜ (2 * k + 1 < 2 ^ 64) × (n ≡ runs (now table)) × (total ≡ sum (runLength (now table)) (k + 1)) ⌝ }
     ensures { λ r. ⌜ r ≡ badRun parts frame (now (table .entry)) k ⌝ }
 {
-    !good_run(parts, frame, repeats(table, k), k + 1 == n, run_field(table, k, 0), run_field(table, k, 1), total)
+    !good_run(
+        parts,
+        frame,
+        repeats(table, k),
+        k + 1 == n,
+        run_field(table, k, 0),
+        run_field(table, k, 1),
+        total,
+    )
 }
 
 fn first_bad_run(table: &[u16], parts: usize, frame: usize) -> usize
@@ -368,10 +403,7 @@ pub fn stretch_of(file: &[u8], which: Body) -> Stretch
                 },
             }
         }
-        Reading::Refused(_) => Stretch {
-            offset: 0,
-            end: 0,
-        },
+        Reading::Refused(_) => Stretch { offset: 0, end: 0 },
     }
 }
 
@@ -394,7 +426,16 @@ fn put_head(frame: usize, p: usize, t: usize, r: usize, out: &mut [u8])
 {
     let tasks = 16 + 2 * p;
     let runs = tasks + 2 * t;
-    let head = [1, frame as u16, 16, (p / 3) as u16, tasks as u16, (t / 4) as u16, runs as u16, (r / 2) as u16];
+    let head = [
+        1,
+        frame as u16,
+        16,
+        (p / 3) as u16,
+        tasks as u16,
+        (t / 4) as u16,
+        runs as u16,
+        (r / 2) as u16,
+    ];
     put_all(&head, out);
 }
 
