@@ -1,5 +1,5 @@
 -- The plan file as the reader knows it: contents, bodies, and the refusals 1 to 8. Assumes nothing.
-use Prim.Native.Nat.{ℕ, _+_, _-_, _*_}
+use Prim.Native.Nat.{ℕ, _+_, _*_}
 use mathlib.Core.List.{List}
 use mathlib.Core.Bool.{Bool, _&&_, not}
 use lib.ListN.{length, getD}
