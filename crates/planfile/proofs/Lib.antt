@@ -1,0 +1,8 @@
+pub mod Bytes
+pub mod Runs
+pub mod Limits
+pub mod Reader
+pub mod Writer
+pub mod Trip
+pub mod Worked
+pub mod Proved

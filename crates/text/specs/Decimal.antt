@@ -1,0 +1,14 @@
+-- "numbers printed in decimal without leading zeros". Assumes nothing.
+use Prim.Native.Nat.{ℕ, zero, suc, _+_, _/_, _%_}
+use mathlib.Core.List.{List, [], _∷_, _++_}
+use lib.Dec.{ltb}
+use Rattle.rules.specs.Walk.{pick}
+
+-- the bytes of at most fuel + 1 digits of n, most significant first: those of n / 10, and then the last
+unfoldable pub digits : ℕ → ℕ → List ℕ
+digits zero n = (48 + n) ∷ []
+digits (suc fuel) n = pick (ltb n 10) ((48 + n) ∷ []) (digits fuel (n / 10) ++ ((48 + n % 10) ∷ []))
+
+-- n has no more than n + 1 digits
+unfoldable pub decimal : ℕ → List ℕ
+decimal n = digits n n

@@ -1,0 +1,4 @@
+pub mod Put
+pub mod Ticks
+pub mod Good
+pub mod Proved

@@ -1,0 +1,60 @@
+//! A request with 63 jobs, all of which move. The desk is lent anew to each call.
+
+use second::desk::{self, Desk, Job};
+use second::Answer;
+
+use crate::timing::line;
+
+extern "C" {
+    fn merkazobi_request(
+        desk: *mut Desk,
+        jobs: *mut Job,
+        places: usize,
+        t: u32,
+        c: u32,
+        d: u32,
+    ) -> Answer;
+}
+
+fn library(desk: &mut Desk, jobs: &mut [Job], [t, c, d]: [u32; 3]) -> Answer {
+    unsafe { merkazobi_request(desk, jobs.as_mut_ptr(), jobs.len(), t, c, d) }
+}
+
+/// Jobs end to end from tick 10 on, each with ten ticks to spare.
+fn end_to_end() -> (Desk, [Job; 64]) {
+    let mut desk = Desk {
+        clock: 0,
+        count: 63,
+    };
+    let mut jobs = [Job::default(); 64];
+    let mut a = 10;
+    for job in &mut jobs[..63] {
+        *job = Job {
+            a,
+            c: 5,
+            d: a + 15,
+            x: 0,
+        };
+        a += 5;
+    }
+    desk::open(&mut desk, &mut jobs);
+    (desk, jobs)
+}
+
+pub fn run() {
+    let opened = end_to_end();
+    let [t, c, d] = [0, 15, 20];
+    line(
+        "desk 63 jobs move",
+        || {
+            let (mut desk, mut jobs) = opened;
+            let answer = library(&mut desk, &mut jobs, [t, c, d]);
+            (answer, desk, jobs)
+        },
+        || {
+            let (mut desk, mut jobs) = opened;
+            let answer = desk::request(&mut desk, &mut jobs, t, c, d);
+            (answer, desk, jobs)
+        },
+    );
+}

@@ -1,0 +1,42 @@
+//! The listing: sixteen partitions, 128 tasks, the longest frame.
+
+use second::inputs::files::{self, Tables};
+use second::inputs::{plans, tables};
+use second::rng::Rng;
+use second::{listing, Answer};
+
+use crate::timing::line;
+
+extern "C" {
+    fn merkazobi_list(file: *const u8, bytes: usize, out: *mut u8, out_bytes: usize) -> Answer;
+}
+
+fn library(file: &[u8], out: &mut [u8]) -> Answer {
+    unsafe { merkazobi_list(file.as_ptr(), file.len(), out.as_mut_ptr(), out.len()) }
+}
+
+fn largest() -> Vec<u8> {
+    let mut rng = Rng::new(1);
+    let parts = tables::sixteen(&mut rng);
+    let short = plans::serving(&mut rng, &parts, 128).unwrap_or_default();
+    let plan = short.repeat(4096 / short.len());
+    let period = |place: u16| 256 + place;
+    let task = |place: u16| [1 + place % 16, 2, period(place), period(place)];
+    let tables = Tables {
+        frame: 4096,
+        runs: files::runs(&plan),
+        tasks: (0..128).flat_map(task).collect(),
+        parts,
+    };
+    tables.bytes()
+}
+
+pub fn run() {
+    let file = largest();
+    let [mut ours, mut theirs] = [vec![0; 8192], vec![0; 8192]];
+    line(
+        "list 16, 128, 4096",
+        || (library(&file, &mut ours), ours.clone()),
+        || (listing::list(&file, &mut theirs), theirs.clone()),
+    );
+}

@@ -1,0 +1,163 @@
+//! The worked examples of document 01.
+
+use crate::answer::Answer;
+use crate::builder::build;
+use crate::desk::{open, request, Desk, Job};
+use crate::file::{read, section, write};
+use crate::limits::JOBS;
+use crate::listing::text;
+use crate::plan::{check, least};
+use crate::verdict::verdict;
+
+const P1_TABLE: [u16; 9] = [4, 1, 4, 8, 3, 8, 8, 1, 100];
+const P1_PLAN: [u16; 8] = [1, 2, 2, 2, 1, 3, 0, 0];
+
+const W1: [u8; 44] = [
+    0, 1, 0, 4, 0, 16, 0, 2, 0, 28, 0, 1, 0, 36, 0, 2, // contents
+    0, 4, 0, 1, 0, 2, 0, 4, 0, 1, 0, 3, // partitions
+    0, 1, 0, 1, 0, 4, 0, 4, // tasks
+    0, 1, 0, 2, 0, 2, 0, 2, // runs
+];
+
+fn built(third: [u16; 2]) -> (Answer, Vec<u16>) {
+    let mut parts = P1_TABLE;
+    parts[7..].copy_from_slice(&third);
+    let mut out = vec![77; 9];
+    let answer = build(&parts, &mut out);
+    (answer, out)
+}
+
+#[test]
+fn p1_p2_p3() {
+    let good = Answer::good([8, 0, 0, 0]);
+    assert_eq!(built([1, 100]), (good, [&P1_PLAN[..], &[77]].concat()));
+    assert_eq!(built([3, 8]), (good, vec![1, 2, 2, 2, 1, 3, 3, 3, 77]));
+    assert_eq!(built([1, 2]), (Answer::refused(11), vec![77; 9]));
+    assert_eq!(check(&P1_PLAN, &P1_TABLE), Answer::good([0; 4]));
+}
+
+#[test]
+fn p4() {
+    let mut out = [77; 6];
+    let answer = build(&[4, 1, 1, 6, 1, 1], &mut out);
+    assert_eq!((answer, out), (Answer::refused(10), [77; 6]));
+}
+
+#[test]
+fn p5() {
+    let answer = check(&[1, 1, 0, 0, 0, 0, 1, 1], &[4, 1, 2]);
+    assert_eq!(answer, Answer::new(9, [1, 1, 1, 2]));
+}
+
+#[test]
+fn s1() {
+    let found = [0, 5, 8, 13, 14].map(|t| least(&P1_PLAN, 2, t));
+    assert_eq!(found, [0, 0, 3, 3, 4]);
+}
+
+#[test]
+fn v1_v2() {
+    let judged = |deadline, place| {
+        let tasks = [2, 2, 8, 16, 2, 2, deadline, 32];
+        verdict(&P1_PLAN, &P1_TABLE, &tasks, place)
+    };
+    assert_eq!(judged(13, 1), Answer::good([8, 0, 0, 0]));
+    assert_eq!(judged(13, 2), Answer::good([0, 0, 0, 0]));
+    assert_eq!(judged(14, 2), Answer::good([14, 0, 0, 0]));
+    assert_eq!(judged(14, 0), Answer::refused_at(7, 0));
+    assert_eq!(judged(14, 3), Answer::refused_at(7, 0));
+}
+
+fn d1() -> (Desk, [Job; JOBS]) {
+    let mut desk = Desk { clock: 9, count: 3 };
+    let mut jobs = [Job::default(); JOBS];
+    for (job, [a, c, d]) in jobs.iter_mut().zip([[10, 3, 20], [15, 5, 24], [30, 2, 40]]) {
+        *job = Job { a, c, d, x: 7 };
+    }
+    assert_eq!(open(&mut desk, &mut jobs), Answer::good([0; 4]));
+    (desk, jobs)
+}
+
+/// The starts and flexibilities of the listed jobs.
+fn shape(desk: &Desk, jobs: &[Job]) -> (Vec<u32>, Vec<u32>) {
+    let listed = &jobs[..desk.count as usize];
+    let starts = listed.iter().map(|job| job.a).collect();
+    (starts, listed.iter().map(|job| job.x).collect())
+}
+
+fn from_d1(t: u32, c: u32, d: u32) -> (Answer, Desk, [Job; JOBS]) {
+    let (mut desk, mut jobs) = d1();
+    let answer = request(&mut desk, &mut jobs, t, c, d);
+    (answer, desk, jobs)
+}
+
+#[test]
+fn d1_d2() {
+    let (desk, jobs) = d1();
+    assert_eq!(desk, Desk { clock: 0, count: 3 });
+    assert_eq!(shape(&desk, &jobs), (vec![10, 15, 30], vec![6, 4, 8]));
+    let (answer, desk, jobs) = from_d1(8, 6, 16);
+    assert_eq!(answer, Answer::good([0, 8, 0, 0]));
+    assert_eq!(desk, Desk { clock: 8, count: 4 });
+    assert_eq!(shape(&desk, &jobs), (vec![8, 14, 17, 30], vec![2, 2, 2, 8]));
+}
+
+#[test]
+fn d3_d4() {
+    let (answer, ..) = from_d1(8, 8, 40);
+    assert_eq!(answer, Answer::good([0, 8, 0, 0]));
+    let (answer, desk, jobs) = from_d1(8, 9, 40);
+    assert_eq!(answer, Answer::good([2, 20, 0, 0]));
+    assert_eq!((desk.count, jobs[2].a, jobs[2].x), (4, 20, 9));
+}
+
+#[test]
+fn d5_d6() {
+    let (answer, desk, jobs) = from_d1(12, 1, 40);
+    assert_eq!(answer, Answer::refused(16));
+    assert_eq!(
+        desk,
+        Desk {
+            clock: 12,
+            count: 3
+        }
+    );
+    assert_eq!(jobs, d1().1);
+    let (answer, desk, jobs) = from_d1(25, 4, 29);
+    assert_eq!(answer, Answer::refused(18));
+    assert_eq!(
+        desk,
+        Desk {
+            clock: 25,
+            count: 1
+        }
+    );
+    assert_eq!(shape(&desk, &jobs), (vec![30], vec![8]));
+    assert_eq!(jobs[1..], [Job::default(); JOBS - 1]);
+}
+
+#[test]
+fn w1() {
+    assert_eq!(read(&W1), Answer::good([4, 2, 1, 2]));
+    let found = [0, 1, 2, 3].map(|which| section(&W1, which));
+    let bodies = [[16, 28], [28, 36], [36, 44], [0, 0]];
+    assert_eq!(
+        found,
+        bodies.map(|[from, to]| Answer::good([from, to, 0, 0]))
+    );
+    let mut out = [77; 45];
+    let parts = [4, 1, 2, 4, 1, 3];
+    let answer = write(4, &parts, &[1, 1, 4, 4], &[1, 2, 2, 2], &mut out);
+    assert_eq!(answer, Answer::good([44, 0, 0, 0]));
+    assert_eq!((&out[..44], out[44]), (&W1[..], 77));
+}
+
+#[test]
+fn w1_listing() {
+    let listing = "frame 4\n\
+                   partition 1 wants 2 in 4 least 2\n\
+                   partition 2 wants 2 in 4 least 2\n\
+                   task 1 partition 1 pass 4\n";
+    assert_eq!(text(&W1), listing);
+    assert_eq!(text(&W1[..15]), "refused 1\n");
+}

@@ -1,0 +1,7 @@
+//! Seeded inputs for the comparisons.
+
+pub mod faults;
+pub mod files;
+pub mod jobs;
+pub mod plans;
+pub mod tables;

@@ -1,0 +1,54 @@
+//! The listing of a plan file.
+
+use crate::answer::Answer;
+use crate::file::{self, PlanFile};
+use crate::plan;
+use crate::verdict;
+
+/// The listing's bytes into `out`; 12 where they do not fit.
+pub fn list(bytes: &[u8], out: &mut [u8]) -> Answer {
+    let text = text(bytes);
+    if out.len() < text.len() {
+        return Answer::refused(12);
+    }
+    out[..text.len()].copy_from_slice(text.as_bytes());
+    Answer::good([text.len() as u64, 0, 0, 0])
+}
+
+/// "Any refusal prints only one line, as `refused 9`, with its number."
+pub fn text(bytes: &[u8]) -> String {
+    match listed(bytes) {
+        Ok(text) => text,
+        Err(refusal) => format!("refused {}\n", refusal.number),
+    }
+}
+
+fn listed(bytes: &[u8]) -> Result<String, Answer> {
+    let file = file::parse(bytes)?;
+    let plan = ticks(&file);
+    plan::serves(&plan, &file.partitions)?;
+    let mut text = format!("frame {}\n", file.frame);
+    for (index, partition) in file.partitions.iter().enumerate() {
+        let p = index + 1;
+        let (wants, m) = (partition.wants(), partition.cycle);
+        let least = plan::least(&plan, p as u16, u32::from(m));
+        text += &format!("partition {p} wants {wants} in {m} least {least}\n");
+    }
+    for (index, task) in file.tasks.iter().enumerate() {
+        let place = index + 1;
+        // "A failing task ends in `fail`."
+        let end = match verdict::passing_point(&plan, &file.tasks, place) {
+            0 => String::from("fail"),
+            point => format!("pass {point}"),
+        };
+        text += &format!("task {place} partition {} {end}\n", task.partition);
+    }
+    Ok(text)
+}
+
+/// The runs as ticks.
+fn ticks(file: &PlanFile) -> Vec<u16> {
+    let runs = file.runs.iter();
+    runs.flat_map(|run| vec![run.owner; run.length as usize])
+        .collect()
+}

@@ -1,0 +1,115 @@
+//! "Plan" and "Least service": what a plan holds, and the checker.
+
+use crate::answer::Answer;
+use crate::records::{self, Partition};
+
+/// The ticks of partition p in the n ticks of the repeated plan from tick s on.
+pub fn held(plan: &[u16], p: u16, s: u32, n: u32) -> u64 {
+    if plan.is_empty() {
+        return 0;
+    }
+    count(plan, p, s as usize % plan.len(), u64::from(n))
+}
+
+/// Counts n ticks from a start inside the frame. "It repeats without end."
+fn count(plan: &[u16], p: u16, start: usize, n: u64) -> u64 {
+    let mut tick = start;
+    let mut held = 0;
+    for _ in 0..n {
+        if plan[tick] == p {
+            held += 1;
+        }
+        tick += 1;
+        if tick == plan.len() {
+            tick = 0;
+        }
+    }
+    held
+}
+
+/// "least(t) is the smallest number of a partition's ticks in any t consecutive ticks of the
+/// repeated plan".
+pub fn least(plan: &[u16], p: u16, t: u32) -> u64 {
+    let starts = 0..plan.len();
+    let counts = starts.map(|start| count(plan, p, start, u64::from(t)));
+    counts.min().unwrap_or(0)
+}
+
+/// least(0), least(1), ... up to `longest`, walking on from each start once.
+pub fn least_up_to(plan: &[u16], p: u16, longest: usize) -> Vec<u64> {
+    if plan.is_empty() {
+        return vec![0; longest + 1];
+    }
+    let mut least: Vec<u64> = (0..=longest as u64).collect();
+    for start in 0..plan.len() {
+        let mut held = 0;
+        let ticks = plan.iter().cycle().skip(start);
+        for (smallest, &owner) in least.iter_mut().skip(1).zip(ticks) {
+            if owner == p {
+                held += 1;
+            }
+            *smallest = held.min(*smallest);
+        }
+    }
+    least
+}
+
+/// The checker: 3, 6, 8, 9.
+pub fn check(plan: &[u16], parts: &[u16]) -> Answer {
+    match checked(plan, parts) {
+        Ok(()) => Answer::good([0; 4]),
+        Err(refusal) => refusal,
+    }
+}
+
+fn checked(plan: &[u16], parts: &[u16]) -> Result<(), Answer> {
+    let partitions = records::partitions(parts)?;
+    records::frame(plan.len() as u64)?;
+    records::partition_rules(&partitions, plan.len())?;
+    records::tick_rules(plan, partitions.len())?;
+    serves(plan, &partitions)
+}
+
+/// "every stretch of m consecutive ticks of the repeated plan, from any start and across the
+/// frame's end too, holds at least q ticks of that partition". "For 9: lowest partition, then
+/// lowest start".
+pub fn serves(plan: &[u16], partitions: &[Partition]) -> Result<(), Answer> {
+    for (index, partition) in partitions.iter().enumerate() {
+        let p = index + 1;
+        let wanted = partition.wants();
+        for start in 0..plan.len() {
+            let held = count(plan, p as u16, start, partition.m() as u64);
+            if held < wanted {
+                return Err(Answer::new(9, [p as u64, start as u64, held, wanted]));
+            }
+        }
+    }
+    Ok(())
+}
+
+#[cfg(test)]
+mod tests {
+    use super::{held, least, least_up_to};
+    use crate::inputs::plans;
+    use crate::rng::Rng;
+
+    #[test]
+    fn walking_on_is_counting_anew() {
+        let mut rng = Rng::new(1);
+        for _ in 0..2000 {
+            let ticks = rng.between(0, 9);
+            let plan = plans::scattered(&mut rng, ticks, 2);
+            let walked = least_up_to(&plan, 1, 30);
+            for (t, &smallest) in walked.iter().enumerate() {
+                assert_eq!(smallest, least(&plan, 1, t as u32), "{plan:?} {t}");
+            }
+        }
+    }
+
+    #[test]
+    fn a_start_may_lie_past_the_frame() {
+        assert_eq!(held(&[1, 0, 0], 1, u32::MAX, 4), 2);
+        assert_eq!(held(&[1, 0, 0], 1, 2, 2), 1);
+        assert_eq!(held(&[], 0, 2, 2), 0);
+    }
+}

@@ -1,0 +1,145 @@
+//! The listing: the library against the second program.
+
+use second::inputs::files::{self, Tables};
+use second::inputs::tables;
+use second::listing;
+use second::rng::Rng;
+use second::trial::Trial;
+
+mod library {
+    use second::Answer;
+
+    extern "C" {
+        fn merkazobi_list(file: *const u8, bytes: usize, out: *mut u8, out_bytes: usize) -> Answer;
+    }
+
+    pub fn list(file: &[u8], out: &mut [u8]) -> Answer {
+        unsafe { merkazobi_list(file.as_ptr(), file.len(), out.as_mut_ptr(), out.len()) }
+    }
+}
+
+const PATTERN: u8 = 0xA5;
+const BEHIND: usize = 8;
+
+fn compare_into(trial: &Trial, file: &[u8], out_bytes: usize) {
+    let mut library = vec![PATTERN; out_bytes + BEHIND];
+    let mut second = library.clone();
+    let answer = library::list(file, &mut library[..out_bytes]);
+    let expected = listing::list(file, &mut second[..out_bytes]);
+    if (answer, &library) != (expected, &second) {
+        let read = |out: &[u8]| String::from_utf8_lossy(out).into_owned();
+        trial.same(
+            (file, out_bytes),
+            (answer, read(&library), &library),
+            (expected, read(&second), &second),
+        );
+    }
+}
+
+/// An output too short, exact or longer; the listing of the second program.
+fn compare(trial: &mut Trial, file: &[u8]) -> String {
+    let text = listing::text(file);
+    let needed = text.len();
+    let out_bytes = match trial.rng.between(0, 7) {
+        0 => needed - 1,
+        1 => trial.rng.between(0, needed),
+        2 | 3 => needed,
+        _ => needed + trial.rng.between(1, 50),
+    };
+    compare_into(trial, file, out_bytes);
+    text
+}
+
+fn some_serving(rng: &mut Rng) -> Tables {
+    let count = rng.pick(&[1, 2, 3, 5]);
+    let longest = rng.between(1, 24);
+    let tasks = rng.pick(&[0, 1, 2, 4, 8]);
+    files::serving(rng, count, longest, tasks)
+}
+
+#[test]
+fn serving() {
+    let mut trial = Trial::new("listing, serving");
+    let [mut pass, mut fail] = [0, 0];
+    for _ in 0..trial.cases(25_000) {
+        let file = some_serving(&mut trial.rng).bytes();
+        let text = compare(&mut trial, &file);
+        pass += text.matches("pass").count();
+        fail += text.matches("fail").count();
+    }
+    assert!(pass > 1000 && fail > 1000, "{pass} {fail}");
+}
+
+#[test]
+fn plans_that_may_not_serve() {
+    let mut trial = Trial::new("listing, plans that may not serve");
+    let mut refused = 0;
+    for _ in 0..trial.cases(20_000) {
+        let mut tables = files::tables(&mut trial.rng, 12);
+        if trial.rng.one_in(2) {
+            let frame = tables.frame as usize;
+            tables = some_serving(&mut trial.rng);
+            let record = trial.rng.between(0, tables.partitions() - 1);
+            let part = tables::partitions(&mut trial.rng, 1, frame);
+            tables.parts[3 * record + 1..][..2].copy_from_slice(&part[1..]);
+        }
+        let text = compare(&mut trial, &tables.bytes());
+        refused += usize::from(text == "refused 9\n");
+    }
+    assert!(refused > 1000, "{refused}");
+}
+
+#[test]
+fn damaged() {
+    let mut trial = Trial::new("listing, damaged");
+    for _ in 0..trial.cases(40_000) {
+        let mut file = some_serving(&mut trial.rng).bytes();
+        for _ in 0..trial.rng.pick(&[1, 1, 2, 3]) {
+            files::damage(&mut trial.rng, &mut file);
+        }
+        compare(&mut trial, &file);
+    }
+}
+
+#[test]
+fn every_length_of_the_output() {
+    let mut trial = Trial::new("listing, every length of the output");
+    for _ in 0..trial.cases(50) {
+        let file = some_serving(&mut trial.rng).bytes();
+        for out_bytes in 0..=listing::text(&file).len() + 3 {
+            compare_into(&trial, &file, out_bytes);
+        }
+        for out_bytes in 0..=12 {
+            compare_into(&trial, &file[..file.len() - 1], out_bytes);
+        }
+    }
+}
+
+/// Sixteen partitions, many tasks, and numbers of up to four digits.
+#[test]
+fn long_listings() {
+    let mut trial = Trial::new("listing, long");
+    for case in 0..trial.cases(20) {
+        let mut tables = some_serving(&mut trial.rng);
+        let partitions = tables.partitions();
+        for _ in 0..trial.rng.between(60, 128 - tables.tasks.len() / 4) {
+            let owner = trial.rng.between(1, partitions) as u16;
+            let period = trial.rng.between(200, 400) as u16;
+            tables.tasks.extend([owner, 1, period, period]);
+        }
+        if case % 5 == 0 {
+            tables = long_frame(&mut trial.rng);
+        }
+        compare(&mut trial, &tables.bytes());
+    }
+}
+
+fn long_frame(rng: &mut Rng) -> Tables {
+    let owned = rng.between(1500, 2500) as u16;
+    Tables {
+        frame: 4096,
+        parts: vec![4096, 1, 3, 4096, 1, 3],
+        tasks: vec![1, rng.between(1, 1400) as u16, 4096, 4096],
+        runs: vec![1, owned, 2, 4096 - owned],
+    }
+}
