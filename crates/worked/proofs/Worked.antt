@@ -1,0 +1,36 @@
+-- Every worked example, by computation. Assumes nothing.
+use mathlib.Core.Path.{_≡_, refl}
+use mathlib.Core.List.{_∷_, []}
+use Rattle.rules.specs.Walk.{only, first, sum, count, smallest, largest, walk, roundUp}
+use Rattle.rules.specs.Table.{wants, countedIn, frameGood, goodShare, goodTimes, badPart, badTask, badTick}
+use Rattle.theory.specs.Plan.{owner, ownsFrom, owned, least}
+use Rattle.theory.specs.Harmonic.{pairs, frame, share, load, sooner, rank, ranked, give, turn, idle, planned, ticks}
+use Rattle.theory.specs.Task.{rival, asked, demand, multiple, point, fits, pointFits, firstPoint}
+use Rattle.service.specs.Check.{shortAt, shortIn, scanOf, planOf, checkOf}
+use Rattle.harmonic.specs.Build.{clash, clashes, unharmonic, buildOf}
+use Rattle.verdict.specs.Verdict.{taskOf, inside, placeOf, verdictOf}
+use Rattle.desk.specs.Table.{openOf}
+use Rattle.desk.specs.Request.{requestOf}
+use Rattle.worked.specs.Document01.{Document01}
+
+pub worked : Document01
+unfolding only first sum count smallest largest walk roundUp wants countedIn frameGood goodShare goodTimes badPart badTask badTick owner ownsFrom owned least pairs frame share load sooner rank ranked give turn idle planned ticks rival asked demand multiple point fits pointFits firstPoint shortAt shortIn scanOf planOf checkOf clash clashes unharmonic buildOf taskOf inside placeOf verdictOf openOf requestOf
+worked = record {
+  p1-wants = (refl, refl, refl);
+  p1 = (refl, refl);
+  p1-serves = refl;
+  p2 = (refl, refl);
+  p3 = (refl, refl);
+  p4 = refl;
+  p5 = refl;
+  s1 = (refl, refl, refl, refl);
+  v1 = refl;
+  v2 = (refl, refl);
+  d1 = refl;
+  d2 = refl;
+  d3 = refl;
+  d4 = refl;
+  d4-rooms = (refl, refl, refl);
+  d5 = refl;
+  d6 = refl;
+}
