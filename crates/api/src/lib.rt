@@ -1,5 +1,8 @@
 // The one export crate: every entry over plain numbers and slices, for C and Rust. include/merkazobi.h declares it.
 use harmonic::Built;
+use planfile::Body;
+use planfile::Reading;
+use planfile::Written;
 use rules::Told;
 use service::Checked;
 use verdict::Judged;
@@ -10,7 +13,9 @@ ghost use Rattle.theory.specs.Plan.{own, held, least};
 ghost use Rattle.service.specs.Check.{checkOf};
 ghost use Rattle.harmonic.specs.Build.{buildOf, leftOf};
 ghost use Rattle.verdict.specs.Verdict.{verdictOf};
-ghost use Rattle.api.specs.Answers.{toldChecked, toldBuilt, toldJudged};
+ghost use Rattle.planfile.specs.Reader.{readOf, stretchOf};
+ghost use Rattle.planfile.specs.Writer as writer;
+ghost use Rattle.api.specs.Answers.{toldChecked, toldBuilt, toldJudged, toldReading, toldStretch, toldSection, toldWritten};
 
 fn answer(first: usize, second: usize) -> Told
     ensures { λ r. ⌜ r ≡ record { number = 0; first = first; second = second; third = 0; fourth = 0 } ⌝ }
@@ -81,5 +86,67 @@ pub extern "C" fn merkazobi_verdict(
         Judged::Pass(t) => answer(t, 0),
         Judged::Fail => answer(0, 0),
         Judged::Refused(r) => rules::tell(r),
+    }
+}
+
+#[no_mangle]
+pub extern "C" fn merkazobi_read(file: &[u8]) -> Told
+    ensures { λ r. ⌜ r ≡ toldReading (readOf (now (file .entry))) ⌝ }
+{
+    let reading = planfile::read(file);
+    match reading {
+        Reading::Contents {
+            frame,
+            partitions,
+            tasks,
+            runs,
+        } => Told {
+            number: 0,
+            first: frame,
+            second: partitions,
+            third: tasks,
+            fourth: runs,
+        },
+        Reading::Refused(r) => rules::tell(r),
+    }
+}
+
+fn stretch(file: &[u8], which: Body) -> Told
+    ensures { λ r. ⌜ r ≡ toldStretch (stretchOf (readOf (now (file .entry))) which) ⌝ }
+{
+    let s = planfile::stretch_of(file, which);
+    answer(s.offset, s.end)
+}
+
+#[no_mangle]
+pub extern "C" fn merkazobi_section(file: &[u8], which: usize) -> Told
+    ensures { λ r. ⌜ r ≡ toldSection (now (file .entry)) which ⌝ }
+{
+    if which == 0 {
+        return stretch(file, Body::Partitions);
+    }
+    if which == 1 {
+        return stretch(file, Body::Tasks);
+    }
+    if which == 2 {
+        return stretch(file, Body::Runs);
+    }
+    answer(0, 0)
+}
+
+#[no_mangle]
+pub extern "C" fn merkazobi_write(
+    frame: usize,
+    parts: &[u16],
+    tasks: &[u16],
+    runs: &[u16],
+    out: &mut [u8],
+) -> Told
+    ensures { λ r. ⌜ (r ≡ toldWritten (writer.writeOf frame (now (parts .entry)) (now (tasks .entry)) (now (runs .entry)) (length (now (out .entry))))) × (now (out .exit) ≡ writer.leftOf frame (now (parts .entry)) (now (tasks .entry)) (now (runs .entry)) (now (out .entry))) ⌝ }
+{
+    let written = planfile::write(frame, parts, tasks, runs, out);
+    match written {
+        Written::Bytes(n) => answer(n, 0),
+        Written::Refused(r) => rules::tell(r),
     }
 }
