@@ -1,0 +1,4 @@
+pub mod Looked
+pub mod Sought
+pub mod Whole
+pub mod Parts
