@@ -1,9 +1,8 @@
 -- The reading pass against the table's rules: what `lookEnd` says at the end of the pass is 13's own test. Assumes nothing.
-use Prim.Native.Nat.{ℕ, zero, suc, _+_, _-_, _<_, min}
-use mathlib.Core.Path.{_≡_, refl, sym, ap, _∙_}
+use Prim.Native.Nat.{ℕ, zero, suc, _+_, _-_, min}
+use mathlib.Core.Path.{_≡_, refl, ap, _∙_}
 use mathlib.Core.Bool.{Bool, true, false, _&&_, _||_}
 use mathlib.Core.List.{List, [], _∷_}
-use native.Mathlib.Omega.{arith}
 use lib.Dec.{leb, eqb}
 use lib.ListN.{length, take, drop}
 use Rattle.desk.specs.declared.Job.{Job}
@@ -13,7 +12,7 @@ use Rattle.passes.proofs.Tied.{some-more, one-less}
 use Rattle.lent.specs.declared.Desk.{Desk}
 use Rattle.lent.specs.declared.scan.Look.{Look}
 use Rattle.lent.specs.declared.scan.Scan.{Scan}
-use Rattle.lent.specs.Scan.{listedOk, lookStep, lookEnd, seekStep, scanStep, scanned, sizesOk, looking, openingOf, askingOf}
+use Rattle.lent.specs.Scan.{listedOk, lookStep, lookEnd, seekStep, scanStep, scanned, sizesOk, openingOf, askingOf}
 
 -- the pass is two passes at once
 pub scan-both : (s : Scan) (l : List Job) → scanned s l ≡ record { look = fold lookStep (s .look) l; seek = fold seekStep (s .seek) l; desk = s .desk }

@@ -1,12 +1,12 @@
 -- The reading pass against the search: how many are dropped and left, busy, and the place, of the list definitions. Assumes nothing.
-use Prim.Native.Nat.{ℕ, zero, suc, _+_, _-_, _<_, _≤_, min, max}
-use mathlib.Core.Path.{_≡_, refl, sym, ap, _∙_, subst}
+use Prim.Native.Nat.{ℕ, zero, suc, _+_, _<_, _≤_}
+use mathlib.Core.Path.{_≡_, refl, sym, subst}
 use mathlib.Core.Bool.{Bool, true, false, not, _&&_, _||_}
-use mathlib.Core.List.{List, [], _∷_, _++_}
+use mathlib.Core.List.{List, [], _∷_}
 use native.Mathlib.Omega.{arith}
 use lib.Dec.{leb, ltb, eqb}
-use lib.ListN.{length, take, drop}
-use borrow.Author.Tests.{lt-ltb, le-ltb, lt-leb, le-leb, leb-true, leb-false, ne-eqb}
+use lib.ListN.{length, take}
+use borrow.Author.Tests.{lt-ltb, le-ltb, lt-leb, leb-true, leb-false, ne-eqb}
 use Rattle.rules.specs.Walk.{pick}
 use Rattle.desk.specs.declared.Job.{Job}
 use Rattle.lent.specs.declared.scan.Seek.{Seek}
@@ -15,8 +15,7 @@ use Rattle.desk.specs.declared.Place.the-variants.{At, Nowhere}
 use Rattle.desk.specs.Request.{kept, busy, early, room, findFrom}
 use Rattle.desk.proofs.Chain.{Chain}
 use Rattle.passes.specs.Pass.{fold}
-use Rattle.passes.specs.Steps.{sumTo}
-use Rattle.lent.specs.Scan.{seekFound, seekPast, seekStep}
+use Rattle.lent.specs.Scan.{seekStep}
 use Rattle.passes.proofs.Tied.{goneBy, some-more, one-less, sum-is}
 
 module _ (t c d : ℕ) where

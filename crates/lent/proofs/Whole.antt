@@ -1,11 +1,11 @@
 -- The lent calls are the desk's own: answer, record and table are those of `openOf` and of `requestOf`. Assumes nothing.
-use Prim.Native.Nat.{ℕ, zero, suc, _+_, _-_, _<_, _≤_}
-use mathlib.Core.Path.{_≡_, refl, sym, ap, _∙_, subst}
-use mathlib.Core.Bool.{Bool, true, false, not, _&&_}
+use Prim.Native.Nat.{ℕ, zero, suc, _+_, _<_, _≤_}
+use mathlib.Core.Path.{_≡_, refl, sym, _∙_, subst}
+use mathlib.Core.Bool.{Bool, true, false, not}
 use mathlib.Core.List.{List, [], _∷_}
 use native.Mathlib.Omega.{arith}
-use lib.Dec.{leb, ltb, eqb}
-use lib.ListN.{length, take, drop, length-take}
+use lib.Dec.{leb, ltb}
+use lib.ListN.{length, take, drop}
 use borrow.Author.Tests.{leb-false}
 use Rattle.rules.specs.Walk.{pick}
 use Rattle.rules.specs.declared.Refusal.{Refusal}
@@ -15,15 +15,15 @@ use Rattle.desk.specs.declared.Place.{Place}
 use Rattle.desk.specs.declared.Place.the-variants.{At, Nowhere}
 use Rattle.desk.specs.declared.Answer.the-variants.{Opened, Taken, Refused}
 use Rattle.desk.specs.declared.Outcome.{Outcome}
-use Rattle.desk.specs.Facts.{Smalls, SmallJob}
-use Rattle.desk.specs.Table.{places, job, none, filled, flexes, outcome, rightX, tableOk, deskOk, openOf}
+use Rattle.desk.specs.Facts.{Smalls}
+use Rattle.desk.specs.Table.{job, filled, flexes, outcome, rightX, tableOk, deskOk, openOf}
 use Rattle.desk.specs.Request.{kept, busy, early, room, find, findFrom, placed, afterDrop, insertAt, tooFar, numbersOk, requestOf}
-use Rattle.desk.proofs.Check.{ok-small, numbers-small, Listed, listed-of, desk-table, desk-right}
-use Rattle.desk.proofs.Chain.{Fine, Chain, chain-of, chain-ok, chain-kept, right-kept}
+use Rattle.desk.proofs.Check.{ok-small, numbers-small, listed-of, desk-table, desk-right}
+use Rattle.desk.proofs.Chain.{Chain, chain-of, chain-ok, chain-kept, right-kept}
 use Rattle.desk.proofs.Rules.{room-never-far}
 use Rattle.passes.specs.Pass.{fold}
 use Rattle.passes.specs.Steps.{sumTo}
-use Rattle.passes.proofs.Tied.{goneBy, Low, Lows, near-within}
+use Rattle.passes.proofs.Tied.{goneBy, Lows, near-within}
 use Rattle.passes.proofs.Tables.{still-table, open-table, drop-table, take-table}
 use Rattle.lent.specs.declared.Desk.{Desk}
 use Rattle.lent.specs.declared.scan.Look.{Look}
@@ -32,11 +32,11 @@ use Rattle.lent.specs.declared.scan.Scan.{Scan}
 use Rattle.lent.specs.declared.plan.Plan.{Plan}
 use Rattle.lent.specs.declared.plan.Way.{Way}
 use Rattle.lent.specs.declared.plan.Way.the-variants.{Opens, Keeps, Drops, Takes}
-use Rattle.lent.specs.Scan.{lookStep, lookEnd, seekStep, scanned, seeking, openingOf, askingOf}
-use Rattle.lent.specs.Plan.{askedWay, wayOf, openPlan, keepPlan, dropPlan, takePlan, planBy, planOf, applied}
+use Rattle.lent.specs.Scan.{lookStep, seekStep, scanned, seeking, openingOf, askingOf}
+use Rattle.lent.specs.Plan.{wayOf, keepPlan, dropPlan, takePlan, planBy, planOf, applied}
 use Rattle.lent.specs.Lent.{Leaves}
 use Rattle.lent.proofs.Looked.{scan-both, opening-law, asking-law}
-use Rattle.lent.proofs.Sought.{sk, Ends, Sought, sought, busy-law, place-law}
+use Rattle.lent.proofs.Sought.{Ends, Sought, sought, busy-law, place-law}
 
 -- the request's numbers stay as they are
 pick-t : (u v : Bool) (x y z : Seek) → (x .t ≡ z .t) × (x .c ≡ z .c) × (x .d ≡ z .d) → (y .t ≡ z .t) × (y .c ≡ z .c) × (y .d ≡ z .d)

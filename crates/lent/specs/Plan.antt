@@ -1,6 +1,6 @@
 -- What is decided at the end of the reading pass, and what the writing passes then make of the table. Assumes nothing.
-use Prim.Native.Nat.{ℕ, _-_}
-use mathlib.Core.Bool.{Bool, true, false}
+use Prim.Native.Nat.{_-_}
+use mathlib.Core.Bool.{true, false}
 use mathlib.Core.List.{List}
 use lib.Dec.{leb, ltb}
 use Rattle.rules.specs.Walk.{pick}
@@ -12,12 +12,11 @@ use Rattle.desk.specs.Table.{places, job, none}
 use Rattle.desk.specs.Request.{numbersOk}
 use Rattle.passes.specs.Pass.{movedUp}
 use Rattle.passes.specs.Steps.{sumTo, shiftFrom, stillShift, shifted, fitFrom, stillFit, fittedAll}
-use Rattle.lent.specs.declared.Desk.{Desk}
 use Rattle.lent.specs.declared.scan.Scan.{Scan}
 use Rattle.lent.specs.declared.plan.Plan.{Plan}
 use Rattle.lent.specs.declared.plan.Way.{Way}
 use Rattle.lent.specs.declared.plan.Way.the-variants.{Opens, Keeps, Drops, Takes}
-use Rattle.lent.specs.Scan.{lookEnd, scanned}
+use Rattle.lent.specs.Scan.{lookEnd}
 
 -- THE WAY: a request's refusals 14 to 18 in their order, once the table keeps the rules
 abbrev pub askedWay : Scan → Way

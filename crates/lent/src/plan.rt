@@ -71,6 +71,7 @@ pub struct Plan {
     pub fit: Fit,
 }
 
+// A place as a count of places.
 fn wide_place(x: u32) -> usize
     ensures { λ r. ⌜ r ≡ x ⌝ }
 {
@@ -200,30 +201,35 @@ pub fn decide(s: Scan) -> Plan
 
 // THE PARTS OF A PLAN, for the walks
 
+// What the call answers.
 pub fn answer_of(p: Plan) -> Answer
     ensures { λ r. ⌜ r ≡ p .answer ⌝ }
 {
     p.answer
 }
 
+// The record at exit.
 pub fn desk_of(p: Plan) -> Desk
     ensures { λ r. ⌜ r ≡ p .desk ⌝ }
 {
     p.desk
 }
 
+// How many jobs go from the front.
 pub fn drop_of(p: Plan) -> usize
     ensures { λ r. ⌜ r ≡ p .drop ⌝ }
 {
     p.drop
 }
 
+// What the shift pass begins with.
 pub fn shift_of(p: Plan) -> Shift
     ensures { λ r. ⌜ r ≡ p .shift ⌝ }
 {
     p.shift
 }
 
+// What the flexibility pass begins with.
 pub fn fit_of(p: Plan) -> Fit
     ensures { λ r. ⌜ r ≡ p .fit ⌝ }
 {

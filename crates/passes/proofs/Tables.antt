@@ -1,7 +1,7 @@
 -- What the three writing passes make of a whole table: nothing, the jobs left, or the jobs left with a new one among them. Assumes nothing.
-use Prim.Native.Nat.{ℕ, zero, suc, _+_, _-_, _<_, _≤_, min, max}
-use mathlib.Core.Path.{_≡_, refl, sym, ap, _∙_, subst}
-use mathlib.Core.Bool.{Bool, true, false}
+use Prim.Native.Nat.{ℕ, _+_, _-_, _<_, _≤_}
+use mathlib.Core.Path.{_≡_, refl, sym, ap, _∙_}
+use mathlib.Core.Bool.{true, false}
 use mathlib.Core.List.{List, [], _∷_, _++_, append-assoc, append-nil}
 use native.Mathlib.Omega.{arith}
 use lib.ListN.{length, take, drop, replicate, length-append, length-take, length-drop, length-replicate, take-append-drop}
@@ -9,7 +9,7 @@ use lib.Seq.{length-take-le}
 use Rattle.desk.specs.declared.Job.{Job}
 use Rattle.desk.specs.Table.{none, filled, refit, flexes, tableOk}
 use Rattle.desk.specs.Request.{shift, insertAt, kept}
-use Rattle.desk.proofs.Check.{Listed, listed-of, opened-is}
+use Rattle.desk.proofs.Check.{listed-of, opened-is}
 use Rattle.desk.proofs.Chain.{Chain}
 use Rattle.desk.proofs.Walk.{rest-nil}
 use Rattle.desk.proofs.Back.{length-refit}

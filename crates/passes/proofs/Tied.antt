@@ -1,21 +1,21 @@
 -- What the passes make of a table: the drop, shift and flexibility passes against the desk's list definitions. Assumes nothing.
-use Prim.Native.Nat.{ℕ, zero, suc, _+_, _-_, _<_, _≤_, min, max}
+use Prim.Native.Nat.{ℕ, zero, suc, _+_, _-_, _<_, _≤_, max}
 use mathlib.Core.Path.{_≡_, refl, sym, ap, _∙_}
 use mathlib.Core.Bool.{Bool, true, false, true≢false, _||_}
-use mathlib.Core.List.{List, [], _∷_, _++_, append-assoc, append-nil}
+use mathlib.Core.List.{List, [], _∷_, _++_, append-assoc}
 use native.Mathlib.Omega.{arith}
 use native.Mathlib.Nat.{add-zero}
 use lib.Dec.{leb, ltb}
-use lib.ListN.{length, take, drop, replicate, length-append}
-use borrow.Author.Tests.{le-leb, lt-leb, leb-true, leb-false, ltb-false, lt-ltb}
+use lib.ListN.{length, drop, replicate}
+use borrow.Author.Tests.{lt-leb, leb-false, ltb-false, lt-ltb}
 use Rattle.rules.specs.Walk.{pick}
 use Rattle.desk.specs.declared.Job.{Job}
 use Rattle.passes.specs.declared.Shift.{Shift}
 use Rattle.passes.specs.declared.Fit.{Fit}
-use Rattle.desk.specs.Table.{job, none, withX, xOf, refit}
+use Rattle.desk.specs.Table.{none, withX, xOf, refit}
 use Rattle.desk.specs.Request.{moved, shift, tooFar, kept}
 use Rattle.desk.proofs.Chain.{Chain}
-use Rattle.passes.specs.Pass.{fold, forth, foldBack, back, movedUp}
+use Rattle.passes.specs.Pass.{forth, foldBack, back, movedUp}
 use Rattle.passes.specs.Steps.{sumTo, shiftFrom, stillShift, shiftOut, shiftStep, shifted, fitFrom, stillFit, fitted, fitOut, fitStep, fittedAll}
 
 -- THE FLEXIBILITY PASS

@@ -1,7 +1,7 @@
 -- A pass over a list of jobs that threads a state: a fold, a rewriting from the front, one from the back, and a move to the front. Assumes nothing.
-use Prim.Native.Nat.{ℕ, _+_, _-_}
+use Prim.Native.Nat.{ℕ, _-_}
 use mathlib.Core.List.{List, [], _∷_, _++_}
-use lib.ListN.{length, take, drop}
+use lib.ListN.{length, drop}
 use Rattle.desk.specs.declared.Job.{Job}
 
 -- the state after the jobs of l, from the front

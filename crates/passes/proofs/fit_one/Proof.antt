@@ -1,4 +1,3 @@
-use borrow.Author.Tests.{lt-ltb, le-ltb}
 use borrow.Author.Needs.{needs}
 use Rattle.passes.proofs.fit_one.Statement.{statement}
 use Rattle.passes.proofs.fit_one.Tie as tie

@@ -1,4 +1,4 @@
-use borrow.Author.Tests.{le-leb, lt-leb, eq-eqb, ne-eqb}
+use borrow.Author.Tests.{eq-eqb, ne-eqb}
 use Rattle.lent.proofs.scan.sizes_ok.Statement.{statement}
 use Rattle.lent.proofs.scan.sizes_ok.Tie as tie
 
