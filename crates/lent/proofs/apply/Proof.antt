@@ -1,5 +1,5 @@
 -- `lent::apply` meets its contract: a walk of its MIR, by hand. The borrow is opened once; each pass gets the table for a lifetime of its own, and gives it back.
--- Of the functions that it calls the proof knows only their contracts.. Assumes nothing.
+-- Of the functions that it calls the proof knows only their contracts. Assumes nothing.
 use mathlib.Core.Path.{_≡_, refl, sym, _∙_, ap, subst}
 use Prim.Native.Nat.{ℕ}
 use mathlib.Core.List.{[], _∷_, List}

@@ -1,5 +1,5 @@
--- `lent::serve` meets its contract: a walk of its MIR, by hand. The table is lent as `&` to `scan`, for a lifetime that is made for the call, and comes back; `decide` is called on what `scan` returned; then the table goes to `update` at its own lifetime, and is given up.
--- Of `scan`, `decide` and `update` the proof knows only that each meets its contract.
+-- `lent::serve` meets its contract: a walk of its MIR, by hand. The table is lent as `&` to `scan_pass`, for a lifetime that is made for the call, and comes back; `decide` is called on what `scan_pass` returned; then the table goes to `apply` at its own lifetime, and is given up.
+-- Of `scan_pass`, `decide` and `apply` the proof knows only that each meets its contract.
 -- Assumes nothing.
 use mathlib.Core.Path.{_≡_, refl, _∙_, ap, subst}
 use Prim.Native.Nat.{ℕ}
@@ -112,7 +112,7 @@ module _ {M : Type 1} (𝓤 : URA M) (H : Heap 𝓤) (A : Atoms 𝓤) (W : Given
   abbrev Post : Val → SProp 𝓤
   Post = walkOf 𝓤 H A f.ended stayed (f.clauses 𝓤 H A mem run) .post (((κ, tt), (q, tt), tt, a, at), tt)
 
-  -- what `scan` is passed: the table lent for ν, under the name δ
+  -- what `scan_pass` is passed: the table lent for ν, under the name δ
   abbrev to-scan : ℕ → GName → ScanC 𝓤 H A mem run .Ghost
   to-scan ν δ = (((ν ∷ [], tt), (fullShare, tt), tt, (x δ, (s, tt)), at), tt)
 
@@ -134,7 +134,7 @@ module _ {M : Type 1} (𝓤 : URA M) (H : Heap 𝓤) (A : Atoms 𝓤) (W : Given
   said-decide : (r : Scan) (e : Plan) → ent 𝓤 (ensured 𝓤 H A decide.ended (decide.clauses 𝓤 H A mem run) tt (r, tt) tt e) (fact 𝓤 (e ≡ planOf r))
   said-decide r e = exE 𝓤 _ (λ ws. snd∗ 𝓤 (sem 𝓤 H A (lasts decide.ended tt (r, tt) ws)) (fact 𝓤 (e ≡ planOf r)))
 
-  -- what `update` is passed: the table at its own lifetime, share and name
+  -- what `apply` is passed: the table at its own lifetime, share and name
   abbrev to-update : Plan → UpdateC 𝓤 H A mem run .Ghost
   to-update r = (((κ, tt), (q, tt), tt, (x γ, (r, tt)), (sv ∷ [], (pmach r ∷ [], tt))), tt)
 
@@ -177,7 +177,7 @@ module _ {M : Type 1} (𝓤 : URA M) (H : Heap 𝓤) (A : Atoms 𝓤) (W : Given
         lft-new ! tt (λ ν. move ! (1 ∷ []) $
         use1 W (later (some (λ (δ : GName). ‵ (ShrSlice (named 0) (ν ∷ []) J.the-row .own (x δ) (sv ∷ [])) ⊛ ‵ (flent (ν ∷ []) (arr-parts (shares J.the-row) n .part fullShare ys b o))))) (lends-shr-slice 𝓤 H A W J.the-row (named 0) (ν ∷ []) fullShare ys b o room) $ await ! tt $ pick ! (λ δ. split ! $
         move ! (2 ∷ 0 ∷ []) $ use2 W (raw (ScanC 𝓤 H A mem run .pre (to-scan ν δ))) (goes-scan ν δ) $
-        -- [what `scan` asks; the lender's part; the open borrow; obs; auth; true; what s owns; _9 at 7; …]
+        -- [what `scan_pass` asks; the lender's part; the open borrow; obs; auth; true; what s owns; _9 at 7; …]
         calls-at ! fm (ScanC 𝓤 H A mem run) known-scan (to-scan ν δ) (and-then ! (load ! (from ! (stop !)) (look ! 13 refl)) (and-then ! (load ! (from ! (stop !)) (look ! 21 refl)) (no-more !))) (λ w.
         use1 W (later (some (λ (p : Scan). ((‵ (flft (ν ∷ []) fullShare) ⊛ ‵ ftrue) ⊛ ‵ (S.the-row .own p (w ∷ []))) ⊛ raw (ensured 𝓤 H A scan.ended (scan.clauses 𝓤 H A mem run) (ν ∷ [], tt) (x δ, (s, tt)) tt p)))) (id⊢ 𝓤 _) $ await ! tt $ pick ! (λ p.
         split ! $ move ! (1 ∷ []) $ use1 W (raw (fact 𝓤 (p ≡ scanned s ys))) (said ν δ p) $ heard ! (p ≡ scanned s ys) (λ ep. split ! $ move ! (1 ∷ []) $
@@ -192,11 +192,11 @@ module _ {M : Type 1} (𝓤 : URA M) (H : Heap 𝓤) (A : Atoms 𝓤) (W : Given
         split ! $ move ! (1 ∷ []) $ use1 W (raw (fact 𝓤 (r ≡ planOf p))) (said-decide p r) $ heard ! (r ≡ planOf p) (λ er. split ! $ drop ! $
         peeks ! P.the-row (Is P.the-row) (shows 𝓤 H A P.the-row) r (v ∷ []) (λ is.
         land ! (from ! (stop !)) (init ! 17 refl (LL.lawful P.the-type P′.the-laws 𝓤 H A W .typed r _ is .0)) $ rewrite ! 17 (λ (u : Val). ‵ (fat fullShare P′.mir l₄ 0 u)) (toldP r v is) refl $ drop ! $
-        -- the same context: `update`
+        -- the same context: `apply`
         assigns ! (addr ! (from ! (fld ! refl (hop ! (look-in ! 22 (sub ! 0 refl (whole !))) (stop !))))) (from ! (stop !)) (init ! 8 refl (tt, tt)) $
         assigns ! (agg ! (and-then ! (load ! (from ! (stop !)) (look ! 8 refl)) (and-then ! (load ! (from ! (fld ! refl (stop !))) (look-in ! 22 (sub ! 1 refl (whole !)))) (no-more !)))) (from ! (stop !)) (init ! 6 refl (tt, (tt, (record { fits = room .0 }, tt)))) $
         fjoin ! $ pureI ! (at-slice J.the-row (x γ) (sv ∷ [])) (tt, (tt, tt)) (refl, room) $ fjoin ! $ move ! (1 ∷ 2 ∷ []) $ join ! $ use2 W (raw (UpdateC 𝓤 H A mem run .pre (to-update r))) (goes-update r (isP r v is)) $
-        -- [what `update` asks; true; what s owns; _9 at 3; …]
+        -- [what `apply` asks; true; what s owns; _9 at 3; …]
         calls-at ! fm (UpdateC 𝓤 H A mem run) known-update (to-update r) (and-then ! (load ! (from ! (stop !)) (look ! 3 refl)) (and-then ! (load ! (from ! (stop !)) (look ! 13 refl)) (no-more !))) (λ u.
         use1 W (later (some (λ (z : Unit {0}). ((‵ (flft κ q) ⊛ ‵ ftrue) ⊛ ‵ (unit .own z (u ∷ []))) ⊛ raw (ensured 𝓤 H A update.ended (update.clauses 𝓤 H A mem run) (κ, tt) (x γ, (r, tt)) tt z)))) (id⊢ 𝓤 _) $ await ! tt $ pick ! (λ z.
         split ! $ move ! (1 ∷ []) $ use1 W (some (λ (zs : List Job × (Unit {0} × Unit {0})). ‵ (lasts update.ended (κ, tt) (x γ, (r, tt)) zs) ⊛ raw (fact 𝓤 (zs .0 ≡ applied r ys)))) (id⊢ 𝓤 _) $ pick ! (λ zs.

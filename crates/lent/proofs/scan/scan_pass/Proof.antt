@@ -1,5 +1,5 @@
--- `lent::scan` meets its contract: a walk of its MIR, by hand, with a loop. The invariant: i is at most the length, and the state is what the first i jobs make of s.
--- In a turn the slice is looked into for the element, and shut again; of `step` the proof knows only that it meets its contract.
+-- `lent::scan::scan_pass` meets its contract: a walk of its MIR, by hand, with a loop. The invariant: i is at most the length, and the state is what the first i jobs make of s.
+-- In a turn the slice is looked into for the element, and shut again; of `scan_step` the proof knows only that it meets its contract.
 -- Assumes nothing.
 use mathlib.Core.Path.{_≡_, refl, sym, _∙_, ap, subst}
 use Prim.Native.Nat.{ℕ, _<_, _≤_, _^_, _*_, _+_, _-_, zero-le}
