@@ -11,13 +11,19 @@ returns-2 : tie.Need-returns-2
 returns-2 c = rw (le-leb 1 (c .before .before .args .c) (omega arith), lt-leb (c .before .before .args .c) 1000000 (omega arith))
 
 returns-3 : tie.Need-returns-3
-returns-3 c = rw (le-leb 1 (c .before .before .before .args .c) (omega arith), le-leb (c .before .before .before .args .c) 1000000 (omega arith), lt-leb (c .before .before .before .args .d) 1000000 (omega arith))
+returns-3 c =
+    let a = c .before .before .before .args in
+    rw (le-leb 1 (a .c) (omega arith), le-leb (a .c) 1000000 (omega arith), lt-leb (a .d) 1000000 (omega arith))
 
 returns-4 : tie.Need-returns-4
-returns-4 c = rw (le-leb 1 (c .before .before .before .before .args .c) (omega arith), le-leb (c .before .before .before .before .args .c) 1000000 (omega arith), le-leb (c .before .before .before .before .args .d) 1000000 (omega arith), lt-leb (c .before .before .before .before .args .t) 1000000 (omega arith))
+returns-4 c =
+    let a = c .before .before .before .before .args in
+    rw (le-leb 1 (a .c) (omega arith), le-leb (a .c) 1000000 (omega arith), le-leb (a .d) 1000000 (omega arith), lt-leb (a .t) 1000000 (omega arith))
 
 returns-5 : tie.Need-returns-5
-returns-5 c = rw (le-leb 1 (c .before .before .before .before .args .c) (omega arith), le-leb (c .before .before .before .before .args .c) 1000000 (omega arith), le-leb (c .before .before .before .before .args .d) 1000000 (omega arith), le-leb (c .before .before .before .before .args .t) 1000000 (omega arith))
+returns-5 c =
+    let a = c .before .before .before .before .args in
+    rw (le-leb 1 (a .c) (omega arith), le-leb (a .c) 1000000 (omega arith), le-leb (a .d) 1000000 (omega arith), le-leb (a .t) 1000000 (omega arith))
 
 pub numbers-ok-spec : {M : Type 1} → statement M
 numbers-ok-spec = tie.close (tie.spec returns returns-2 returns-3 returns-4 returns-5)

@@ -34,28 +34,32 @@ loop-less : tie.Need-loop-less Inv-loop μ-loop
 loop-less c = search needs
 
 loop-again : tie.Need-loop-again Inv-loop μ-loop
-loop-again c = (
-  omega arith,
-  omega arith,
-  rw (early-one (c .before .before .before .before .before .args .n) (c .before .before .before .before .before .args .t1) (search needs) (c .before .before .before .before .before .args .d) (c .before .before .before .before .loop .i - 1) (c .before .before .before .before .loop .i) (omega arith) (search needs) (c .if1 .taken))
-      (omega arith),
-)
+loop-again c =
+    let a = c .before .before .before .before .before .args in (
+      omega arith,
+      omega arith,
+      rw (early-one (a .n) (a .t1) (search needs) (a .d) (c .before .before .before .before .loop .i - 1) (c .before .before .before .before .loop .i) (omega arith) (search needs) (c .if1 .taken))
+          (omega arith),
+    )
 
 loop-less-2 : tie.Need-loop-less-2 Inv-loop μ-loop
 loop-less-2 c = search needs
 
 loop-again-2 : tie.Need-loop-again-2 Inv-loop μ-loop
-loop-again-2 c = (
-  omega arith,
-  omega arith,
-  rw (early-not (c .before .before .before .before .before .args .n) (c .before .before .before .before .before .args .t1) (search needs) (c .before .before .before .before .before .args .d) (c .before .before .before .before .loop .i - 1) (c .before .before .before .before .loop .i) (omega arith) (search needs) (c .if1 .left))
-      (c .before .before .before .before .loop .inv .2),
-)
+loop-again-2 c =
+    let a = c .before .before .before .before .before .args in
+    let v = c .before .before .before .before .loop in (
+      omega arith,
+      omega arith,
+      rw (early-not (a .n) (a .t1) (search needs) (a .d) (v .i - 1) (v .i) (omega arith) (search needs) (c .if1 .left))
+          (v .inv .2),
+    )
 
 returns : tie.Need-returns Inv-loop μ-loop
 returns c =
+    let a = c .before .before .args in
     let zero-left : c .before .loop .i ≡ 0 = omega arith in
-    (c .before .loop .inv .2 ∙ ap (λ (i : ℕ). early (c .before .before .args .d) (drop i (take (c .before .before .args .n) (c .before .before .args .t1)))) zero-left, omega arith)
+    (c .before .loop .inv .2 ∙ ap (λ (i : ℕ). early (a .d) (drop i (take (a .n) (a .t1)))) zero-left, omega arith)
 
 pub early-jobs-spec : {M : Type 1} → statement M
 early-jobs-spec =

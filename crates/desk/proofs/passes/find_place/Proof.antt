@@ -29,8 +29,10 @@ room-at-requires c κs = omega (arith, c .before .before .before .pre .0 .starts
 
 returns : tie.Need-returns Inv-loop μ-loop
 returns c =
-    let g : c .before .before .before .before .before .args .c ≤ room (c .before .before .before .before .loop .s) (c .before .before .before .before .before .args .d) (getD (c .before .before .before .before .before .args .t1) (c .before .before .before .before .loop .i) none) = omega arith in
-    (sym (c .before .before .before .before .loop .inv .1 ∙ find-here (c .before .before .before .before .before .args .l) (c .before .before .before .before .before .args .t1) (search needs) _ _ _ _ (search needs) g), (search needs, search needs))
+    let a = c .before .before .before .before .before .args in
+    let v = c .before .before .before .before .loop in
+    let g : a .c ≤ room (v .s) (a .d) (getD (a .t1) (v .i) none) = omega arith in
+    (sym (v .inv .1 ∙ find-here (a .l) (a .t1) (search needs) _ _ _ _ (search needs) g), (search needs, search needs))
 
 add-s : tie.Need-add-s Inv-loop μ-loop
 add-s c = omega (arith, c .before .before .before .before .before .before .pre .0 .starts (c .before .before .before .before .before .loop .i) (search needs), c .before .before .before .before .before .before .pre .0 .budgets (c .before .before .before .before .before .loop .i) (search needs))
@@ -43,10 +45,12 @@ loop-less c = search needs
 
 loop-again : tie.Need-loop-again Inv-loop μ-loop
 loop-again c =
-    let g : room (c .before .before .before .before .before .loop .s) (c .before .before .before .before .before .before .args .d) (getD (c .before .before .before .before .before .before .args .t1) (c .before .before .before .before .before .loop .i) none) < c .before .before .before .before .before .before .args .c = omega arith in (
+    let a = c .before .before .before .before .before .before .args in
+    let v = c .before .before .before .before .before .loop in
+    let g : room (v .s) (a .d) (getD (a .t1) (v .i) none) < a .c = omega arith in (
       omega arith,
-      c .before .before .before .before .before .loop .inv .1 ∙ find-on (c .before .before .before .before .before .before .args .l) (c .before .before .before .before .before .before .args .t1) (search needs) _ _ _ _ (search needs) g,
-      omega (arith, c .before .before .before .before .before .before .pre .0 .starts (c .before .before .before .before .before .loop .i) (search needs), c .before .before .before .before .before .before .pre .0 .budgets (c .before .before .before .before .before .loop .i) (search needs)),
+      v .inv .1 ∙ find-on (a .l) (a .t1) (search needs) _ _ _ _ (search needs) g,
+      omega (arith, c .before .before .before .before .before .before .pre .0 .starts (v .i) (search needs), c .before .before .before .before .before .before .pre .0 .budgets (v .i) (search needs)),
     )
 
 returns-2 : tie.Need-returns-2 Inv-loop μ-loop

@@ -49,8 +49,9 @@ array-set-from-out-2 c = search needs
 
 add-e-2 : tie.Need-add-e-2 Inv-loop μ-loop
 add-e-2 c =
-    let ma : c .before .before .moved-to .result .a ≡ max (c .before .before .before .before .before .loop .e) ((getD (c .before .before .before .before .before .before .before .args .t1) (c .before .before .before .before .before .loop .k) none) .a) = ap (λ (j : Job). j .a) (c .before .before .moved-to .ensures) in
-    omega (arith, c .before .before .before .before .before .before .before .pre .0 .few, c .before .before .before .before .before .before .before .pre .0 .starts (c .before .before .before .before .before .loop .k) (search needs), c .before .before .before .before .before .before .before .pre .0 .budgets (c .before .before .before .before .before .loop .k) (search needs))
+    let v = c .before .before .before .before .before .loop in
+    let ma : c .before .before .moved-to .result .a ≡ max (v .e) ((getD (c .before .before .before .before .before .before .before .args .t1) (v .k) none) .a) = ap (λ (j : Job). j .a) (c .before .before .moved-to .ensures) in
+    omega (arith, c .before .before .before .before .before .before .before .pre .0 .few, c .before .before .before .before .before .before .before .pre .0 .starts (v .k) (search needs), c .before .before .before .before .before .before .before .pre .0 .budgets (v .k) (search needs))
 
 add-k : tie.Need-add-k Inv-loop μ-loop
 add-k c = search needs
@@ -60,17 +61,20 @@ loop-less c = search needs
 
 loop-again : tie.Need-loop-again Inv-loop μ-loop
 loop-again c =
-    let ma : c .before .before .moved-to .result .a ≡ max (c .before .before .before .before .before .loop .e) ((getD (c .before .before .before .before .before .before .before .args .t1) (c .before .before .before .before .before .loop .k) none) .a) = ap (λ (j : Job). j .a) (c .before .before .moved-to .ensures) in (
+    let a = c .before .before .before .before .before .before .before .args in
+    let v = c .before .before .before .before .before .loop in
+    let ma : c .before .before .moved-to .result .a ≡ max (v .e) ((getD (a .t1) (v .k) none) .a) = ap (λ (j : Job). j .a) (c .before .before .moved-to .ensures) in (
       omega arith,
       omega arith,
-      omega (arith, c .before .before .before .before .before .before .before .pre .0 .starts (c .before .before .before .before .before .loop .k) (search needs), c .before .before .before .before .before .before .before .pre .0 .budgets (c .before .before .before .before .before .loop .k) (search needs)),
-      rw (c .before .before .moved-to .ensures) (pushed-on (c .before .before .before .before .before .before .before .args .n) (c .before .before .before .before .before .before .before .args .t1) _ _ _ _ (search needs) (c .before .before .before .before .before .loop .inv .3) (search needs)),
+      omega (arith, c .before .before .before .before .before .before .before .pre .0 .starts (v .k) (search needs), c .before .before .before .before .before .before .before .pre .0 .budgets (v .k) (search needs)),
+      rw (c .before .before .moved-to .ensures) (pushed-on (a .n) (a .t1) _ _ _ _ (search needs) (v .inv .3) (search needs)),
     )
 
 returns : tie.Need-returns Inv-loop μ-loop
 returns c =
-    pushed-all (c .before .before .before .args .n) (c .before .before .before .args .t1) _ _ _ _ (search needs) (c .before .loop .inv .3) (omega arith)
-    ∙ placed-in (c .before .before .before .args .p) (c .before .before .before .args .t1) _ _ (c .before .before .before .args .new) (search needs)
+    let a = c .before .before .before .args in
+    pushed-all (a .n) (a .t1) _ _ _ _ (search needs) (c .before .loop .inv .3) (omega arith)
+    ∙ placed-in (a .p) (a .t1) _ _ (a .new) (search needs)
 
 pub put-in-spec : {M : Type 1} → statement M
 put-in-spec =

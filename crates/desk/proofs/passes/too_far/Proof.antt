@@ -33,14 +33,17 @@ less-requires c κs = search needs
 
 returns : tie.Need-returns Inv-loop μ-loop
 returns c =
-    let ma : c .before .before .before .moved-to .result .a ≡ max (c .before .before .before .before .before .before .loop .at) ((getD (c .before .before .before .before .before .before .before .args .t1) (c .before .before .before .before .before .before .loop .k) none) .a) = ap (λ (j : Job). j .a) (c .before .before .before .moved-to .ensures) in
-    let g : (getD (c .before .before .before .before .before .before .before .args .t1) (c .before .before .before .before .before .before .loop .k) none) .x < max (c .before .before .before .before .before .before .loop .at) ((getD (c .before .before .before .before .before .before .before .args .t1) (c .before .before .before .before .before .before .loop .k) none) .a) - (getD (c .before .before .before .before .before .before .before .args .t1) (c .before .before .before .before .before .before .loop .k) none) .a = omega arith in
-    sym (c .before .before .before .before .before .before .loop .inv .2 ∙ far-here (c .before .before .before .before .before .before .before .args .n) (c .before .before .before .before .before .before .before .args .t1) (search needs) _ _ (search needs) g)
+    let a = c .before .before .before .before .before .before .before .args in
+    let v = c .before .before .before .before .before .before .loop in
+    let ma : c .before .before .before .moved-to .result .a ≡ max (v .at) ((getD (a .t1) (v .k) none) .a) = ap (λ (j : Job). j .a) (c .before .before .before .moved-to .ensures) in
+    let g : (getD (a .t1) (v .k) none) .x < max (v .at) ((getD (a .t1) (v .k) none) .a) - (getD (a .t1) (v .k) none) .a = omega arith in
+    sym (v .inv .2 ∙ far-here (a .n) (a .t1) (search needs) _ _ (search needs) g)
 
 add-at : tie.Need-add-at Inv-loop μ-loop
 add-at c =
-    let ma : c .before .before .before .before .before .moved-to .result .a ≡ max (c .before .before .before .before .before .before .before .before .loop .at) ((getD (c .before .before .before .before .before .before .before .before .before .args .t1) (c .before .before .before .before .before .before .before .before .loop .k) none) .a) = ap (λ (j : Job). j .a) (c .before .before .before .before .before .moved-to .ensures) in
-    omega (arith, c .before .before .before .before .before .before .before .before .before .pre .0 .few, c .before .before .before .before .before .before .before .before .before .pre .0 .starts (c .before .before .before .before .before .before .before .before .loop .k) (search needs), c .before .before .before .before .before .before .before .before .before .pre .0 .budgets (c .before .before .before .before .before .before .before .before .loop .k) (search needs))
+    let v = c .before .before .before .before .before .before .before .before .loop in
+    let ma : c .before .before .before .before .before .moved-to .result .a ≡ max (v .at) ((getD (c .before .before .before .before .before .before .before .before .before .args .t1) (v .k) none) .a) = ap (λ (j : Job). j .a) (c .before .before .before .before .before .moved-to .ensures) in
+    omega (arith, c .before .before .before .before .before .before .before .before .before .pre .0 .few, c .before .before .before .before .before .before .before .before .before .pre .0 .starts (v .k) (search needs), c .before .before .before .before .before .before .before .before .before .pre .0 .budgets (v .k) (search needs))
 
 add-k : tie.Need-add-k Inv-loop μ-loop
 add-k c = search needs
@@ -50,11 +53,13 @@ loop-less c = search needs
 
 loop-again : tie.Need-loop-again Inv-loop μ-loop
 loop-again c =
-    let ma : c .before .before .before .before .before .moved-to .result .a ≡ max (c .before .before .before .before .before .before .before .before .loop .at) ((getD (c .before .before .before .before .before .before .before .before .before .args .t1) (c .before .before .before .before .before .before .before .before .loop .k) none) .a) = ap (λ (j : Job). j .a) (c .before .before .before .before .before .moved-to .ensures) in
-    let g : max (c .before .before .before .before .before .before .before .before .loop .at) ((getD (c .before .before .before .before .before .before .before .before .before .args .t1) (c .before .before .before .before .before .before .before .before .loop .k) none) .a) - (getD (c .before .before .before .before .before .before .before .before .before .args .t1) (c .before .before .before .before .before .before .before .before .loop .k) none) .a ≤ (getD (c .before .before .before .before .before .before .before .before .before .args .t1) (c .before .before .before .before .before .before .before .before .loop .k) none) .x = omega arith in (
+    let a = c .before .before .before .before .before .before .before .before .before .args in
+    let v = c .before .before .before .before .before .before .before .before .loop in
+    let ma : c .before .before .before .before .before .moved-to .result .a ≡ max (v .at) ((getD (a .t1) (v .k) none) .a) = ap (λ (j : Job). j .a) (c .before .before .before .before .before .moved-to .ensures) in
+    let g : max (v .at) ((getD (a .t1) (v .k) none) .a) - (getD (a .t1) (v .k) none) .a ≤ (getD (a .t1) (v .k) none) .x = omega arith in (
       omega arith,
-      omega (arith, c .before .before .before .before .before .before .before .before .before .pre .0 .starts (c .before .before .before .before .before .before .before .before .loop .k) (search needs), c .before .before .before .before .before .before .before .before .before .pre .0 .budgets (c .before .before .before .before .before .before .before .before .loop .k) (search needs)),
-      rw ma (c .before .before .before .before .before .before .before .before .loop .inv .2 ∙ far-on (c .before .before .before .before .before .before .before .before .before .args .n) (c .before .before .before .before .before .before .before .before .before .args .t1) (search needs) _ _ (search needs) g),
+      omega (arith, c .before .before .before .before .before .before .before .before .before .pre .0 .starts (v .k) (search needs), c .before .before .before .before .before .before .before .before .before .pre .0 .budgets (v .k) (search needs)),
+      rw ma (v .inv .2 ∙ far-on (a .n) (a .t1) (search needs) _ _ (search needs) g),
     )
 
 returns-2 : tie.Need-returns-2 Inv-loop μ-loop

@@ -48,10 +48,12 @@ loop-less c = search needs
 
 loop-again : tie.Need-loop-again Inv-loop μ-loop
 loop-again c =
-    let ok : jobOk (getD (c .before .before .before .before .before .before .before .before .args .t1) (c .before .before .before .before .before .before .before .loop .i) none) ≡ true = sym (c .before .before .job-ok .ensures) ∙ c .before .if2 .taken in (
+    let a = c .before .before .before .before .before .before .before .before .args in
+    let v = c .before .before .before .before .before .before .before .loop in
+    let ok : jobOk (getD (a .t1) (v .i) none) ≡ true = sym (c .before .before .job-ok .ensures) ∙ c .before .if2 .taken in (
       omega arith,
-      job-ends (getD (c .before .before .before .before .before .before .before .before .args .t1) (c .before .before .before .before .before .before .before .loop .i) none) ok,
-      c .before .before .before .before .before .before .before .loop .inv .2 ∙ ordered-on (c .before .before .before .before .before .before .before .before .args .n) (c .before .before .before .before .before .before .before .before .args .t1) (search needs) _ _ (search needs) (c .before .before .before .if1 .left) ok,
+      job-ends (getD (a .t1) (v .i) none) ok,
+      v .inv .2 ∙ ordered-on (a .n) (a .t1) (search needs) _ _ (search needs) (c .before .before .before .if1 .left) ok,
     )
 
 returns-3 : tie.Need-returns-3 Inv-loop μ-loop

@@ -46,10 +46,16 @@ loop-less : tie.Need-loop-less Inv-loop μ-loop
 loop-less c = search needs
 
 loop-again : tie.Need-loop-again Inv-loop μ-loop
-loop-again c = (omega arith, c .before .before .before .before .before .before .before .loop .inv .1 ∙ right-yes (c .before .before .before .before .before .before .before .before .args .n) (c .before .before .before .before .before .before .before .before .args .t1) (search needs) (c .before .before .before .before .before .before .before .loop .i) (search needs) (c .if2 .taken ∙ c .before .before .x-before .ensures ∙ x-some (c .before .before .before .before .before .before .before .before .args .n) (c .before .before .before .before .before .before .before .before .args .t1) (search needs) (c .before .before .before .before .before .before .before .loop .i) (c .before .before .before .before .if1 .taken)))
+loop-again c =
+    let a = c .before .before .before .before .before .before .before .before .args in
+    let v = c .before .before .before .before .before .before .before .loop in
+    (omega arith, v .inv .1 ∙ right-yes (a .n) (a .t1) (search needs) (v .i) (search needs) (c .if2 .taken ∙ c .before .before .x-before .ensures ∙ x-some (a .n) (a .t1) (search needs) (v .i) (c .before .before .before .before .if1 .taken)))
 
 returns : tie.Need-returns Inv-loop μ-loop
-returns c = sym (c .before .before .before .before .before .before .before .loop .inv .1 ∙ right-no (c .before .before .before .before .before .before .before .before .args .n) (c .before .before .before .before .before .before .before .before .args .t1) (search needs) (c .before .before .before .before .before .before .before .loop .i) (search needs) (λ e. c .if2 .left (e ∙ sym (c .before .before .x-before .ensures ∙ x-some (c .before .before .before .before .before .before .before .before .args .n) (c .before .before .before .before .before .before .before .before .args .t1) (search needs) (c .before .before .before .before .before .before .before .loop .i) (c .before .before .before .before .if1 .taken)))))
+returns c =
+    let a = c .before .before .before .before .before .before .before .before .args in
+    let v = c .before .before .before .before .before .before .before .loop in
+    sym (v .inv .1 ∙ right-no (a .n) (a .t1) (search needs) (v .i) (search needs) (λ e. c .if2 .left (e ∙ sym (c .before .before .x-before .ensures ∙ x-some (a .n) (a .t1) (search needs) (v .i) (c .before .before .before .before .if1 .taken)))))
 
 x-last-requires : tie.Need-x-last-requires Inv-loop μ-loop
 x-last-requires c κs = search needs
@@ -61,10 +67,16 @@ loop-less-2 : tie.Need-loop-less-2 Inv-loop μ-loop
 loop-less-2 c = search needs
 
 loop-again-2 : tie.Need-loop-again-2 Inv-loop μ-loop
-loop-again-2 c = (omega arith, c .before .before .before .before .before .before .loop .inv .1 ∙ right-yes (c .before .before .before .before .before .before .before .args .n) (c .before .before .before .before .before .before .before .args .t1) (search needs) (c .before .before .before .before .before .before .loop .i) (search needs) (c .if3 .taken ∙ c .before .before .x-last .ensures ∙ x-none (c .before .before .before .before .before .before .before .args .n) (c .before .before .before .before .before .before .before .args .t1) (search needs) (c .before .before .before .before .before .before .loop .i) (c .before .before .before .if1 .left)))
+loop-again-2 c =
+    let a = c .before .before .before .before .before .before .before .args in
+    let v = c .before .before .before .before .before .before .loop in
+    (omega arith, v .inv .1 ∙ right-yes (a .n) (a .t1) (search needs) (v .i) (search needs) (c .if3 .taken ∙ c .before .before .x-last .ensures ∙ x-none (a .n) (a .t1) (search needs) (v .i) (c .before .before .before .if1 .left)))
 
 returns-2 : tie.Need-returns-2 Inv-loop μ-loop
-returns-2 c = sym (c .before .before .before .before .before .before .loop .inv .1 ∙ right-no (c .before .before .before .before .before .before .before .args .n) (c .before .before .before .before .before .before .before .args .t1) (search needs) (c .before .before .before .before .before .before .loop .i) (search needs) (λ e. c .if3 .left (e ∙ sym (c .before .before .x-last .ensures ∙ x-none (c .before .before .before .before .before .before .before .args .n) (c .before .before .before .before .before .before .before .args .t1) (search needs) (c .before .before .before .before .before .before .loop .i) (c .before .before .before .if1 .left)))))
+returns-2 c =
+    let a = c .before .before .before .before .before .before .before .args in
+    let v = c .before .before .before .before .before .before .loop in
+    sym (v .inv .1 ∙ right-no (a .n) (a .t1) (search needs) (v .i) (search needs) (λ e. c .if3 .left (e ∙ sym (c .before .before .x-last .ensures ∙ x-none (a .n) (a .t1) (search needs) (v .i) (c .before .before .before .if1 .left)))))
 
 returns-3 : tie.Need-returns-3 Inv-loop μ-loop
 returns-3 c = sym (c .before .loop .inv .1 ∙ ap rightX (rest-nil (c .before .before .args .n) (c .before .loop .i) (c .before .before .args .t1) (c .loop-test .left)))
