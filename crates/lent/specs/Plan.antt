@@ -1,4 +1,5 @@
--- What is decided at the end of the reading pass, and what the writing passes then make of the table. Assumes nothing.
+-- What is decided at the end of the reading pass, and what the writing passes then make of the table.
+-- No entry's contract cites this: laws tie it to the desk's rules. Assumes nothing.
 use Prim.Native.Nat.{_-_}
 use mathlib.Core.Bool.{true, false}
 use mathlib.Core.List.{List}
@@ -28,11 +29,13 @@ askedWay s =
     (pick (s .seek .found) Takes (Drops NoPlace)))))
     (Keeps Numbers)
 
+-- 13 first
 abbrev pub wayOf : Scan → Way
 wayOf s = pick (lookEnd (s .look)) (pick (s .look .opening) Opens (askedWay s)) (Keeps Rules)
 
 -- THE PLAN of each way
 
+-- "works x out and sets the clock to 0"
 abbrev pub openPlan : Scan → Plan
 openPlan s = record {
   answer = Opened;
@@ -42,9 +45,11 @@ openPlan s = record {
   fit = fitFrom (places - s .desk .count) 0;
 }
 
+-- "13, 14, 15 and 19 change nothing at the desk"
 abbrev pub keepPlan : Refusal → Scan → Plan
 keepPlan why s = record { answer = Refused why; desk = s .desk; drop = 0; shift = stillShift; fit = stillFit }
 
+-- "16, 17, 18 set the clock to t and drop finished jobs"
 abbrev pub dropPlan : Refusal → Scan → Plan
 dropPlan why s = record {
   answer = Refused why;
@@ -54,6 +59,7 @@ dropPlan why s = record {
   fit = stillFit;
 }
 
+-- "A job taken in sets the clock too."
 abbrev pub takePlan : Scan → Plan
 takePlan s = record {
   answer = Taken (s .seek .place) (s .seek .start);

@@ -22,10 +22,6 @@ pub take-none : (l : List Job) → take 0 l ≡ []
 take-none [] = refl
 take-none (j ∷ l) = refl
 
-pub drop-none : (l : List Job) → drop 0 l ≡ l
-drop-none [] = refl
-drop-none (j ∷ l) = refl
-
 module _ {S : Type 0} (step : S → Job → S) where
   pub fold-snoc : (s : S) (l : List Job) (j : Job) → fold step s (l ++ (j ∷ [])) ≡ step (fold step s l) j
   unfolding fold

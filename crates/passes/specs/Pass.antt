@@ -1,4 +1,5 @@
--- A pass over a list of jobs that threads a state: a fold, a rewriting from the front, one from the back, and a move to the front. Assumes nothing.
+-- A pass over a list of jobs that threads a state: a fold, a rewriting from the front, one from the back, and a move to the front.
+-- No entry's contract cites this: laws tie it to the desk's rules. Assumes nothing.
 use Prim.Native.Nat.{ℕ, _-_}
 use mathlib.Core.List.{List, [], _∷_, _++_}
 use lib.ListN.{length, drop}
