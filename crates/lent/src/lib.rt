@@ -23,8 +23,8 @@ use scan::asking;
 use scan::opening;
 use scan::scan_pass;
 
-pub mod plan; // plan.rt: what is decided, and what it makes of the record and of the table
-pub mod scan; // scan.rt: the one reading pass
+mod plan; // plan.rt: what is decided, and what it makes of the record and of the table
+mod scan; // scan.rt: the one reading pass
 
 // What the caller keeps beside the table.
 #[repr(C)]
@@ -34,7 +34,7 @@ pub struct Desk {
 }
 
 // The three writing passes, one after the other.
-pub fn apply(jobs: &mut [Job], p: Plan)
+fn apply(jobs: &mut [Job], p: Plan)
     ensures { λ _. ⌜ now (jobs .exit) ≡ applied p (now (jobs .entry)) ⌝ }
 {
     let k = drop_of(p);
@@ -46,7 +46,7 @@ pub fn apply(jobs: &mut [Job], p: Plan)
 }
 
 // One reading pass, what is decided by it, and the writing passes.
-pub fn serve(jobs: &mut [Job], s: Scan) -> Plan
+fn serve(jobs: &mut [Job], s: Scan) -> Plan
     ensures { λ r. ⌜ (r ≡ planOf (scanned s (now (jobs .entry)))) × (now (jobs .exit) ≡ applied r (now (jobs .entry))) ⌝ }
 {
     let l = scan_pass(&*jobs, s);

@@ -76,7 +76,7 @@ pub fn still_shift() -> Shift
 }
 
 // What is put down where j stood.
-pub fn shift_out(s: Shift, j: Job) -> Job
+fn shift_out(s: Shift, j: Job) -> Job
     ensures { λ r. ⌜ r ≡ shiftOut s j ⌝ }
 {
     if s.still {
@@ -96,7 +96,7 @@ pub fn shift_out(s: Shift, j: Job) -> Job
 }
 
 // How far the pass is after j.
-pub fn shift_step(s: Shift, j: Job) -> Shift
+fn shift_step(s: Shift, j: Job) -> Shift
     ensures { λ r. ⌜ r ≡ shiftStep s j ⌝ }
 {
     let mut r = s;
@@ -163,7 +163,7 @@ pub fn still_fit() -> Fit
 }
 
 // j with its flexibility worked out from the job behind it.
-pub fn fit_one(s: Fit, j: Job) -> Job
+fn fit_one(s: Fit, j: Job) -> Job
     ensures { λ r. ⌜ r ≡ fitted s j ⌝ }
 {
     if s.has {
@@ -184,7 +184,7 @@ pub fn fit_one(s: Fit, j: Job) -> Job
 }
 
 // What is put down where j stood.
-pub fn fit_out(s: Fit, j: Job) -> Job
+fn fit_out(s: Fit, j: Job) -> Job
     ensures { λ r. ⌜ r ≡ fitOut s j ⌝ }
 {
     if s.still {
@@ -200,7 +200,7 @@ pub fn fit_out(s: Fit, j: Job) -> Job
 }
 
 // How far the pass is after j.
-pub fn fit_step(s: Fit, j: Job) -> Fit
+fn fit_step(s: Fit, j: Job) -> Fit
     ensures { λ r. ⌜ r ≡ fitStep s j ⌝ }
 {
     let mut r = s;
