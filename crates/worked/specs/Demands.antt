@@ -66,15 +66,15 @@ pub record Demand1 : Type 0 where
 -- DEMAND 2: "Ticks, plan, verdict, file and desk are exactly those of document 01's rules. Read-after-write gives the tables, write-after-read the bytes;
 -- after every call that tests the job table and doesn't refuse it, flexibilities are those worked out afresh." The entries' contracts and the records below.
 pub record Demand2 : Type 0 where
-  pub rules : theory.Proved
-  pub checker : service.Proved
-  pub builder : harmonic.Proved
-  pub verdicts : verdict.Proved
-  pub files : planfile.Proved
-  pub runs : ticks.Proved
-  pub listings : listing.Proved
-  pub desk : desk.Proved
-  pub lent : lent.Proved
+  pub of-rules : theory.Proved
+  pub of-checker : service.Proved
+  pub of-builder : harmonic.Proved
+  pub of-verdicts : verdict.Proved
+  pub of-files : planfile.Proved
+  pub of-runs : ticks.Proved
+  pub of-listings : listing.Proved
+  pub of-desk : desk.Proved
+  pub of-lent-desk : lent.Proved
   pub read-write : planfile.ReadWrite
   pub write-read : planfile.WriteRead
   pub open-afresh : desk.OpenAfresh
