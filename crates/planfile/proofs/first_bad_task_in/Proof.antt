@@ -1,10 +1,9 @@
-use mathlib.Core.Path.{_≡_, sym, _∙_}
-use Prim.Native.Nat.{_≤_, _-_, _*_, _/_}
-use lib.ListN.{length}
+use mathlib.Core.Path.{_≡_, sym}
+use Prim.Native.Nat.{_≤_, _-_}
 use native.Mathlib.Omega.{arith}
 use Rattle.rules.specs.Walk.{first}
 use Rattle.rules.proofs.First.{first-zero, first-more, first-found, first-done}
-use Rattle.rules.specs.Table.{badTask, tasks}
+use Rattle.rules.specs.Table.{badTask}
 use Rattle.planfile.specs.Bytes.{numsOf}
 use Rattle.planfile.proofs.Bytes.{numsOf-length}
 use borrow.Author.Needs.{needs}
