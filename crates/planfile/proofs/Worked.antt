@@ -2,7 +2,7 @@
 use Prim.Native.Nat.{ℕ}
 use mathlib.Core.Path.{_≡_, refl}
 use mathlib.Core.List.{List, [], _∷_}
-use lib.ListN.{length, set, take}
+use lib.ListN.{set, take}
 use Rattle.rules.specs.Walk.{first, sum}
 use Rattle.rules.specs.Table.{countedIn, frameGood, goodShare, goodTimes, badPart, badTask}
 use Rattle.rules.specs.declared.Refusal.the-variants.{Short, Edition, Limits, Offset, Length, Partition, Task, Tick, Output}
