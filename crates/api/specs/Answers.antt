@@ -1,5 +1,6 @@
 -- What each entry's answer is told as: number 0 and what was asked for, or the refusal's number and values. Assumes nothing.
 use Prim.Native.Nat.{ℕ}
+use mathlib.Core.Path.{_≡_}
 use mathlib.Core.List.{List}
 use lib.Dec.{eqb}
 use Rattle.rules.specs.Walk.{pick}
@@ -18,6 +19,11 @@ use Rattle.planfile.specs.declared.Written.the-variants as written
 use Rattle.planfile.specs.declared.Stretch.{Stretch}
 use Rattle.planfile.specs.declared.Body.the-variants.{Partitions, Tasks, Runs}
 use Rattle.planfile.specs.Reader.{readOf, stretchOf}
+use Rattle.desk.specs.declared.Job.{Job}
+use Rattle.desk.specs.declared.Outcome.{Outcome}
+use Rattle.desk.specs.Table.{said}
+use Rattle.lent.specs.declared.Desk.{Desk}
+use Rattle.lent.specs.Lent.{deskOf}
 
 abbrev pub toldChecked : Checked → Told
 toldChecked checked.Serves = numbered 0
@@ -53,3 +59,7 @@ toldSection b which =
 abbrev pub toldWritten : Written → Told
 toldWritten (written.Bytes n) = placed 0 n
 toldWritten (written.Refused r) = told r
+
+-- the desk's: what is told is the outcome's answer; record and table at exit are the outcome's
+abbrev pub Tells : Outcome → Told → Desk → List Job → Type 0
+Tells o r k l = (r ≡ said (o .answer)) × (k ≡ deskOf o) × (l ≡ o .jobs)

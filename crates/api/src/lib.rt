@@ -1,5 +1,8 @@
 // The one export crate: every entry over plain numbers and slices, for C and Rust. include/merkazobi.h declares it.
+use desk::Answer;
+use desk::Job;
 use harmonic::Built;
+use lent::Desk;
 use planfile::Body;
 use planfile::Reading;
 use planfile::Written;
@@ -15,7 +18,9 @@ ghost use Rattle.harmonic.specs.Build.{buildOf, leftOf};
 ghost use Rattle.verdict.specs.Verdict.{verdictOf};
 ghost use Rattle.planfile.specs.Reader.{readOf, stretchOf};
 ghost use Rattle.planfile.specs.Writer as writer;
-ghost use Rattle.api.specs.Answers.{toldChecked, toldBuilt, toldJudged, toldReading, toldStretch, toldSection, toldWritten};
+ghost use Rattle.desk.specs.Table.{said, openOf};
+ghost use Rattle.desk.specs.Request.{requestOf};
+ghost use Rattle.api.specs.Answers.{toldChecked, toldBuilt, toldJudged, toldReading, toldStretch, toldSection, toldWritten, Tells};
 
 fn answer(first: usize, second: usize) -> Told
     ensures { λ r. ⌜ r ≡ record { number = 0; first = first; second = second; third = 0; fourth = 0 } ⌝ }
@@ -149,4 +154,36 @@ pub extern "C" fn merkazobi_write(
         Written::Bytes(n) => answer(n, 0),
         Written::Refused(r) => rules::tell(r),
     }
+}
+
+fn tell_desk(answered: Answer) -> Told
+    ensures { λ r. ⌜ r ≡ said answered ⌝ }
+{
+    match answered {
+        Answer::Opened => answer(0, 0),
+        Answer::Taken(place, start) => answer(place, start as usize),
+        Answer::Refused(r) => rules::tell(r),
+    }
+}
+
+#[no_mangle]
+pub extern "C" fn merkazobi_open(desk: &mut Desk, jobs: &mut [Job]) -> Told
+    ensures { λ r. ⌜ Tells (openOf (now (desk .entry) .clock) (now (desk .entry) .count) (now (jobs .entry))) r (now (desk .exit)) (now (jobs .exit)) ⌝ }
+{
+    let answered = lent::open(desk, jobs);
+    tell_desk(answered)
+}
+
+#[no_mangle]
+pub extern "C" fn merkazobi_request(
+    desk: &mut Desk,
+    jobs: &mut [Job],
+    t: u32,
+    c: u32,
+    d: u32,
+) -> Told
+    ensures { λ r. ⌜ Tells (requestOf (now (desk .entry) .clock) (now (desk .entry) .count) (now (jobs .entry)) t c d) r (now (desk .exit)) (now (jobs .exit)) ⌝ }
+{
+    let answered = lent::request(desk, jobs, t, c, d);
+    tell_desk(answered)
 }
