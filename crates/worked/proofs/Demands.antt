@@ -1,6 +1,6 @@
 -- The three demands, joined from the crates' records. Assumes nothing.
 use Prim.Native.Nat.{ℕ, _+_, _-_, _*_}
-use mathlib.Core.Path.{_≡_, refl}
+use mathlib.Core.Path.{refl}
 use mathlib.Core.Bool.{Bool, true, false, not, _&&_}
 use mathlib.Core.List.{List, [], _∷_}
 use lib.Dec.{eqb, leb, ltb}
@@ -64,7 +64,7 @@ build-told true false false false false k h = refl
 
 verdict-told : (a b c d e f g : Bool) (k j t p s h w u : ℕ)
     → Numbered (3 ∷ 6 ∷ 7 ∷ 8 ∷ 9 ∷ []) (toldJudged (pick a (pick b (judged.Refused (Partition k)) (pick c (judged.Refused (Task j)) (pick d
-        (after (pick e (checked.Refused (Tick t)) (pick f (checked.Refused (Shortfall p s h w)) checked.Serves)) (pick g (judged.Pass u) judged.Fail)) (judged.Refused (Task 0))))) (judged.Refused Limits)))
+    (after (pick e (checked.Refused (Tick t)) (pick f (checked.Refused (Shortfall p s h w)) checked.Serves)) (pick g (judged.Pass u) judged.Fail)) (judged.Refused (Task 0))))) (judged.Refused Limits)))
 verdict-told false b c d e f g k j t p s h w u = refl
 verdict-told true true c d e f g k j t p s h w u = refl
 verdict-told true false true d e f g k j t p s h w u = refl
@@ -76,7 +76,7 @@ verdict-told true false false true false false false k j t p s h w u = refl
 
 read-told : (a b c d e f g h : Bool) (k j r x np nt nr : ℕ)
     → Numbered (1 ∷ 2 ∷ 3 ∷ 4 ∷ 5 ∷ 6 ∷ 7 ∷ 8 ∷ []) (toldReading (pick a (reading.Refused Short) (pick b (reading.Refused Edition) (pick c (reading.Refused Limits) (pick d (reading.Refused Offset) (pick e (reading.Refused Length)
-        (pick f (reading.Refused (Partition k)) (pick g (reading.Refused (Task j)) (pick h (reading.Refused (Tick r)) (reading.Contents x np nt nr))))))))))
+    (pick f (reading.Refused (Partition k)) (pick g (reading.Refused (Task j)) (pick h (reading.Refused (Tick r)) (reading.Contents x np nt nr))))))))))
 read-told true b c d e f g h k j r x np nt nr = refl
 read-told false true c d e f g h k j r x np nt nr = refl
 read-told false false true d e f g h k j r x np nt nr = refl

@@ -1,6 +1,5 @@
 -- Every worked example, by computation. Assumes nothing.
-use mathlib.Core.Path.{_≡_, refl}
-use mathlib.Core.List.{_∷_, []}
+use mathlib.Core.Path.{refl}
 use Rattle.rules.specs.Walk.{only, first, sum, count, smallest, largest, walk, roundUp}
 use Rattle.rules.specs.Table.{wants, countedIn, frameGood, goodShare, goodTimes, badPart, badTask, badTick}
 use Rattle.theory.specs.Plan.{owner, ownsFrom, owned, least}
