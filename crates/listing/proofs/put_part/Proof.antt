@@ -1,3 +1,4 @@
+use Rattle.listing.specs.Listing.{partLine}
 use borrow.Author.Needs.{needs}
 use Rattle.listing.proofs.put_part.Statement.{statement}
 use Rattle.listing.proofs.put_part.Tie as tie
@@ -40,7 +41,8 @@ same-length : tie.Need-same-length
 same-length c = search needs
 
 returns : tie.Need-returns
-returns c = ?
+unfolding partLine
+returns c = (rw (← c .before .before .before .before .wanted .ensures, ← c .before .before .before .before .before .before .before .cycle .ensures, ← c .before .before .before .before .before .before .least .ensures, ← c .before .before .before .wide .ensures) (c .before .before .put-partition .ensures .0), search needs)
 
 pub put-part-spec : {M : Type 1} → statement M
 put-part-spec =

@@ -1,3 +1,4 @@
+use Rattle.listing.specs.Listing.{refusal}
 use borrow.Author.Needs.{needs}
 use Rattle.listing.proofs.put_refusal.Statement.{statement}
 use Rattle.listing.proofs.put_refusal.Tie as tie
@@ -16,7 +17,8 @@ same-length : tie.Need-same-length
 same-length c = search needs
 
 returns : tie.Need-returns
-returns c = ?
+unfolding refusal
+returns c = (rw (c .before .before .before .before .tell .ensures) at (c .before .before .put-refused .ensures .0), search needs)
 
 pub put-refusal-spec : {M : Type 1} → statement M
 put-refusal-spec = tie.close (tie.spec tell-requires put-refused-requires same-length returns)

@@ -1,3 +1,5 @@
+use Rattle.ticks.proofs.Put.{put-none}
+use Rattle.listing.specs.Listing.{taskLine}
 use borrow.Author.Needs.{needs}
 use Rattle.listing.proofs.put_task.Statement.{statement}
 use Rattle.listing.proofs.put_task.Tie as tie
@@ -43,16 +45,19 @@ same-length : tie.Need-same-length
 same-length c = search needs
 
 returns : tie.Need-returns
-returns c = ?
+unfolding taskLine
+returns c = (rw (← c .before .before .before .before .before .before .before .task .ensures, c .before .before .before .before .before .judged .given .1, ← c .before .before .before .before .before .before .before .before .before .partition .ensures, ← c .before .before .before .before .before .before .before .before .wide .ensures) (c .before .before .put-pass .ensures .0), search needs)
 
 same-length-2 : tie.Need-same-length-2
 same-length-2 c = search needs
 
 returns-2 : tie.Need-returns-2
-returns-2 c = ?
+unfolding taskLine
+returns-2 c = (rw (← c .before .before .before .before .before .before .task .ensures, c .before .before .before .before .enum-told .given .1, ← c .before .before .before .before .before .before .before .before .partition .ensures, ← c .before .before .before .before .before .before .before .wide .ensures) (c .before .before .put-fail .ensures .0), search needs)
 
 returns-3 : tie.Need-returns-3
-returns-3 c = ?
+unfolding taskLine
+returns-3 c = (rw (← c .before .before .task .ensures, c .enum-told2 .given .1) (put-none _ _), search needs)
 
 pub put-task-spec : {M : Type 1} → statement M
 put-task-spec =
