@@ -1,6 +1,7 @@
+use native.Mathlib.Omega.{arith}
 use mathlib.Core.Path.{_≡_, sym}
 use Prim.Native.Nat.{_≤_, _*_}
-use lib.ListN.{length}
+use lib.ListN.{length, replicate}
 use lib.Seq.{length-take-le}
 use Rattle.listing.proofs.Tables.{limits, parts-loaded, tasks-loaded, ticks-put, tables-listed}
 use borrow.Author.Needs.{needs}
@@ -65,13 +66,13 @@ slice-aggregate-put-checked-3 : tie.Need-slice-aggregate-put-checked-3
 slice-aggregate-put-checked-3 c = let w = limits _ _ _ _ _ (c .before .before .before .before .before .before .before .before .before .before .before .before .before .before .before .before .before .pre) in let h : 4 * c .before .before .before .before .before .before .before .before .before .before .before .before .before .before .before .before .before .args .nt ≤ length (c .before .before .before .before .load2 .last .1 .0) = search needs in sym (length-take-le (4 * c .before .before .before .before .before .before .before .before .before .before .before .before .before .before .before .before .before .args .nt) (c .before .before .before .before .load2 .last .1 .0) h)
 
 put-checked-requires : tie.Need-put-checked-requires
-put-checked-requires c κs = search needs
+put-checked-requires c κs = let w = limits _ _ _ _ _ (c .before .before .before .before .before .before .before .before .before .before .before .before .before .before .before .before .before .before .pre) in let hlp : 3 * c .before .before .before .before .before .before .before .before .before .before .before .before .before .before .before .before .before .before .args .np ≤ length (c .before .before .before .before .before .before .before .before .before .load .last .1 .0) = search needs in let lp = length-take-le (3 * c .before .before .before .before .before .before .before .before .before .before .before .before .before .before .before .before .before .before .args .np) (c .before .before .before .before .before .before .before .before .before .load .last .1 .0) hlp in let hlt : 4 * c .before .before .before .before .before .before .before .before .before .before .before .before .before .before .before .before .before .before .args .nt ≤ length (c .before .before .before .before .before .load2 .last .1 .0) = search needs in let lt = length-take-le (4 * c .before .before .before .before .before .before .before .before .before .before .before .before .before .before .before .before .before .before .args .nt) (c .before .before .before .before .before .load2 .last .1 .0) hlt in (omega arith, omega arith)
 
 same-length : tie.Need-same-length
 same-length c = search needs
 
 returns : tie.Need-returns
-returns c = ?
+returns c = let w = limits _ _ _ _ _ (c .before .before .before .before .before .before .before .before .before .before .before .before .before .before .before .before .before .before .before .before .before .pre) in (rw (← tables-listed (c .before .before .before .before .before .before .before .before .before .before .before .before .before .before .before .before .before .before .before .before .before .args .file .now) (c .before .before .before .before .before .before .before .before .before .before .before .before .before .before .before .before .before .before .before .before .before .args .frame) (c .before .before .before .before .before .before .before .before .before .before .before .before .before .before .before .before .before .before .before .before .before .args .np) (c .before .before .before .before .before .before .before .before .before .before .before .before .before .before .before .before .before .before .before .before .before .args .nt) (c .before .before .before .before .before .before .before .before .before .before .before .before .before .before .before .before .before .before .before .before .before .args .nr) (c .before .before .before .before .before .before .before .before .before .before .before .before .before .before .before .before .before .before .before .before .before .pre), ← ticks-put (c .before .before .before .before .before .before .before .before .before .before .before .before .before .before .before .before .before .before .before .before .before .args .file .now) (c .before .before .before .before .before .before .before .before .before .before .before .before .before .before .before .before .before .before .before .before .before .args .frame) (c .before .before .before .before .before .before .before .before .before .before .before .before .before .before .before .before .before .before .before .before .before .args .np) (c .before .before .before .before .before .before .before .before .before .before .before .before .before .before .before .before .before .before .before .before .before .args .nt) (c .before .before .before .before .before .before .before .before .before .before .before .before .before .before .before .before .before .before .before .before .before .args .nr) (c .before .before .before .before .before .before .before .before .before .before .before .before .before .before .before .before .before .before .before .before .before .pre) _ (replicate 4096 0) _ _ (c .before .before .before .before .before .before .before .before .before .before .before .before .before .before .before .before .before .before .section .ensures) (search needs) (c .before .before .before .before .before .before .before .before .before .before .before .before .before .before .before .before .ticks-of .ensures), ← parts-loaded (c .before .before .before .before .before .before .before .before .before .before .before .before .before .before .before .before .before .before .before .before .before .args .file .now) (c .before .before .before .before .before .before .before .before .before .before .before .before .before .before .before .before .before .before .before .before .before .args .frame) (c .before .before .before .before .before .before .before .before .before .before .before .before .before .before .before .before .before .before .before .before .before .args .np) (c .before .before .before .before .before .before .before .before .before .before .before .before .before .before .before .before .before .before .before .before .before .args .nt) (c .before .before .before .before .before .before .before .before .before .before .before .before .before .before .before .before .before .before .before .before .before .args .nr) (c .before .before .before .before .before .before .before .before .before .before .before .before .before .before .before .before .before .before .before .before .before .pre) _ (replicate 48 0) _ (c .before .before .before .before .before .before .before .before .before .before .before .before .before .before .section2 .ensures) (search needs) (c .before .before .before .before .before .before .before .before .before .before .before .before .load .ensures), ← tasks-loaded (c .before .before .before .before .before .before .before .before .before .before .before .before .before .before .before .before .before .before .before .before .before .args .file .now) (c .before .before .before .before .before .before .before .before .before .before .before .before .before .before .before .before .before .before .before .before .before .args .frame) (c .before .before .before .before .before .before .before .before .before .before .before .before .before .before .before .before .before .before .before .before .before .args .np) (c .before .before .before .before .before .before .before .before .before .before .before .before .before .before .before .before .before .before .before .before .before .args .nt) (c .before .before .before .before .before .before .before .before .before .before .before .before .before .before .before .before .before .before .before .before .before .args .nr) (c .before .before .before .before .before .before .before .before .before .before .before .before .before .before .before .before .before .before .before .before .before .pre) _ (replicate 512 0) _ (c .before .before .before .before .before .before .before .before .before .before .section3 .ensures) (search needs) (c .before .before .before .before .before .before .before .before .load2 .ensures)) (c .before .before .put-checked .ensures .0), search needs)
 
 pub put-tables-spec : {M : Type 1} → statement M
 put-tables-spec =
