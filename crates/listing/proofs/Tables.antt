@@ -5,7 +5,9 @@ use mathlib.Core.List.{List, _++_}
 use native.Mathlib.Omega.{arith}
 use lib.ListN.{length, take, drop}
 use lib.Seq.{take-at, take-all}
-use borrow.Author.Tests.{lt-ltb, le-ltb}
+use lib.Dec.{ltb}
+use borrow.Author.Tests.{lt-ltb, le-ltb, ltb-false}
+use Rattle.rules.proofs.Tests.{pick-second}
 use Rattle.rules.specs.declared.Refusal.the-variants.{Output}
 use Rattle.planfile.specs.declared.Reading.the-variants.{Contents}
 use Rattle.planfile.specs.declared.Body.{Body}
@@ -72,3 +74,11 @@ module _ (b page0 page out : List ℕ) (n : ℕ) (p : Put page0 0 (listingOf b) 
       let w : Put out 0 (listingOf b) r o = rw t at q in
       let z : o ≡ listingOf b ++ drop n out = rw long at (put-front w (omega (arith, long))) in
       rw (long, le-ltb (length out) n ho) (refl, z)
+
+-- a text is handed over where it fits
+pub text-fits : (b : List ℕ) (room n : ℕ) → listOf b room ≡ Text n → n ≤ room
+unfolding listOf
+text-fits b room n e =
+    let a = pick-second (ltb room (length (listingOf b))) (Refused Output) (Text (length (listingOf b))) (Text n) (λ q. let z : _≡_ {A = ℕ} 0 1 = cc in absurd (omega arith)) e in
+    let l : length (listingOf b) ≡ n = cc (a .1) in
+    omega (arith, ltb-false room (length (listingOf b)) (a .0), l)

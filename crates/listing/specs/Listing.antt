@@ -66,6 +66,10 @@ readLines (reading.Refused r) b = refusal r
 unfoldable pub listingOf : List ℕ → List ℕ
 listingOf b = readLines (readOf b) b
 
+-- no listing of bytes is longer: 1 + 16 + 128 lines of at most 128 bytes
+abbrev pub longestText : ℕ
+longestText = 18560
+
 -- "output shorter than needed", for an output of room bytes, or the text's length
 unfoldable pub listOf : List ℕ → ℕ → Listed
 listOf b room = pick (ltb room (length (listingOf b))) (Refused Output) (Text (length (listingOf b)))

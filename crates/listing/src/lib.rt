@@ -10,7 +10,7 @@ ghost use lib.ListN.{length};
 ghost use Rattle.rules.specs.Table.{partitions, tasks};
 ghost use Rattle.planfile.specs.Reader.{readOf};
 ghost use Rattle.ticks.specs.Put.{Put};
-ghost use Rattle.listing.specs.Listing.{lines, partLine, taskLine, pageOf, tablesLines, refusal, listingOf, listOf, leftOf};
+ghost use Rattle.listing.specs.Listing.{lines, partLine, taskLine, pageOf, tablesLines, refusal, longestText, listingOf, listOf, leftOf};
 
 pub enum Listed {
     Text(usize),
@@ -79,7 +79,7 @@ fn put_tasks(plan: &[u16], table: &[u16], out: &mut [u8], start: usize) -> usize
 // The listing of a plan that serves: at most 1 + 16 + 128 lines.
 fn put_page(frame: usize, plan: &[u16], parts: &[u16], table: &[u16], out: &mut [u8]) -> usize
     requires { ⌜ (partitions (now parts) ≤ 16) × (tasks (now table) ≤ 128) ⌝ }
-    ensures { λ r. ⌜ Put (now (out .entry)) 0 (pageOf frame (now (plan .entry)) (now (parts .entry)) (now (table .entry))) r (now (out .exit)) × (r ≤ 18560) ⌝ }
+    ensures { λ r. ⌜ Put (now (out .entry)) 0 (pageOf frame (now (plan .entry)) (now (parts .entry)) (now (table .entry))) r (now (out .exit)) × (r ≤ longestText) ⌝ }
 {
     let a = text::put_frame(out, 0, frame);
     let b = put_parts(plan, parts, out, a);
@@ -87,7 +87,7 @@ fn put_page(frame: usize, plan: &[u16], parts: &[u16], table: &[u16], out: &mut 
 }
 
 fn put_refusal(r: Refusal, out: &mut [u8]) -> usize
-    ensures { λ n. ⌜ Put (now (out .entry)) 0 (refusal r) n (now (out .exit)) × (n ≤ 18560) ⌝ }
+    ensures { λ n. ⌜ Put (now (out .entry)) 0 (refusal r) n (now (out .exit)) × (n ≤ longestText) ⌝ }
 {
     let told = rules::tell(r);
     text::put_refused(out, 0, told.number)
@@ -96,7 +96,7 @@ fn put_refusal(r: Refusal, out: &mut [u8]) -> usize
 // The plan is checked once for all its tasks.
 fn put_checked(frame: usize, plan: &[u16], parts: &[u16], table: &[u16], out: &mut [u8]) -> usize
     requires { ⌜ (partitions (now parts) ≤ 16) × (tasks (now table) ≤ 128) ⌝ }
-    ensures { λ r. ⌜ Put (now (out .entry)) 0 (tablesLines frame (now (plan .entry)) (now (parts .entry)) (now (table .entry))) r (now (out .exit)) × (r ≤ 18560) ⌝ }
+    ensures { λ r. ⌜ Put (now (out .entry)) 0 (tablesLines frame (now (plan .entry)) (now (parts .entry)) (now (table .entry))) r (now (out .exit)) × (r ≤ longestText) ⌝ }
 {
     let checked = service::check(plan, parts);
     match checked {
@@ -108,7 +108,7 @@ fn put_checked(frame: usize, plan: &[u16], parts: &[u16], table: &[u16], out: &m
 // The tables of an accepted file, and its ticks.
 fn put_tables(file: &[u8], frame: usize, np: usize, nt: usize, nr: usize, out: &mut [u8]) -> usize
     requires { ⌜ readOf (now file) ≡ Reading.Contents frame np nt nr ⌝ }
-    ensures { λ r. ⌜ Put (now (out .entry)) 0 (listingOf (now (file .entry))) r (now (out .exit)) × (r ≤ 18560) ⌝ }
+    ensures { λ r. ⌜ Put (now (out .entry)) 0 (listingOf (now (file .entry))) r (now (out .exit)) × (r ≤ longestText) ⌝ }
 {
     let mut plan = [0u16; 4096];
     let mut parts = [0u16; 48];
@@ -122,7 +122,7 @@ fn put_tables(file: &[u8], frame: usize, np: usize, nt: usize, nr: usize, out: &
 }
 
 fn compose(file: &[u8], out: &mut [u8]) -> usize
-    ensures { λ r. ⌜ Put (now (out .entry)) 0 (listingOf (now (file .entry))) r (now (out .exit)) × (r ≤ 18560) ⌝ }
+    ensures { λ r. ⌜ Put (now (out .entry)) 0 (listingOf (now (file .entry))) r (now (out .exit)) × (r ≤ longestText) ⌝ }
 {
     let c = planfile::read(file);
     match c {
@@ -136,9 +136,9 @@ fn compose(file: &[u8], out: &mut [u8]) -> usize
     }
 }
 
-// The listing of a file's bytes, at the start of the output.
+// The listing of a file's bytes, at the start of the output. An output of 18,560 bytes is long enough for any.
 pub fn listing(file: &[u8], out: &mut [u8]) -> Listed
-    ensures { λ r. ⌜ (r ≡ listOf (now (file .entry)) (length (now (out .entry)))) × (now (out .exit) ≡ leftOf (now (file .entry)) (now (out .entry))) ⌝ }
+    ensures { λ r. ⌜ (r ≡ listOf (now (file .entry)) (length (now (out .entry)))) × (now (out .exit) ≡ leftOf (now (file .entry)) (now (out .entry))) × (length (listingOf (now (file .entry))) ≤ longestText) ⌝ }
 {
     let mut page = [0u8; 18560];
     let n = compose(file, &mut page);
