@@ -38,7 +38,7 @@ fn put_decimal(out: &mut [u8], at: usize, n: usize) -> usize
     put_byte(out, next, digit(n % 10))
 }
 
-fn put_text(out: &mut [u8], at: usize, text: &[u8]) -> usize
+pub fn put_text(out: &mut [u8], at: usize, text: &[u8]) -> usize
     requires { ⌜ (at < 2 ^ 60) × (length (now text) < 2 ^ 32) ⌝ }
     ensures { λ r. ⌜ Put (now (out .entry)) at (now (text .entry)) r (now (out .exit)) ⌝ }
 {

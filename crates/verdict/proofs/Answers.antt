@@ -69,7 +69,7 @@ module _ (plan ps ts : List ℕ) (place : ℕ) where
       pick-second (ltb (firstBadPart (length plan) ps) (partitions ps)) _ _ checked.Serves (λ q. let z : _≡_ {A = ℕ} 0 1 = cc in absurd (omega arith)) (a .1) .1
 
   -- and from there the task's own answer is given
-  answer : Answered plan ps ts place → verdictOf plan ps ts place ≡ taskOf plan ts (place - 1)
+  pub answer : Answered plan ps ts place → verdictOf plan ps ts place ≡ taskOf plan ts (place - 1)
   unfolding verdictOf placeOf inside badPart badTask
   answer a =
       let g = check-serves plan ps .0 (a .accepted) .0 in
