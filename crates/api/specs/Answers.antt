@@ -17,6 +17,8 @@ use Rattle.planfile.specs.declared.Reading.the-variants as reading
 use Rattle.planfile.specs.declared.Written.{Written}
 use Rattle.planfile.specs.declared.Written.the-variants as written
 use Rattle.planfile.specs.declared.Stretch.{Stretch}
+use Rattle.listing.specs.declared.Listed.{Listed}
+use Rattle.listing.specs.declared.Listed.the-variants as listed
 use Rattle.planfile.specs.declared.Body.the-variants.{Partitions, Tasks, Runs}
 use Rattle.planfile.specs.Reader.{readOf, stretchOf}
 use Rattle.desk.specs.declared.Job.{Job}
@@ -63,3 +65,8 @@ toldWritten (written.Refused r) = told r
 -- the desk's: what is told is the outcome's answer; record and table at exit are the outcome's
 abbrev pub Tells : Outcome → Told → Desk → List Job → Type 0
 Tells o r k l = (r ≡ said (o .answer)) × (k ≡ deskOf o) × (l ≡ o .jobs)
+
+-- the text's length
+abbrev pub toldListed : Listed → Told
+toldListed (listed.Text n) = placed 0 n
+toldListed (listed.Refused r) = told r

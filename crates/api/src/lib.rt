@@ -3,6 +3,7 @@ use desk::Answer;
 use desk::Job;
 use harmonic::Built;
 use lent::Desk;
+use listing::Listed;
 use planfile::Body;
 use planfile::Reading;
 use planfile::Written;
@@ -18,9 +19,10 @@ ghost use Rattle.harmonic.specs.Build.{buildOf, leftOf};
 ghost use Rattle.verdict.specs.Verdict.{verdictOf};
 ghost use Rattle.planfile.specs.Reader.{readOf, stretchOf};
 ghost use Rattle.planfile.specs.Writer as writer;
+ghost use Rattle.listing.specs.Listing as lister;
 ghost use Rattle.desk.specs.Table.{said, openOf};
 ghost use Rattle.desk.specs.Request.{requestOf};
-ghost use Rattle.api.specs.Answers.{toldChecked, toldBuilt, toldJudged, toldReading, toldStretch, toldSection, toldWritten, Tells};
+ghost use Rattle.api.specs.Answers.{toldChecked, toldBuilt, toldJudged, toldReading, toldStretch, toldSection, toldWritten, toldListed, Tells};
 
 fn answer(first: usize, second: usize) -> Told
     ensures { λ r. ⌜ r ≡ record { number = 0; first = first; second = second; third = 0; fourth = 0 } ⌝ }
@@ -153,6 +155,17 @@ pub extern "C" fn merkazobi_write(
     match written {
         Written::Bytes(n) => answer(n, 0),
         Written::Refused(r) => rules::tell(r),
+    }
+}
+
+#[no_mangle]
+pub extern "C" fn merkazobi_list(file: &[u8], out: &mut [u8]) -> Told
+    ensures { λ r. ⌜ (r ≡ toldListed (lister.listOf (now (file .entry)) (length (now (out .entry))))) × (now (out .exit) ≡ lister.leftOf (now (file .entry)) (now (out .entry))) ⌝ }
+{
+    let listed = listing::listing(file, out);
+    match listed {
+        Listed::Text(n) => answer(n, 0),
+        Listed::Refused(r) => rules::tell(r),
     }
 }
 
