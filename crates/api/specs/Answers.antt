@@ -62,7 +62,7 @@ abbrev pub toldWritten : Written → Told
 toldWritten (written.Bytes n) = placed 0 n
 toldWritten (written.Refused r) = told r
 
--- the desk's: what is told is the outcome's answer; record and table at exit are the outcome's
+-- "lent to each call and changed there": what is told, and record and table at exit, are the outcome's
 abbrev pub Tells : Outcome → Told → Desk → List Job → Type 0
 Tells o r k l = (r ≡ said (o .answer)) × (k ≡ deskOf o) × (l ≡ o .jobs)
 
