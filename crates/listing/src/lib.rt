@@ -24,15 +24,9 @@ fn put_part(plan: &[u16], parts: &[u16], k: usize, out: &mut [u8], at: usize) ->
     ensures { λ r. ⌜ Put (now (out .entry)) at (partLine (now (plan .entry)) (now (parts .entry)) k) r (now (out .exit)) × (r ≤ at + 128) ⌝ }
 {
     let m = rules::cycle(parts, k);
+    let wanted = rules::wanted(parts, k);
     let least = service::least(plan, (k + 1) as u16, m as u32);
-    text::put_partition(
-        out,
-        at,
-        k + 1,
-        rules::wanted(parts, k),
-        rules::wide(m),
-        least,
-    )
+    text::put_partition(out, at, k + 1, wanted, rules::wide(m), least)
 }
 
 fn put_parts(plan: &[u16], parts: &[u16], out: &mut [u8], start: usize) -> usize

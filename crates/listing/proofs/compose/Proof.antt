@@ -3,11 +3,6 @@ use Rattle.listing.specs.Listing.{listingOf}
 use borrow.Author.Needs.{needs}
 use Rattle.listing.proofs.compose.Statement.{statement}
 use Rattle.listing.proofs.compose.Tie as tie
-use Rattle.listing.proofs.compose.Reads as reads
-use Rattle.listing.proofs.compose.Lts as lts
-use Rattle.listing.proofs.put_refusal.Reads as put-refusal-reads
-use Rattle.listing.proofs.put_tables.Reads as put-tables-reads
-use Rattle.planfile.proofs.read.Reads as read-reads
 
 read-requires : tie.Need-read-requires
 read-requires c κs = search needs

@@ -7,10 +7,6 @@ use Rattle.listing.proofs.Tables.{listed-short, listed-text}
 use borrow.Author.Needs.{needs}
 use Rattle.listing.proofs.listing.Statement.{statement}
 use Rattle.listing.proofs.listing.Tie as tie
-use Rattle.listing.proofs.listing.Reads as reads
-use Rattle.listing.proofs.listing.Lts as lts
-use Rattle.listing.proofs.compose.Reads as compose-reads
-use Rattle.text.proofs.put_text.Reads as put-text-reads
 
 slice-aggregate-compose : tie.Need-slice-aggregate-compose
 slice-aggregate-compose c = search needs

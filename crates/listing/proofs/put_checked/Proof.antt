@@ -2,11 +2,6 @@ use Rattle.listing.specs.Listing.{tablesLines}
 use borrow.Author.Needs.{needs}
 use Rattle.listing.proofs.put_checked.Statement.{statement}
 use Rattle.listing.proofs.put_checked.Tie as tie
-use Rattle.listing.proofs.put_checked.Reads as reads
-use Rattle.listing.proofs.put_checked.Lts as lts
-use Rattle.listing.proofs.put_page.Reads as put-page-reads
-use Rattle.listing.proofs.put_refusal.Reads as put-refusal-reads
-use Rattle.service.proofs.check.Reads as check-reads
 
 check-requires : tie.Need-check-requires
 check-requires c κs = search needs

@@ -3,11 +3,6 @@ use Rattle.listing.specs.Listing.{pageOf}
 use borrow.Author.Needs.{needs}
 use Rattle.listing.proofs.put_page.Statement.{statement}
 use Rattle.listing.proofs.put_page.Tie as tie
-use Rattle.listing.proofs.put_page.Reads as reads
-use Rattle.listing.proofs.put_page.Lts as lts
-use Rattle.listing.proofs.put_parts.Reads as put-parts-reads
-use Rattle.listing.proofs.put_tasks.Reads as put-tasks-reads
-use Rattle.text.proofs.put_frame.Reads as put-frame-reads
 
 put-frame-requires : tie.Need-put-frame-requires
 put-frame-requires c κs = search needs

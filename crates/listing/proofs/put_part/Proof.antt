@@ -2,16 +2,12 @@ use Rattle.listing.specs.Listing.{partLine}
 use borrow.Author.Needs.{needs}
 use Rattle.listing.proofs.put_part.Statement.{statement}
 use Rattle.listing.proofs.put_part.Tie as tie
-use Rattle.listing.proofs.put_part.Reads as reads
-use Rattle.listing.proofs.put_part.Lts as lts
-use Rattle.rules.proofs.cycle.Reads as cycle-reads
-use Rattle.rules.proofs.wanted.Reads as wanted-reads
-use Rattle.rules.proofs.wide.Reads as wide-reads
-use Rattle.service.proofs.least.Reads as least-reads
-use Rattle.text.proofs.put_partition.Reads as put-partition-reads
 
 cycle-requires : tie.Need-cycle-requires
 cycle-requires c κs = search needs
+
+wanted-requires : tie.Need-wanted-requires
+wanted-requires c κs = search needs
 
 add-least : tie.Need-add-least
 add-least c = search needs
@@ -28,9 +24,6 @@ least-requires c κs = search needs
 add-put-partition : tie.Need-add-put-partition
 add-put-partition c = search needs
 
-wanted-requires : tie.Need-wanted-requires
-wanted-requires c κs = search needs
-
 wide-requires : tie.Need-wide-requires
 wide-requires c κs = search needs
 
@@ -42,19 +35,19 @@ same-length c = search needs
 
 returns : tie.Need-returns
 unfolding partLine
-returns c = (rw (← c .before .before .before .before .wanted .ensures, ← c .before .before .before .before .before .before .before .cycle .ensures, ← c .before .before .before .before .before .before .least .ensures, ← c .before .before .before .wide .ensures) (c .before .before .put-partition .ensures .0), search needs)
+returns c = (rw (← c .before .before .before .before .before .before .wanted .ensures, ← c .before .before .before .before .before .before .before .cycle .ensures, ← c .before .before .before .before .before .least .ensures, ← c .before .before .before .wide .ensures) (c .before .before .put-partition .ensures .0), search needs)
 
 pub put-part-spec : {M : Type 1} → statement M
 put-part-spec =
     tie.close
     (tie.spec
     cycle-requires
+    wanted-requires
     add-least
     cast-least
     cast-least-2
     least-requires
     add-put-partition
-    wanted-requires
     wide-requires
     put-partition-requires
     same-length

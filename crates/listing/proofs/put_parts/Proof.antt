@@ -7,10 +7,6 @@ use Rattle.listing.proofs.Lines.{lines-none, lines-more}
 use borrow.Author.Needs.{needs}
 use Rattle.listing.proofs.put_parts.Statement.{statement}
 use Rattle.listing.proofs.put_parts.Tie as tie
-use Rattle.listing.proofs.put_parts.Reads as reads
-use Rattle.listing.proofs.put_parts.Lts as lts
-use Rattle.listing.proofs.put_part.Reads as put-part-reads
-use Rattle.rules.proofs.partitions.Reads as partitions-reads
 
 abbrev Inv-loop : tie.InvT-loop
 Inv-loop plan parts out₀ start n at₀ k₀ out at k = (k ≤ n) × Put out₀ start (lines (partLine plan parts) k) at out × (at ≤ start + 128 * k) × (length out ≡ length out₀)

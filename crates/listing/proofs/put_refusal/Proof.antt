@@ -2,10 +2,6 @@ use Rattle.listing.specs.Listing.{refusal}
 use borrow.Author.Needs.{needs}
 use Rattle.listing.proofs.put_refusal.Statement.{statement}
 use Rattle.listing.proofs.put_refusal.Tie as tie
-use Rattle.listing.proofs.put_refusal.Reads as reads
-use Rattle.listing.proofs.put_refusal.Lts as lts
-use Rattle.rules.proofs.tell.Reads as tell-reads
-use Rattle.text.proofs.put_refused.Reads as put-refused-reads
 
 tell-requires : tie.Need-tell-requires
 tell-requires c κs = search needs

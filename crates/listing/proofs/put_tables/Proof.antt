@@ -7,12 +7,6 @@ use Rattle.listing.proofs.Tables.{limits, parts-loaded, tasks-loaded, t
 use borrow.Author.Needs.{needs}
 use Rattle.listing.proofs.put_tables.Statement.{statement}
 use Rattle.listing.proofs.put_tables.Tie as tie
-use Rattle.listing.proofs.put_tables.Reads as reads
-use Rattle.listing.proofs.put_tables.Lts as lts
-use Rattle.listing.proofs.put_checked.Reads as put-checked-reads
-use Rattle.planfile.proofs.load.Reads as load-reads
-use Rattle.planfile.proofs.section.Reads as section-reads
-use Rattle.ticks.proofs.ticks_of.Reads as ticks-of-reads
 
 section-requires : tie.Need-section-requires
 section-requires c κs = search needs

@@ -3,13 +3,6 @@ use Rattle.listing.specs.Listing.{taskLine}
 use borrow.Author.Needs.{needs}
 use Rattle.listing.proofs.put_task.Statement.{statement}
 use Rattle.listing.proofs.put_task.Tie as tie
-use Rattle.listing.proofs.put_task.Reads as reads
-use Rattle.listing.proofs.put_task.Lts as lts
-use Rattle.rules.proofs.partition.Reads as partition-reads
-use Rattle.rules.proofs.wide.Reads as wide-reads
-use Rattle.text.proofs.put_fail.Reads as put-fail-reads
-use Rattle.text.proofs.put_pass.Reads as put-pass-reads
-use Rattle.verdict.proofs.task.Reads as task-reads
 
 partition-requires : tie.Need-partition-requires
 partition-requires c κs = search needs

@@ -7,10 +7,6 @@ use Rattle.listing.proofs.Lines.{lines-none, lines-more}
 use borrow.Author.Needs.{needs}
 use Rattle.listing.proofs.put_tasks.Statement.{statement}
 use Rattle.listing.proofs.put_tasks.Tie as tie
-use Rattle.listing.proofs.put_tasks.Reads as reads
-use Rattle.listing.proofs.put_tasks.Lts as lts
-use Rattle.listing.proofs.put_task.Reads as put-task-reads
-use Rattle.rules.proofs.tasks.Reads as tasks-reads
 
 abbrev Inv-loop : tie.InvT-loop
 Inv-loop plan table out₀ start n at₀ j₀ out at j = (j ≤ n) × Put out₀ start (lines (taskLine plan table) j) at out × (at ≤ start + 128 * j) × (length out ≡ length out₀)
