@@ -1,7 +1,7 @@
 -- Laws of lines put one behind the other. Assumes nothing.
 use Prim.Native.Nat.{ℕ, _+_}
-use mathlib.Core.Path.{_≡_, refl}
-use mathlib.Core.List.{List, _++_}
+use mathlib.Core.Path.{_≡_}
+use mathlib.Core.List.{List}
 use native.Mathlib.Numerals.{add-one}
 use Rattle.ticks.specs.Put.{Put}
 use Rattle.ticks.proofs.Put.{put-none, and-then}
