@@ -1,33 +1,30 @@
 -- Every promise of specs/Theorems.antt, proved. Assumes nothing.
 use Prim.Native.Nat.{ℕ, _+_, _-_, _*_, _/_, _≤_, _<_}
-use mathlib.Core.Path.{_≡_, refl, sym, ap, _∙_}
-use mathlib.Core.Bool.{Bool, true, false, _&&_}
+use mathlib.Core.Path.{_≡_, sym, ap, _∙_}
+use mathlib.Core.Bool.{true, _&&_}
 use mathlib.Core.List.{List}
 use native.Mathlib.Omega.{arith}
 use lib.ListN.{length}
 use lib.Dec.{ltb}
 use borrow.Author.Tests.{le-ltb, not-false}
-use Rattle.rules.specs.Walk.{pick, first}
+use Rattle.rules.specs.Walk.{first}
 use Rattle.rules.specs.Table.{partitions, tasks, countedIn, partsCounted, tasksCounted, frameGood, badTask, badTick, firstBadPart, firstBadTask, firstBadTick}
 use Rattle.rules.specs.Refusals.{told}
 use Rattle.rules.specs.declared.Refusal.{Refusal}
 use Rattle.rules.proofs.First.{first-past}
 use Rattle.rules.proofs.Tests.{pick-first, and-parts}
-use Rattle.theory.specs.Task.{GoodTasks}
-use Rattle.service.specs.declared.Checked.{Checked}
 use Rattle.service.specs.declared.Checked.the-variants as checked
 use Rattle.service.specs.Check.{checkOf, planOf, scanOf, shortPart, shortStart, shortfall}
 use Rattle.verdict.specs.Theorems.{Answered}
-use Rattle.verdict.specs.Verdict.{taskOf, verdictOf}
 use Rattle.verdict.proofs.Answers as answers
 use Rattle.planfile.specs.declared.Reading.the-variants.{Contents}
-use Rattle.planfile.specs.declared.Body.the-variants.{Partitions, Tasks, Runs}
+use Rattle.planfile.specs.declared.Body.the-variants.{Partitions, Tasks}
 use Rattle.planfile.specs.Reader.{withinLimits, partsIn, tasksIn, readOf, sectionOf, tableOf}
-use Rattle.planfile.proofs.Reader.{accepted, parts-are, tasks-are}
+use Rattle.planfile.proofs.Reader.{accepted}
 use Rattle.ticks.proofs.Proved as ticks
 use Rattle.planfile.proofs.Proved as planfile
 use Rattle.planfile.proofs.Bytes.{numsOf-length}
-use Rattle.listing.specs.Theorems.{planIn, ListingCounts, ListingVerdicts, OnlyNine, ListingOne, Proved}
+use Rattle.listing.specs.Theorems.{planIn, Proved}
 
 -- what the checker and the verdict ask of an accepted file's tables
 record Fit (plan ps ts : List ℕ) (frame np nt : ℕ) : Type 0 where

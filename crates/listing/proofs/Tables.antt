@@ -1,6 +1,6 @@
 -- The tables that the code holds of an accepted file, and the text that it hands over. Assumes nothing.
 use Prim.Native.Nat.{ℕ, _+_, _*_, _/_, _≤_, _<_, min}
-use mathlib.Core.Path.{_≡_, refl, sym, ap, _∙_}
+use mathlib.Core.Path.{_≡_, refl, ap, _∙_}
 use mathlib.Core.List.{List, _++_}
 use native.Mathlib.Omega.{arith}
 use lib.ListN.{length, take, drop}
@@ -10,7 +10,6 @@ use borrow.Author.Tests.{lt-ltb, le-ltb, ltb-false}
 use Rattle.rules.proofs.Tests.{pick-second}
 use Rattle.rules.specs.declared.Refusal.the-variants.{Output}
 use Rattle.planfile.specs.declared.Reading.the-variants.{Contents}
-use Rattle.planfile.specs.declared.Body.{Body}
 use Rattle.planfile.specs.declared.Body.the-variants.{Partitions, Tasks, Runs}
 use Rattle.planfile.specs.Bytes.{numsOf, over}
 use Rattle.planfile.specs.Reader.{readOf, sectionOf, tableOf}

@@ -1,6 +1,6 @@
 -- What is promised of the listing beyond its contract. `listOf` and `leftOf` are what the contract says that it answers and leaves. Each statement's
 -- proof is a field of `Proved`. Assumes nothing.
-use Prim.Native.Nat.{ℕ, _+_, _≤_, _<_}
+use Prim.Native.Nat.{ℕ, _+_, _<_}
 use mathlib.Core.Path.{_≡_}
 use mathlib.Core.List.{List}
 use lib.ListN.{length}

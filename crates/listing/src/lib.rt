@@ -5,7 +5,7 @@ use rules::Refusal;
 use service::Checked;
 use verdict::Judged;
 ghost use mathlib.Core.Path.{_≡_};
-ghost use Prim.Native.Nat.{ℕ, _+_, _≤_, _<_, _^_};
+ghost use Prim.Native.Nat.{_+_, _≤_, _<_, _^_};
 ghost use lib.ListN.{length};
 ghost use Rattle.rules.specs.Table.{partitions, tasks};
 ghost use Rattle.planfile.specs.Reader.{readOf};

@@ -1,4 +1,4 @@
-use Rattle.listing.specs.Listing.{partLine}
+use Rattle.listing.proofs.Lines.{part-line}
 use borrow.Author.Needs.{needs}
 use Rattle.listing.proofs.put_part.Statement.{statement}
 use Rattle.listing.proofs.put_part.Tie as tie
@@ -34,8 +34,7 @@ same-length : tie.Need-same-length
 same-length c = search needs
 
 returns : tie.Need-returns
-unfolding partLine
-returns c = (rw (← c .before .before .before .before .before .before .wanted .ensures, ← c .before .before .before .before .before .before .before .cycle .ensures, ← c .before .before .before .before .before .least .ensures, ← c .before .before .before .wide .ensures) (c .before .before .put-partition .ensures .0), search needs)
+returns c = (rw (← part-line (c .before .before .before .before .before .before .before .before .before .before .before .args .plan .now) (c .before .before .before .before .before .before .before .before .before .before .before .args .parts .now) (c .before .before .before .before .before .before .before .before .before .before .before .args .k) _ _ _ _ (c .before .before .before .before .before .before .wanted .ensures) (c .before .before .before .before .before .before .before .cycle .ensures) (c .before .before .before .wide .ensures) (c .before .before .before .before .before .least .ensures)) (c .before .before .put-partition .ensures .0), search needs)
 
 pub put-part-spec : {M : Type 1} → statement M
 put-part-spec =

@@ -1,5 +1,5 @@
 use native.Mathlib.Omega.{arith}
-use mathlib.Core.Path.{_≡_, sym}
+use mathlib.Core.Path.{sym}
 use Prim.Native.Nat.{_≤_, _*_}
 use lib.ListN.{length, replicate}
 use lib.Seq.{length-take-le}
