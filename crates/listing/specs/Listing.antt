@@ -1,9 +1,9 @@
 -- The listing of a plan file, as a function of the file's bytes. Places count from 0 here; those printed count from 1. Assumes nothing.
-use Prim.Native.Nat.{ℕ, zero, suc, _+_}
+use Prim.Native.Nat.{ℕ, _+_}
 use mathlib.Core.List.{List, [], _++_}
 use lib.ListN.{length, drop}
 use lib.Dec.{ltb}
-use Rattle.rules.specs.Walk.{pick}
+use Rattle.rules.specs.Walk.{pick, gathered}
 use Rattle.rules.specs.Table.{cycle, wanted, partitions, partition, tasks}
 use Rattle.rules.specs.Refusals.{told}
 use Rattle.rules.specs.declared.Refusal.{Refusal}
@@ -24,11 +24,6 @@ use Rattle.text.specs.Lines.{frameLine, partitionLine, passLine, failLine, refu
 use Rattle.listing.specs.declared.Listed.{Listed}
 use Rattle.listing.specs.declared.Listed.the-variants.{Text, Refused}
 
--- f 0, .., f (n - 1), one behind the other
-unfoldable pub lines : (ℕ → List ℕ) → ℕ → List ℕ
-lines f zero = []
-lines f (suc n) = lines f n ++ f n
-
 -- partition i wants q in m least l, "where `least` is least(m)"
 unfoldable pub partLine : List ℕ → List ℕ → ℕ → List ℕ
 partLine plan ps k = partitionLine (k + 1) (wanted ps k) (cycle ps k) (least own plan (k + 1) (cycle ps k))
@@ -44,7 +39,7 @@ taskLine plan ts j = judgedLine ts j (taskOf plan ts j)
 
 -- of a plan that serves: the frame, every partition, every task
 unfoldable pub pageOf : ℕ → List ℕ → List ℕ → List ℕ → List ℕ
-pageOf frame plan ps ts = frameLine frame ++ lines (partLine plan ps) (partitions ps) ++ lines (taskLine plan ts) (tasks ts)
+pageOf frame plan ps ts = frameLine frame ++ gathered (partLine plan ps) (partitions ps) ++ gathered (taskLine plan ts) (tasks ts)
 
 -- "Any refusal prints only one line, as `refused 9`, with its number."
 unfoldable pub refusal : Refusal → List ℕ

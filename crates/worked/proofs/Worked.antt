@@ -1,6 +1,6 @@
 -- Every worked example, by computation. Assumes nothing.
 use mathlib.Core.Path.{refl}
-use Rattle.rules.specs.Walk.{only, first, sum, count, smallest, largest, walk, roundUp}
+use Rattle.rules.specs.Walk.{only, first, sum, count, smallest, largest, walk, gathered, roundUp}
 use Rattle.rules.specs.Table.{wants, countedIn, frameGood, goodShare, goodTimes, badPart, badTask, badTick}
 use Rattle.theory.specs.Plan.{owner, ownsFrom, owned, least}
 use Rattle.theory.specs.Harmonic.{pairs, frame, share, load, sooner, rank, ranked, give, turn, idle, planned, ticks}
@@ -14,13 +14,13 @@ use Rattle.planfile.specs.Reader.{withinLimits, offsetsRight, bodiesOf, content
 use Rattle.ticks.specs.Ticks.{ticksOf}
 use Rattle.text.specs.Decimal.{digits, decimal}
 use Rattle.text.specs.Lines.{frameLine, partitionLine, passLine}
-use Rattle.listing.specs.Listing.{lines, partLine, taskLine, pageOf, tablesLines, listingOf}
+use Rattle.listing.specs.Listing.{partLine, taskLine, pageOf, tablesLines, listingOf}
 use Rattle.desk.specs.Table.{openOf}
 use Rattle.desk.specs.Request.{requestOf}
 use Rattle.worked.specs.Document01.{Document01}
 
 pub worked : Document01
-unfolding only first sum count smallest largest walk roundUp wants countedIn frameGood goodShare goodTimes badPart badTask badTick owner ownsFrom owned least pairs frame share load sooner rank ranked give turn idle planned ticks rival asked demand multiple point fits pointFits firstPoint shortAt shortIn scanOf planOf checkOf clash clashes unharmonic buildOf taskOf inside placeOf verdictOf numsOf runOwner runLength repeats goodRun badRun judged withinLimits offsetsRight bodiesOf contentsOf readOf sectionOf tableOf ticksOf digits decimal frameLine partitionLine passLine lines partLine taskLine pageOf tablesLines listingOf openOf requestOf
+unfolding only first sum count smallest largest walk gathered roundUp wants countedIn frameGood goodShare goodTimes badPart badTask badTick owner ownsFrom owned least pairs frame share load sooner rank ranked give turn idle planned ticks rival asked demand multiple point fits pointFits firstPoint shortAt shortIn scanOf planOf checkOf clash clashes unharmonic buildOf taskOf inside placeOf verdictOf numsOf runOwner runLength repeats goodRun badRun judged withinLimits offsetsRight bodiesOf contentsOf readOf sectionOf tableOf ticksOf digits decimal frameLine partitionLine passLine partLine taskLine pageOf tablesLines listingOf openOf requestOf
 worked = record {
   p1-wants = (refl, refl, refl);
   p1 = (refl, refl);

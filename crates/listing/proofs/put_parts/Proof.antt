@@ -2,14 +2,15 @@ use mathlib.Core.Path.{_≡_, refl}
 use Prim.Native.Nat.{_≤_, _+_, _-_, _*_}
 use lib.ListN.{length}
 use Rattle.ticks.specs.Put.{Put}
-use Rattle.listing.specs.Listing.{lines, partLine}
+use Rattle.rules.specs.Walk.{gathered}
+use Rattle.listing.specs.Listing.{partLine}
 use Rattle.listing.proofs.Lines.{lines-none, lines-more}
 use borrow.Author.Needs.{needs}
 use Rattle.listing.proofs.put_parts.Statement.{statement}
 use Rattle.listing.proofs.put_parts.Tie as tie
 
 abbrev Inv-loop : tie.InvT-loop
-Inv-loop plan parts out₀ start n at₀ k₀ out at k = (k ≤ n) × Put out₀ start (lines (partLine plan parts) k) at out × (at ≤ start + 128 * k) × (length out ≡ length out₀)
+Inv-loop plan parts out₀ start n at₀ k₀ out at k = (k ≤ n) × Put out₀ start (gathered (partLine plan parts) k) at out × (at ≤ start + 128 * k) × (length out ≡ length out₀)
 
 abbrev μ-loop : tie.MeasureT-loop
 μ-loop plan parts out₀ start n at₀ k₀ out at k = n - k

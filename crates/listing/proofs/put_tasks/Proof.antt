@@ -2,14 +2,15 @@ use mathlib.Core.Path.{_≡_, refl}
 use Prim.Native.Nat.{_≤_, _+_, _-_, _*_}
 use lib.ListN.{length}
 use Rattle.ticks.specs.Put.{Put}
-use Rattle.listing.specs.Listing.{lines, taskLine}
+use Rattle.rules.specs.Walk.{gathered}
+use Rattle.listing.specs.Listing.{taskLine}
 use Rattle.listing.proofs.Lines.{lines-none, lines-more}
 use borrow.Author.Needs.{needs}
 use Rattle.listing.proofs.put_tasks.Statement.{statement}
 use Rattle.listing.proofs.put_tasks.Tie as tie
 
 abbrev Inv-loop : tie.InvT-loop
-Inv-loop plan table out₀ start n at₀ j₀ out at j = (j ≤ n) × Put out₀ start (lines (taskLine plan table) j) at out × (at ≤ start + 128 * j) × (length out ≡ length out₀)
+Inv-loop plan table out₀ start n at₀ j₀ out at j = (j ≤ n) × Put out₀ start (gathered (taskLine plan table) j) at out × (at ≤ start + 128 * j) × (length out ≡ length out₀)
 
 abbrev μ-loop : tie.MeasureT-loop
 μ-loop plan table out₀ start n at₀ j₀ out at j = n - j
