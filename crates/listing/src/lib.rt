@@ -7,10 +7,11 @@ use verdict::Judged;
 ghost use mathlib.Core.Path.{_≡_};
 ghost use Prim.Native.Nat.{_+_, _≤_, _<_, _^_};
 ghost use lib.ListN.{length};
+ghost use Rattle.rules.specs.Walk.{gathered};
 ghost use Rattle.rules.specs.Table.{partitions, tasks};
 ghost use Rattle.planfile.specs.Reader.{readOf};
 ghost use Rattle.ticks.specs.Put.{Put};
-ghost use Rattle.listing.specs.Listing.{lines, partLine, taskLine, pageOf, tablesLines, refusal, longestText, listingOf, listOf, leftOf};
+ghost use Rattle.listing.specs.Listing.{partLine, taskLine, pageOf, tablesLines, refusal, longestText, listingOf, listOf, leftOf};
 
 pub enum Listed {
     Text(usize),
@@ -31,7 +32,7 @@ fn put_part(plan: &[u16], parts: &[u16], k: usize, out: &mut [u8], at: usize) ->
 
 fn put_parts(plan: &[u16], parts: &[u16], out: &mut [u8], start: usize) -> usize
     requires { ⌜ (partitions (now parts) ≤ 16) × (start < 2 ^ 32) ⌝ }
-    ensures { λ r. ⌜ Put (now (out .entry)) start (lines (partLine (now (plan .entry)) (now (parts .entry))) (partitions (now (parts .entry)))) r (now (out .exit)) × (r ≤ start + 2048) ⌝ }
+    ensures { λ r. ⌜ Put (now (out .entry)) start (gathered (partLine (now (plan .entry)) (now (parts .entry))) (partitions (now (parts .entry)))) r (now (out .exit)) × (r ≤ start + 2048) ⌝ }
 {
     let n = rules::partitions(parts);
     let mut at = start;
@@ -58,7 +59,7 @@ fn put_task(plan: &[u16], table: &[u16], j: usize, out: &mut [u8], at: usize) ->
 
 fn put_tasks(plan: &[u16], table: &[u16], out: &mut [u8], start: usize) -> usize
     requires { ⌜ (tasks (now table) ≤ 128) × (start < 2 ^ 32) ⌝ }
-    ensures { λ r. ⌜ Put (now (out .entry)) start (lines (taskLine (now (plan .entry)) (now (table .entry))) (tasks (now (table .entry)))) r (now (out .exit)) × (r ≤ start + 16384) ⌝ }
+    ensures { λ r. ⌜ Put (now (out .entry)) start (gathered (taskLine (now (plan .entry)) (now (table .entry))) (tasks (now (table .entry)))) r (now (out .exit)) × (r ≤ start + 16384) ⌝ }
 {
     let n = rules::tasks(table);
     let mut at = start;
