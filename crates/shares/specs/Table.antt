@@ -73,14 +73,16 @@ orWrong t good = pick (ltb (firstWrong t) (length t)) (Expected (firstWrong t + 
 abbrev pub linesOf : List ℕ → Table
 linesOf t = orWrong t (Numbers 0 0)
 
--- the answer, for lent tables of so many numbers: "a count outside its limits" where a text or a table is too long
+-- how many numbers there are of each kind, where the lent tables have room for so many; "a count outside its limits" where they have not
+unfoldable pub sizedOf : List ℕ → ℕ → ℕ → Table
+sizedOf t parts tasks =
+    pick (ltb parts (length (tableOf Partitions t))) (Refused Limits)
+    (pick (ltb tasks (length (tableOf Tasks t))) (Refused Limits)
+    (Numbers (length (tableOf Partitions t)) (length (tableOf Tasks t))))
+
+-- the answer: a text too long to be read, a wrong line, or the numbers
 unfoldable pub readOf : List ℕ → ℕ → ℕ → Table
-readOf t roomP roomT =
-    pick (ltb longestText (length t)) (Refused Limits)
-    (orWrong t
-    (pick (ltb roomP (length (tableOf Partitions t))) (Refused Limits)
-    (pick (ltb roomT (length (tableOf Tasks t))) (Refused Limits)
-    (Numbers (length (tableOf Partitions t)) (length (tableOf Tasks t))))))
+readOf t parts tasks = pick (ltb longestText (length t)) (Refused Limits) (orWrong t (sizedOf t parts tasks))
 
 -- what a lent table then holds: its kind's records in front, where all of them fit
 abbrev pub leftBy : Table → List ℕ → List ℕ → List ℕ

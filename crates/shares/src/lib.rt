@@ -10,7 +10,7 @@ ghost use Rattle.text.specs.Decimal.{value};
 ghost use Rattle.ticks.specs.Put.{Put};
 ghost use Rattle.shares.specs.Words.{blank, stops, found, width, wordOf, restOf, wordAt, same, numeral};
 ghost use Rattle.shares.specs.Rows.{endsAt, partRow, taskRow, recordOf, rowOf, isWrong, whatOf};
-ghost use Rattle.shares.specs.Table.{lineOf, afterLine, numsIn, tableOf, linesOf, readOf, leftBy};
+ghost use Rattle.shares.specs.Table.{lineOf, afterLine, numsIn, tableOf, linesOf, sizedOf, readOf, leftBy};
 
 // What a search in a line or a text stops at.
 pub enum Mark {
@@ -86,7 +86,7 @@ fn is_odd(b: u8) -> bool
     if b < 48 {
         return true;
     }
-    57 < b
+    !(b <= 57)
 }
 
 fn stops(mark: Mark, b: u8) -> bool
@@ -328,20 +328,40 @@ fn is_wrong(row: Row) -> bool
     ensures { λ r. ⌜ r ≡ isWrong row ⌝ }
 {
     match row {
+        Row::Nothing => false,
+        Row::Partition {
+            cycle: _,
+            num: _,
+            den: _,
+        } => false,
+        Row::Task {
+            partition: _,
+            budget: _,
+            deadline: _,
+            period: _,
+        } => false,
         Row::Wrong(_) => true,
-        _ => false,
     }
 }
 
-fn expected(line: usize, row: Row) -> Table
-    ensures { λ r. ⌜ r ≡ Table.Expected line (whatOf row) ⌝ }
+// What was expected in a wrong row.
+fn what_in(row: Row) -> What
+    ensures { λ r. ⌜ r ≡ whatOf row ⌝ }
 {
     match row {
-        Row::Wrong(what) => Table::Expected { line, what },
-        _ => Table::Expected {
-            line,
-            what: What::End,
-        },
+        Row::Nothing => What::End,
+        Row::Partition {
+            cycle: _,
+            num: _,
+            den: _,
+        } => What::End,
+        Row::Task {
+            partition: _,
+            budget: _,
+            deadline: _,
+            period: _,
+        } => What::End,
+        Row::Wrong(what) => what,
     }
 }
 
@@ -380,7 +400,10 @@ fn lines(text: &[u8]) -> Table
     while at < n {
         let row = row_at(text, at);
         if is_wrong(row) {
-            return expected(k + 1, row);
+            return Table::Expected {
+                line: k + 1,
+                what: what_in(row),
+            };
         }
         at = next_line(text, at);
         k += 1;
@@ -424,7 +447,8 @@ fn put_row(out: &mut [u16], at: usize, kind: Kind, row: Row) -> usize
                 ticks::put_one(out, a, period)
             }
         },
-        _ => at,
+        Row::Nothing => at,
+        Row::Wrong(_) => at,
     }
 }
 
@@ -452,27 +476,41 @@ fn size(text: &[u8], kind: Kind) -> usize
     gather(text, kind, &mut none)
 }
 
+// How many numbers there are of each kind, where the lent tables have room for them.
+fn sized(text: &[u8], parts: usize, tasks: usize) -> Table
+    requires { ⌜ length (now text) ≤ 65536 ⌝ }
+    ensures { λ r. ⌜ r ≡ sizedOf (now (text .entry)) parts tasks ⌝ }
+{
+    let p = size(text, Kind::Partitions);
+    if parts < p {
+        return Table::Refused(Refusal::Limits);
+    }
+    let t = size(text, Kind::Tasks);
+    if tasks < t {
+        return Table::Refused(Refusal::Limits);
+    }
+    Table::Numbers {
+        partitions: p,
+        tasks: t,
+    }
+}
+
 // The answer, for lent tables of so many numbers.
-fn judge(text: &[u8], room_p: usize, room_t: usize) -> Table
-    ensures { λ r. ⌜ r ≡ readOf (now (text .entry)) room_p room_t ⌝ }
+fn judge(text: &[u8], parts: usize, tasks: usize) -> Table
+    ensures { λ r. ⌜ r ≡ readOf (now (text .entry)) parts tasks ⌝ }
 {
     if 65536 < text.len() {
         return Table::Refused(Refusal::Limits);
     }
-    let t = lines(text);
-    match t {
-        Table::Expected { line, what } => return Table::Expected { line, what },
-        _ => {}
+    let seen = lines(text);
+    match seen {
+        Table::Expected { line, what } => Table::Expected { line, what },
+        Table::Numbers {
+            partitions: _,
+            tasks: _,
+        } => sized(text, parts, tasks),
+        Table::Refused(_) => sized(text, parts, tasks),
     }
-    let partitions = size(text, Kind::Partitions);
-    if room_p < partitions {
-        return Table::Refused(Refusal::Limits);
-    }
-    let tasks = size(text, Kind::Tasks);
-    if room_t < tasks {
-        return Table::Refused(Refusal::Limits);
-    }
-    Table::Numbers { partitions, tasks }
 }
 
 // The table's records, put into the lent tables where all of them fit.
