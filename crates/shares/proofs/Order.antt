@@ -10,21 +10,25 @@ use lib.ListN.{length, take, drop}
 use lib.Seq.{drop-drop}
 use Rattle.shares.proofs.Words.{tail}
 use lib.Dec.{ltb}
-use borrow.Author.Tests.{lt-ltb, le-ltb}
+use borrow.Author.Tests.{lt-ltb, le-ltb, ltb-false}
+use Rattle.rules.specs.declared.Refusal.the-variants.{Limits}
 use Rattle.rules.specs.Walk.{pick, first}
 use Rattle.rules.proofs.First.{first-more, first-done}
 use Rattle.ticks.specs.Put.{Put}
 use Rattle.ticks.proofs.Put.{and-then}
-use Rattle.shares.specs.declared.Mark.the-variants.{Line}
+use Rattle.shares.specs.declared.Mark.the-variants as mark
+use Rattle.shares.specs.declared.Seen.{Seen}
+use Rattle.shares.specs.declared.Seen.the-variants.{Good, Line}
+use Rattle.shares.specs.declared.What.{What}
 use Rattle.shares.specs.declared.Kind.{Kind}
 use Rattle.shares.specs.declared.Kind.the-variants.{Partitions, Tasks}
 use Rattle.shares.specs.declared.Row.{Row}
-use Rattle.shares.specs.declared.Row.the-variants.{Nothing}
+use Rattle.shares.specs.declared.Row.the-variants.{Nothing, Wrong}
 use Rattle.shares.specs.declared.Table.{Table}
-use Rattle.shares.specs.declared.Table.the-variants.{Numbers, Expected}
+use Rattle.shares.specs.declared.Table.the-variants.{Numbers, Refused}
 use Rattle.shares.specs.Words.{found, width, wordOf}
 use Rattle.shares.specs.Rows.{recordOf, rowOf, isWrong, whatOf}
-use Rattle.shares.specs.Table.{lineOf, afterLine, fromLine, rowAt, wrongAt, firstWrong, numsIn, numsAt, gathered, tableOf, orWrong}
+use Rattle.shares.specs.Table.{lineOf, afterLine, fromLine, rowAt, wrongAt, firstWrong, numsIn, numsAt, gathered, tableOf, longestText, seenOf, sizedOf, readBy, readOf}
 
 pub drop-all : (n : ℕ) (l : List ℕ) → length l ≤ n → drop n l ≡ []
 drop-all zero [] h = refl
@@ -33,18 +37,18 @@ drop-all zero (x ∷ l) h = absurd (omega arith)
 drop-all (suc n) (x ∷ l) h = drop-all n l (omega arith)
 
 -- the line that begins at a place, and where the next one does
-pub line-is : (t : List ℕ) (at e : ℕ) → e ≡ found Line (take (length t - at) (drop at t)) → take e (take (length t - at) (drop at t)) ≡ lineOf (drop at t)
+pub line-is : (t : List ℕ) (at e : ℕ) → e ≡ found mark.Line (take (length t - at) (drop at t)) → take e (take (length t - at) (drop at t)) ≡ lineOf (drop at t)
 unfolding lineOf
-line-is t at e h = let f : e ≡ found Line (drop at t) = rw (tail at t) at h in rw (tail at t, ← f)
+line-is t at e h = let f : e ≡ found mark.Line (drop at t) = rw (tail at t) at h in rw (tail at t, ← f)
 
-pub after-some : (t : List ℕ) (at e : ℕ) → e ≡ found Line (take (length t - at) (drop at t)) → drop (at + (e + 1)) t ≡ afterLine (drop at t)
+pub after-some : (t : List ℕ) (at e : ℕ) → e ≡ found mark.Line (take (length t - at) (drop at t)) → drop (at + (e + 1)) t ≡ afterLine (drop at t)
 unfolding afterLine
-after-some t at e h = let f : e ≡ found Line (drop at t) = rw (tail at t) at h in rw (← f) (sym (drop-drop (e + 1) at t))
+after-some t at e h = let f : e ≡ found mark.Line (drop at t) = rw (tail at t) at h in rw (← f) (sym (drop-drop (e + 1) at t))
 
-pub after-none : (t : List ℕ) (at e : ℕ) → e ≡ found Line (take (length t - at) (drop at t)) → length (take (length t - at) (drop at t)) ≤ e → drop (length t) t ≡ afterLine (drop at t)
+pub after-none : (t : List ℕ) (at e : ℕ) → e ≡ found mark.Line (take (length t - at) (drop at t)) → length (take (length t - at) (drop at t)) ≤ e → drop (length t) t ≡ afterLine (drop at t)
 unfolding afterLine
 after-none t at e h l =
-    let f : e ≡ found Line (drop at t) = rw (tail at t) at h in
+    let f : e ≡ found mark.Line (drop at t) = rw (tail at t) at h in
     let m : length (drop at t) ≤ e = rw (tail at t) at l in
     drop-all (length t) t (omega arith) ∙ sym (rw (← f) (drop-all (e + 1) (drop at t) (omega arith)))
 
@@ -93,20 +97,28 @@ past {t} {at} a l = sym (a .from) ∙ drop-all at t l
 first-rest : (p : ℕ → Bool) (k n : ℕ) → k ≤ n → first p k ≡ k → ((j : ℕ) → k ≤ j → p j ≡ false) → first p n ≡ n
 first-rest p k n h e f = le-ind {n = k} (λ m. first p m ≡ m) e (λ m l i. sym (ap (first p) (add-one m)) ∙ first-more p m i (f m l) ∙ add-one m) n h
 
-pub none-wrong : {t : List ℕ} {at k : ℕ} → Reached t at k → at ≤ length t → length t ≤ at → first (wrongAt t) k ≡ k → (good : Table) → good ≡ orWrong t good
-unfolding orWrong wrongAt
-none-wrong {t} {at} {k} a h l e good =
+pub none-wrong : {t : List ℕ} {at k : ℕ} → Reached t at k → at ≤ length t → length t ≤ at → first (wrongAt t) k ≡ k → Good ≡ seenOf t
+unfolding seenOf wrongAt
+none-wrong {t} {at} {k} a h l e =
     rw (first-rest (wrongAt t) k (length t) (omega (arith, a .within)) e (λ j m. ap isWrong (row-empty t k j m (past a l))), le-ltb (length t) (length t) (omega arith))
 
-pub some-wrong : (t : List ℕ) (k : ℕ) (row : Row) (good : Table) → k < length t → firstWrong t ≡ k → row ≡ rowAt t k → Expected (k + 1) (whatOf row) ≡ orWrong t good
-unfolding orWrong
-some-wrong t k row good l e r = rw (e, lt-ltb k (length t) l, r)
+pub some-wrong : (t : List ℕ) (k : ℕ) (row : Row) → k < length t → firstWrong t ≡ k → row ≡ rowAt t k → Line (k + 1) (whatOf row) ≡ seenOf t
+unfolding seenOf
+some-wrong t k row l e r = rw (e, lt-ltb k (length t) l, r)
 
-pub wrong-is : {t : List ℕ} {k : ℕ} {row : Row} {r b : Bool} → row ≡ rowAt t k → r ≡ isWrong row → r ≡ b → wrongAt t k ≡ b
+pub wrong-is : (t : List ℕ) (k : ℕ) {row : Row} {r b : Bool} → row ≡ rowAt t k → r ≡ isWrong row → r ≡ b → wrongAt t k ≡ b
 unfolding wrongAt
-wrong-is e f g = sym (ap isWrong e) ∙ sym f ∙ g
+wrong-is t k e f g = sym (ap isWrong e) ∙ sym f ∙ g
 
 -- GATHERED
+
+pub nums-nothing : (kind : Kind) → numsIn kind Nothing ≡ []
+nums-nothing Partitions = refl
+nums-nothing Tasks = refl
+
+pub nums-wrong : (kind : Kind) (w : What) → numsIn kind (Wrong w) ≡ []
+nums-wrong Partitions w = refl
+nums-wrong Tasks w = refl
 
 gathered-more : (f : ℕ → List ℕ) (k : ℕ) → gathered f (k + 1) ≡ gathered f k ++ f k
 unfolding gathered
@@ -127,8 +139,13 @@ gather-turn kind t k e p q = rw (gathered-more (numsAt kind t) k, ← e) (and-th
 
 pub gather-end : (kind : Kind) {t : List ℕ} {at k : ℕ} → Reached t at k → at ≤ length t → length t ≤ at → gathered (numsAt kind t) k ≡ tableOf kind t
 unfolding tableOf numsAt
-gather-end kind {t} {at} {k} a h l = sym (gathered-rest (numsAt kind t) k (length t) (omega (arith, a .within)) (λ j m. ap (numsIn kind) (row-empty t k j m (past a l)) ∙ nothing kind))
+gather-end kind {t} {at} {k} a h l = sym (gathered-rest (numsAt kind t) k (length t) (omega (arith, a .within)) (λ j m. ap (numsIn kind) (row-empty t k j m (past a l)) ∙ nums-nothing kind))
+
+-- a text with an answer is no longer than a text may be
+pub short : (t : List ℕ) (parts tasks p q : ℕ) → readOf t parts tasks ≡ Numbers p q → length t ≤ longestText
+unfolding readOf
+short t parts tasks p q e = step (ltb longestText (length t)) refl e
   where
-    nothing : (kind : Kind) → numsIn kind Nothing ≡ []
-    nothing Partitions = refl
-    nothing Tasks = refl
+    step : (b : Bool) → ltb longestText (length t) ≡ b → pick b (Refused Limits) (readBy (seenOf t) (sizedOf t parts tasks)) ≡ Numbers p q → length t ≤ longestText
+    step true f g = let z : _≡_ {A = ℕ} 0 1 = cc in absurd (omega arith)
+    step false f g = ltb-false longestText (length t) f

@@ -7,7 +7,9 @@ use lib.Seq.{sets}
 use lib.Dec.{ltb}
 use Rattle.rules.specs.Walk.{pick, first}
 use Rattle.rules.specs.declared.Refusal.the-variants.{Limits}
-use Rattle.shares.specs.declared.Mark.the-variants.{Line}
+use Rattle.shares.specs.declared.Mark.the-variants as mark
+use Rattle.shares.specs.declared.Seen.{Seen}
+use Rattle.shares.specs.declared.Seen.the-variants.{Good, Line}
 use Rattle.shares.specs.declared.Kind.{Kind}
 use Rattle.shares.specs.declared.Kind.the-variants.{Partitions, Tasks}
 use Rattle.shares.specs.declared.Row.{Row}
@@ -19,10 +21,10 @@ use Rattle.shares.specs.Rows.{rowOf, isWrong, whatOf}
 
 -- the first line of a text, and the text behind its newline
 unfoldable pub lineOf : List ℕ → List ℕ
-lineOf t = take (found Line t) t
+lineOf t = take (found mark.Line t) t
 
 unfoldable pub afterLine : List ℕ → List ℕ
-afterLine t = drop (found Line t + 1) t
+afterLine t = drop (found mark.Line t + 1) t
 
 -- the text from line k on; behind the last line nothing is left
 unfoldable pub fromLine : List ℕ → ℕ → List ℕ
@@ -66,12 +68,9 @@ tableOf kind t = gathered (numsAt kind t) (length t)
 abbrev pub longestText : ℕ
 longestText = 65536
 
--- the first line that is wrong, and what was expected there; or else good
-unfoldable pub orWrong : List ℕ → Table → Table
-orWrong t good = pick (ltb (firstWrong t) (length t)) (Expected (firstWrong t + 1) (whatOf (rowAt t (firstWrong t)))) good
-
-abbrev pub linesOf : List ℕ → Table
-linesOf t = orWrong t (Numbers 0 0)
+-- the first line that is wrong, from 1, and what was expected there
+unfoldable pub seenOf : List ℕ → Seen
+seenOf t = pick (ltb (firstWrong t) (length t)) (Line (firstWrong t + 1) (whatOf (rowAt t (firstWrong t)))) Good
 
 -- how many numbers there are of each kind, where the lent tables have room for so many; "a count outside its limits" where they have not
 unfoldable pub sizedOf : List ℕ → ℕ → ℕ → Table
@@ -80,9 +79,13 @@ sizedOf t parts tasks =
     (pick (ltb tasks (length (tableOf Tasks t))) (Refused Limits)
     (Numbers (length (tableOf Partitions t)) (length (tableOf Tasks t))))
 
+abbrev pub readBy : Seen → Table → Table
+readBy Good sized = sized
+readBy (Line number what) sized = Expected number what
+
 -- the answer: a text too long to be read, a wrong line, or the numbers
 unfoldable pub readOf : List ℕ → ℕ → ℕ → Table
-readOf t parts tasks = pick (ltb longestText (length t)) (Refused Limits) (orWrong t (sizedOf t parts tasks))
+readOf t parts tasks = pick (ltb longestText (length t)) (Refused Limits) (readBy (seenOf t) (sizedOf t parts tasks))
 
 -- what a lent table then holds: its kind's records in front, where all of them fit
 abbrev pub leftBy : Table → List ℕ → List ℕ → List ℕ

@@ -10,7 +10,7 @@ ghost use Rattle.text.specs.Decimal.{value};
 ghost use Rattle.ticks.specs.Put.{Put};
 ghost use Rattle.shares.specs.Words.{blank, stops, found, width, wordOf, restOf, wordAt, same, numeral};
 ghost use Rattle.shares.specs.Rows.{endsAt, partRow, taskRow, recordOf, rowOf, isWrong, whatOf};
-ghost use Rattle.shares.specs.Table.{lineOf, afterLine, numsIn, tableOf, linesOf, sizedOf, readOf, leftBy};
+ghost use Rattle.shares.specs.Table.{lineOf, afterLine, numsIn, tableOf, seenOf, sizedOf, readOf, leftBy};
 
 // What a search in a line or a text stops at.
 pub enum Mark {
@@ -48,6 +48,12 @@ pub enum Row {
 pub enum Kind {
     Partitions,
     Tasks,
+}
+
+// Whether every line can be read; or the first that can't, from 1, and what was expected there.
+pub enum Seen {
+    Good,
+    Line { number: usize, what: What },
 }
 
 // How many numbers each table has; or the first wrong line, from 1, and what was expected there.
@@ -390,9 +396,8 @@ fn next_line(text: &[u8], at: usize) -> usize
     text.len()
 }
 
-// The first wrong line and what was expected there, or a table of no numbers.
-fn lines(text: &[u8]) -> Table
-    ensures { λ r. ⌜ r ≡ linesOf (now (text .entry)) ⌝ }
+fn first_wrong(text: &[u8]) -> Seen
+    ensures { λ r. ⌜ r ≡ seenOf (now (text .entry)) ⌝ }
 {
     let n = text.len();
     let mut at = 0;
@@ -400,18 +405,15 @@ fn lines(text: &[u8]) -> Table
     while at < n {
         let row = row_at(text, at);
         if is_wrong(row) {
-            return Table::Expected {
-                line: k + 1,
+            return Seen::Line {
+                number: k + 1,
                 what: what_in(row),
             };
         }
         at = next_line(text, at);
         k += 1;
     }
-    Table::Numbers {
-        partitions: 0,
-        tasks: 0,
-    }
+    Seen::Good
 }
 
 // THE TABLES
@@ -502,14 +504,10 @@ fn judge(text: &[u8], parts: usize, tasks: usize) -> Table
     if 65536 < text.len() {
         return Table::Refused(Refusal::Limits);
     }
-    let seen = lines(text);
+    let seen = first_wrong(text);
     match seen {
-        Table::Expected { line, what } => Table::Expected { line, what },
-        Table::Numbers {
-            partitions: _,
-            tasks: _,
-        } => sized(text, parts, tasks),
-        Table::Refused(_) => sized(text, parts, tasks),
+        Seen::Line { number, what } => Table::Expected { line: number, what },
+        Seen::Good => sized(text, parts, tasks),
     }
 }
 

@@ -1,3 +1,4 @@
+use Rattle.shares.proofs.Order.{nums-nothing, nums-wrong}
 use Rattle.ticks.proofs.Put.{put-none, put-one, and-then}
 use borrow.Author.Needs.{needs}
 use Rattle.shares.proofs.put_row.Statement.{statement}
@@ -59,10 +60,10 @@ returns-4 : tie.Need-returns-4
 returns-4 c = (rw (c .before .before .before .before .before .before .before .before .enum-told4 .given .1, c .before .before .before .before .before .before .before .before .before .before .before .row2 .given .1) (and-then (c .before .before .before .before .before .before .put-three2 .ensures .0) (put-one (c .before .before .put-one .ensures .0) (c .before .before .put-one .ensures .1))), search needs)
 
 returns-5 : tie.Need-returns-5
-returns-5 c = ?
+returns-5 c = (rw (c .enum-told5 .given .1, nums-nothing (c .before .before .before .args .kind)) (put-none _ _), search needs)
 
 returns-6 : tie.Need-returns-6
-returns-6 c = ?
+returns-6 c = (rw (c .enum-told6 .given .1, nums-wrong (c .before .before .before .args .kind)) (put-none _ _), search needs)
 
 pub put-row-spec : {M : Type 1} → statement M
 put-row-spec =

@@ -1,3 +1,5 @@
+use Rattle.shares.proofs.Order.{short}
+use mathlib.Core.Path.{_≡_, sym, _∙_, refl}
 use borrow.Author.Needs.{needs}
 use Rattle.shares.proofs.read.Statement.{statement}
 use Rattle.shares.proofs.read.Tie as tie
@@ -13,10 +15,10 @@ enum-known-t : tie.Need-enum-known-t
 enum-known-t c = search needs
 
 gather-requires : tie.Need-gather-requires
-gather-requires c κs = search needs
+gather-requires c κs = short _ _ _ _ _ (sym (c .before .before .before .before .judge .ensures) ∙ c .before .before .t .given .1)
 
 gather-requires-2 : tie.Need-gather-requires-2
-gather-requires-2 c κs = search needs
+gather-requires-2 c κs = short _ _ _ _ _ (sym (c .before .before .before .before .before .before .before .before .judge .ensures) ∙ c .before .before .before .before .before .before .t .given .1)
 
 enum-known-t-2 : tie.Need-enum-known-t-2
 enum-known-t-2 c = search needs
@@ -31,13 +33,13 @@ same-length-2 : tie.Need-same-length-2
 same-length-2 c = search needs
 
 returns : tie.Need-returns
-returns c = ?
+returns c = (sym (c .before .before .before .before .before .before .before .before .before .t .given .1) ∙ c .before .before .before .before .before .before .before .before .before .before .before .judge .ensures, c .before .before .before .before .before .before .gather .ensures .bytes, c .before .before .gather2 .ensures .bytes)
 
 returns-2 : tie.Need-returns-2
-returns-2 c = ?
+returns-2 c = (sym (c .before .t2 .given .1) ∙ c .before .before .before .judge .ensures, refl, refl)
 
 returns-3 : tie.Need-returns-3
-returns-3 c = ?
+returns-3 c = (sym (c .before .t3 .given .1) ∙ c .before .before .before .judge .ensures, refl, refl)
 
 pub read-spec : {M : Type 1} → statement M
 read-spec =
