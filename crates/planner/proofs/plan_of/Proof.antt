@@ -1,0 +1,40 @@
+use borrow.Author.Needs.{needs}
+use Rattle.planner.proofs.plan_of.Statement.{statement}
+use Rattle.planner.proofs.plan_of.Tie as tie
+use Rattle.planner.proofs.plan_of.Reads as reads
+use Rattle.planner.proofs.plan_of.Lts as lts
+use Rattle.planner.proofs.judge.Reads as judge-reads
+use Rattle.planner.proofs.lay.Reads as lay-reads
+
+judge-requires : tie.Need-judge-requires
+judge-requires c κs = search needs
+
+enum-told : tie.Need-enum-told
+enum-told c = search needs
+
+lay-requires : tie.Need-lay-requires
+lay-requires c κs = search needs
+
+enum-known-judged : tie.Need-enum-known-judged
+enum-known-judged c = search needs
+
+same-length : tie.Need-same-length
+same-length c = search needs
+
+returns : tie.Need-returns
+returns c = ?
+
+returns-2 : tie.Need-returns-2
+returns-2 c = ?
+
+pub plan-of-spec : {M : Type 1} → statement M
+plan-of-spec =
+    tie.close
+    (tie.spec
+    judge-requires
+    enum-told
+    lay-requires
+    enum-known-judged
+    same-length
+    returns
+    returns-2)
