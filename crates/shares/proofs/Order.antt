@@ -13,6 +13,7 @@ use lib.Dec.{ltb}
 use borrow.Author.Tests.{lt-ltb, le-ltb, ltb-false}
 use Rattle.rules.specs.declared.Refusal.the-variants.{Limits}
 use Rattle.rules.specs.Walk.{pick, first}
+use Rattle.rules.proofs.Tests.{pick-second}
 use Rattle.rules.proofs.First.{first-more, first-done}
 use Rattle.ticks.specs.Put.{Put}
 use Rattle.ticks.proofs.Put.{and-then}
@@ -141,11 +142,40 @@ pub gather-end : (kind : Kind) {t : List ℕ} {at k : ℕ} → Reached t at k �
 unfolding tableOf numsAt
 gather-end kind {t} {at} {k} a h l = sym (gathered-rest (numsAt kind t) k (length t) (omega (arith, a .within)) (λ j m. ap (numsIn kind) (row-empty t k j m (past a l)) ∙ nums-nothing kind))
 
--- a text with an answer is no longer than a text may be
-pub short : (t : List ℕ) (parts tasks p q : ℕ) → readOf t parts tasks ≡ Numbers p q → length t ≤ longestText
-unfolding readOf
-short t parts tasks p q e = step (ltb longestText (length t)) refl e
-  where
-    step : (b : Bool) → ltb longestText (length t) ≡ b → pick b (Refused Limits) (readBy (seenOf t) (sizedOf t parts tasks)) ≡ Numbers p q → length t ≤ longestText
-    step true f g = let z : _≡_ {A = ℕ} 0 1 = cc in absurd (omega arith)
-    step false f g = ltb-false longestText (length t) f
+-- WHAT AN ANSWER OF NUMBERS SAYS
+
+-- the text is no longer than a text may be, and both tables fit
+pub record Fits (t : List ℕ) (parts tasks p q : ℕ) : Type 0 where
+  pub short : length t ≤ longestText
+  pub parts-are : p ≡ length (tableOf Partitions t)
+  pub parts-fit : p ≤ parts
+  pub tasks-are : q ≡ length (tableOf Tasks t)
+  pub tasks-fit : q ≤ tasks
+
+seen-good : (s : Seen) (x : Table) (p q : ℕ) → readBy s x ≡ Numbers p q → x ≡ Numbers p q
+seen-good Good x p q e = e
+seen-good (Line number what) x p q e = let z : _≡_ {A = ℕ} 0 1 = cc in absurd (omega arith)
+
+not-refused : (p q : ℕ) → ¬ (Refused Limits ≡ Numbers p q)
+not-refused p q e = let z : _≡_ {A = ℕ} 0 1 = cc in omega arith
+
+pub fits : (t : List ℕ) (parts tasks p q : ℕ) → readOf t parts tasks ≡ Numbers p q → Fits t parts tasks p q
+unfolding readOf sizedOf
+fits t parts tasks p q e =
+    let n = length (tableOf Partitions t) in
+    let m = length (tableOf Tasks t) in
+    let y2 : Table = pick (ltb tasks m) (Refused Limits) (Numbers n m) in
+    let y1 : Table = pick (ltb parts n) (Refused Limits) y2 in
+    let e1 = pick-second (ltb longestText (length t)) (Refused Limits) (readBy (seenOf t) y1) (Numbers p q) (not-refused p q) e in
+    let e2 = pick-second (ltb parts n) (Refused Limits) y2 (Numbers p q) (not-refused p q) (seen-good (seenOf t) y1 p q (e1 .1)) in
+    let e3 = pick-second (ltb tasks m) (Refused Limits) (Numbers n m) (Numbers p q) (not-refused p q) (e2 .1) in
+    let f : Numbers n m ≡ Numbers p q = e3 .1 in
+    let ep : p ≡ n = cc in
+    let eq : q ≡ m = cc in
+    record {
+      short = ltb-false _ _ (e1 .0);
+      parts-are = ep;
+      parts-fit = rw ep (ltb-false _ _ (e2 .0));
+      tasks-are = eq;
+      tasks-fit = rw eq (ltb-false _ _ (e3 .0));
+    }

@@ -1,3 +1,6 @@
+use Rattle.planner.proofs.Laws.{built-front, laid-out, not-laid}
+use lib.Seq.{length-take-le}
+use mathlib.Core.Path.{_≡_, refl, sym, _∙_}
 use borrow.Author.Needs.{needs}
 use Rattle.planner.proofs.lay.Statement.{statement}
 use Rattle.planner.proofs.lay.Tie as tie
@@ -16,13 +19,13 @@ enum-known-built : tie.Need-enum-known-built
 enum-known-built c = search needs
 
 array-share-prefix-plan : tie.Need-array-share-prefix-plan
-array-share-prefix-plan c = ?
+array-share-prefix-plan c = built-front _ _ _ _ _ refl (c .before .before .before .before .build .ensures .0) (c .before .before .before .before .build .ensures .1) (c .before .built .given .1) .inside
 
 slice-aggregate-put-plan : tie.Need-slice-aggregate-put-plan
-slice-aggregate-put-plan c = ?
+slice-aggregate-put-plan c = sym (length-take-le _ _ (built-front _ _ _ _ _ refl (c .before .before .before .before .before .build .ensures .0) (c .before .before .before .before .before .build .ensures .1) (c .before .before .built .given .1) .inside))
 
 put-plan-requires : tie.Need-put-plan-requires
-put-plan-requires c κs = search needs
+put-plan-requires c κs = let f = built-front _ _ _ _ _ refl (c .before .before .before .before .before .before .build .ensures .0) (c .before .before .before .before .before .before .build .ensures .1) (c .before .before .before .built .given .1) in rw (length-take-le _ _ (f .inside)) (f .low)
 
 enum-known-built-2 : tie.Need-enum-known-built-2
 enum-known-built-2 c = search needs
@@ -31,10 +34,10 @@ same-length : tie.Need-same-length
 same-length c = search needs
 
 returns : tie.Need-returns
-returns c = ?
+returns c = laid-out _ _ _ _ (built-front _ _ _ _ _ refl (c .before .before .before .before .before .before .before .before .before .build .ensures .0) (c .before .before .before .before .before .before .before .before .before .build .ensures .1) (c .before .before .before .before .before .before .built .given .1)) (c .before .before .put-plan .ensures .0) (c .before .before .put-plan .ensures .1)
 
 returns-2 : tie.Need-returns-2
-returns-2 c = ?
+returns-2 c = (not-laid _ _ _ _ (sym (c .before .before .before .before .build .ensures .0) ∙ c .before .built2 .given .1), refl)
 
 pub lay-spec : {M : Type 1} → statement M
 lay-spec =

@@ -1,3 +1,6 @@
+use Rattle.planner.proofs.Laws.{parts-front, tasks-front, answer-said, answer-line, answer-refused}
+use lib.Seq.{length-take-le}
+use mathlib.Core.Path.{_≡_, refl, sym, _∙_}
 use borrow.Author.Needs.{needs}
 use Rattle.planner.proofs.plan.Statement.{statement}
 use Rattle.planner.proofs.plan.Tie as tie
@@ -21,16 +24,16 @@ enum-known-table : tie.Need-enum-known-table
 enum-known-table c = search needs
 
 array-share-prefix-parts : tie.Need-array-share-prefix-parts
-array-share-prefix-parts c = ?
+array-share-prefix-parts c = parts-front _ _ _ _ _ _ _ _ refl (c .before .before .before .before .before .read .ensures .0) (c .before .before .before .before .before .read .ensures .1) (c .before .table .given .1) .0
 
 slice-aggregate-said : tie.Need-slice-aggregate-said
-slice-aggregate-said c = ?
+slice-aggregate-said c = sym (length-take-le _ _ (parts-front _ _ _ _ _ _ _ _ refl (c .before .before .before .before .before .before .read .ensures .0) (c .before .before .before .before .before .before .read .ensures .1) (c .before .before .table .given .1) .0))
 
 array-share-prefix-tasks : tie.Need-array-share-prefix-tasks
-array-share-prefix-tasks c = ?
+array-share-prefix-tasks c = tasks-front _ _ _ _ _ _ _ _ refl (c .before .before .before .before .before .before .read .ensures .0) (c .before .before .before .before .before .before .read .ensures .2) (c .before .before .table .given .1) .0
 
 slice-aggregate-said-2 : tie.Need-slice-aggregate-said-2
-slice-aggregate-said-2 c = ?
+slice-aggregate-said-2 c = sym (length-take-le _ _ (tasks-front _ _ _ _ _ _ _ _ refl (c .before .before .before .before .before .before .before .read .ensures .0) (c .before .before .before .before .before .before .before .read .ensures .2) (c .before .before .before .table .given .1) .0))
 
 said-requires : tie.Need-said-requires
 said-requires c κs = search needs
@@ -51,19 +54,19 @@ same-length : tie.Need-same-length
 same-length c = search needs
 
 returns : tie.Need-returns
-returns c = ?
+returns c = let f = parts-front _ _ _ _ _ _ _ _ refl (c .before .before .before .before .before .before .before .before .before .before .before .read .ensures .0) (c .before .before .before .before .before .before .before .before .before .before .before .read .ensures .1) (c .before .before .before .before .before .before .before .table .given .1) in let g = tasks-front _ _ _ _ _ _ _ _ refl (c .before .before .before .before .before .before .before .before .before .before .before .read .ensures .0) (c .before .before .before .before .before .before .before .before .before .before .before .read .ensures .2) (c .before .before .before .before .before .before .before .table .given .1) in (answer-said _ _ _ _ _ _ _ (c .before .before .before .before .before .before .before .before .before .before .before .read .ensures .0) (c .before .before .before .before .before .before .before .table .given .1) (f .1) (g .1) (c .before .before .said .ensures .0), c .before .before .said .ensures .1)
 
 same-length-2 : tie.Need-same-length-2
 same-length-2 c = search needs
 
 returns-2 : tie.Need-returns-2
-returns-2 c = ?
+returns-2 c = (answer-line _ _ _ _ _ (c .before .before .before .before .before .before .before .before .before .read .ensures .0) (c .before .before .before .before .before .table2 .given .1) (c .before .before .put-expected .ensures .0), search needs)
 
 same-length-3 : tie.Need-same-length-3
 same-length-3 c = search needs
 
 returns-3 : tie.Need-returns-3
-returns-3 c = ?
+returns-3 c = (answer-refused _ _ _ _ (c .before .before .before .before .before .before .before .before .before .read .ensures .0) (c .before .before .before .before .before .table3 .given .1) (c .before .before .put-refusal .ensures .0), search needs)
 
 pub plan-spec : {M : Type 1} → statement M
 plan-spec =

@@ -1,3 +1,5 @@
+use Rattle.planner.specs.Answer.{planOf}
+use mathlib.Core.Path.{_≡_, refl, sym, _∙_}
 use borrow.Author.Needs.{needs}
 use Rattle.planner.proofs.plan_of.Statement.{statement}
 use Rattle.planner.proofs.plan_of.Tie as tie
@@ -22,10 +24,12 @@ same-length : tie.Need-same-length
 same-length c = search needs
 
 returns : tie.Need-returns
-returns c = ?
+unfolding planOf
+returns c = (rw (sym (c .before .before .before .before .before .before .judge .ensures) ∙ c .before .before .before .before .enum-told .given .1) (c .before .before .lay .ensures .0), c .before .before .lay .ensures .1)
 
 returns-2 : tie.Need-returns-2
-returns-2 c = ?
+unfolding planOf
+returns-2 c = (rw (sym (c .before .before .before .judge .ensures) ∙ c .before .judged .given .1), refl)
 
 pub plan-of-spec : {M : Type 1} → statement M
 plan-of-spec =

@@ -1,3 +1,6 @@
+use Rattle.planner.specs.Answer.{expectedLine}
+use Rattle.ticks.proofs.Put.{and-then}
+use native.Mathlib.Omega.{arith}
 use borrow.Author.Needs.{needs}
 use Rattle.planner.proofs.put_expected.Statement.{statement}
 use Rattle.planner.proofs.put_expected.Tie as tie
@@ -20,13 +23,14 @@ put-text-requires : tie.Need-put-text-requires
 put-text-requires c κs = search needs
 
 put-what-requires : tie.Need-put-what-requires
-put-what-requires c κs = search needs
+put-what-requires c κs = let p = c .before .before .before .put-text .ensures .place in search needs
 
 same-length : tie.Need-same-length
 same-length c = search needs
 
 returns : tie.Need-returns
-returns c = ?
+unfolding expectedLine
+returns c = let p = c .before .before .before .before .before .before .put-text .ensures .place in (and-then (and-then (c .before .before .before .before .before .before .before .before .before .before .before .put-field .ensures .0) (c .before .before .before .before .before .before .put-text .ensures)) (c .before .before .put-what .ensures .0), search needs)
 
 pub put-expected-spec : {M : Type 1} → statement M
 put-expected-spec =

@@ -1,3 +1,6 @@
+use Rattle.planner.proofs.Laws.{runs-put}
+use lib.Seq.{length-take-le}
+use mathlib.Core.Path.{_≡_, refl, sym, _∙_}
 use borrow.Author.Needs.{needs}
 use Rattle.planner.proofs.put_plan.Statement.{statement}
 use Rattle.planner.proofs.put_plan.Tie as tie
@@ -13,10 +16,10 @@ runs-of-requires : tie.Need-runs-of-requires
 runs-of-requires c κs = search needs
 
 array-share-prefix-runs : tie.Need-array-share-prefix-runs
-array-share-prefix-runs c = ?
+array-share-prefix-runs c = runs-put _ _ _ _ (c .before .before .before .before .before .before .before .pre) refl (c .before .runs-of .ensures) .0
 
 slice-aggregate-write : tie.Need-slice-aggregate-write
-slice-aggregate-write c = ?
+slice-aggregate-write c = sym (length-take-le _ _ (runs-put _ _ _ _ (c .before .before .before .before .before .before .before .before .pre) refl (c .before .before .runs-of .ensures) .0))
 
 write-requires : tie.Need-write-requires
 write-requires c κs = search needs
@@ -25,7 +28,7 @@ same-length : tie.Need-same-length
 same-length c = search needs
 
 returns : tie.Need-returns
-returns c = ?
+returns c = let f = runs-put _ _ _ _ (c .before .before .before .before .before .before .before .before .before .before .before .before .pre) refl (c .before .before .before .before .before .before .runs-of .ensures) in rw (← f .1) (c .before .before .write .ensures)
 
 pub put-plan-spec : {M : Type 1} → statement M
 put-plan-spec =

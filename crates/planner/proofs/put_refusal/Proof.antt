@@ -16,7 +16,7 @@ same-length : tie.Need-same-length
 same-length c = search needs
 
 returns : tie.Need-returns
-returns c = ?
+returns c = (rw (← c .before .before .before .before .tell .ensures) (c .before .before .put-refused .ensures .0), search needs)
 
 pub put-refusal-spec : {M : Type 1} → statement M
 put-refusal-spec = tie.close (tie.spec tell-requires put-refused-requires same-length returns)

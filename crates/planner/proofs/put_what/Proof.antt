@@ -1,3 +1,4 @@
+use native.Mathlib.Omega.{arith}
 use borrow.Author.Needs.{needs}
 use Rattle.planner.proofs.put_what.Statement.{statement}
 use Rattle.planner.proofs.put_what.Tie as tie
@@ -45,25 +46,25 @@ same-length : tie.Need-same-length
 same-length c = search needs
 
 returns : tie.Need-returns
-returns c = ?
+returns c = (rw (c .before .before .before .before .before .enum-told .given .1) (c .before .before .put-text .ensures), omega (arith, c .before .before .put-text .ensures .place))
 
 same-length-2 : tie.Need-same-length-2
 same-length-2 c = search needs
 
 returns-2 : tie.Need-returns-2
-returns-2 c = ?
+returns-2 c = (rw (c .before .before .before .before .before .enum-told2 .given .1) (c .before .before .put-text2 .ensures), omega (arith, c .before .before .put-text2 .ensures .place))
 
 same-length-3 : tie.Need-same-length-3
 same-length-3 c = search needs
 
 returns-3 : tie.Need-returns-3
-returns-3 c = ?
+returns-3 c = (rw (c .before .before .before .before .before .enum-told3 .given .1) (c .before .before .put-text3 .ensures), omega (arith, c .before .before .put-text3 .ensures .place))
 
 same-length-4 : tie.Need-same-length-4
 same-length-4 c = search needs
 
 returns-4 : tie.Need-returns-4
-returns-4 c = ?
+returns-4 c = (rw (c .before .before .before .before .before .enum-told4 .given .1) (c .before .before .put-text4 .ensures), omega (arith, c .before .before .put-text4 .ensures .place))
 
 pub put-what-spec : {M : Type 1} → statement M
 put-what-spec =

@@ -1,3 +1,4 @@
+use Rattle.planner.proofs.Laws.{said-file, said-line}
 use borrow.Author.Needs.{needs}
 use Rattle.planner.proofs.said.Statement.{statement}
 use Rattle.planner.proofs.said.Tie as tie
@@ -22,13 +23,13 @@ same-length : tie.Need-same-length
 same-length c = search needs
 
 returns : tie.Need-returns
-returns c = ?
+returns c = said-file _ _ _ _ _ _ (c .before .before .before .before .before .plan-of .ensures .0) (c .before .before .before .before .before .plan-of .ensures .1) (c .before .w .given .1)
 
 same-length-2 : tie.Need-same-length-2
 same-length-2 c = search needs
 
 returns-2 : tie.Need-returns-2
-returns-2 c = ?
+returns-2 c = (said-line _ _ _ _ _ _ (c .before .before .before .before .before .before .before .before .before .plan-of .ensures .0) (c .before .before .before .before .before .before .before .before .before .plan-of .ensures .1) (c .before .before .before .before .before .w2 .given .1) (c .before .before .put-refusal .ensures .0), search needs)
 
 pub said-spec : {M : Type 1} → statement M
 said-spec =
