@@ -1,5 +1,12 @@
 // The one export crate: every entry over plain numbers and slices, for C and Rust. include/merkazobi.h declares it.
+use desk::Answer;
+use desk::Job;
 use harmonic::Built;
+use lent::Desk;
+use listing::Listed;
+use planfile::Body;
+use planfile::Reading;
+use planfile::Written;
 use rules::Told;
 use service::Checked;
 use verdict::Judged;
@@ -10,7 +17,12 @@ ghost use Rattle.theory.specs.Plan.{own, held, least};
 ghost use Rattle.service.specs.Check.{checkOf};
 ghost use Rattle.harmonic.specs.Build.{buildOf, leftOf};
 ghost use Rattle.verdict.specs.Verdict.{verdictOf};
-ghost use Rattle.api.specs.Answers.{toldChecked, toldBuilt, toldJudged};
+ghost use Rattle.planfile.specs.Reader.{readOf, stretchOf};
+ghost use Rattle.planfile.specs.Writer as writer;
+ghost use Rattle.listing.specs.Listing as lister;
+ghost use Rattle.desk.specs.Table.{said, openOf};
+ghost use Rattle.desk.specs.Request.{requestOf};
+ghost use Rattle.api.specs.Answers.{toldChecked, toldBuilt, toldJudged, toldReading, toldStretch, toldSection, toldWritten, toldListed, Tells};
 
 fn answer(first: usize, second: usize) -> Told
     ensures { λ r. ⌜ r ≡ record { number = 0; first = first; second = second; third = 0; fourth = 0 } ⌝ }
@@ -82,4 +94,109 @@ pub extern "C" fn merkazobi_verdict(
         Judged::Fail => answer(0, 0),
         Judged::Refused(r) => rules::tell(r),
     }
+}
+
+#[no_mangle]
+pub extern "C" fn merkazobi_read(file: &[u8]) -> Told
+    ensures { λ r. ⌜ r ≡ toldReading (readOf (now (file .entry))) ⌝ }
+{
+    let reading = planfile::read(file);
+    match reading {
+        Reading::Contents {
+            frame,
+            partitions,
+            tasks,
+            runs,
+        } => Told {
+            number: 0,
+            first: frame,
+            second: partitions,
+            third: tasks,
+            fourth: runs,
+        },
+        Reading::Refused(r) => rules::tell(r),
+    }
+}
+
+fn stretch(file: &[u8], which: Body) -> Told
+    ensures { λ r. ⌜ r ≡ toldStretch (stretchOf (readOf (now (file .entry))) which) ⌝ }
+{
+    let s = planfile::stretch_of(file, which);
+    answer(s.offset, s.end)
+}
+
+#[no_mangle]
+pub extern "C" fn merkazobi_section(file: &[u8], which: usize) -> Told
+    ensures { λ r. ⌜ r ≡ toldSection (now (file .entry)) which ⌝ }
+{
+    if which == 0 {
+        return stretch(file, Body::Partitions);
+    }
+    if which == 1 {
+        return stretch(file, Body::Tasks);
+    }
+    if which == 2 {
+        return stretch(file, Body::Runs);
+    }
+    answer(0, 0)
+}
+
+#[no_mangle]
+pub extern "C" fn merkazobi_write(
+    frame: usize,
+    parts: &[u16],
+    tasks: &[u16],
+    runs: &[u16],
+    out: &mut [u8],
+) -> Told
+    ensures { λ r. ⌜ (r ≡ toldWritten (writer.writeOf frame (now (parts .entry)) (now (tasks .entry)) (now (runs .entry)) (length (now (out .entry))))) × (now (out .exit) ≡ writer.leftOf frame (now (parts .entry)) (now (tasks .entry)) (now (runs .entry)) (now (out .entry))) ⌝ }
+{
+    let written = planfile::write(frame, parts, tasks, runs, out);
+    match written {
+        Written::Bytes(n) => answer(n, 0),
+        Written::Refused(r) => rules::tell(r),
+    }
+}
+
+#[no_mangle]
+pub extern "C" fn merkazobi_list(file: &[u8], out: &mut [u8]) -> Told
+    ensures { λ r. ⌜ (r ≡ toldListed (lister.listOf (now (file .entry)) (length (now (out .entry))))) × (now (out .exit) ≡ lister.leftOf (now (file .entry)) (now (out .entry))) ⌝ }
+{
+    let listed = listing::listing(file, out);
+    match listed {
+        Listed::Text(n) => answer(n, 0),
+        Listed::Refused(r) => rules::tell(r),
+    }
+}
+
+fn tell_desk(answered: Answer) -> Told
+    ensures { λ r. ⌜ r ≡ said answered ⌝ }
+{
+    match answered {
+        Answer::Opened => answer(0, 0),
+        Answer::Taken(place, start) => answer(place, start as usize),
+        Answer::Refused(r) => rules::tell(r),
+    }
+}
+
+#[no_mangle]
+pub extern "C" fn merkazobi_open(desk: &mut Desk, jobs: &mut [Job]) -> Told
+    ensures { λ r. ⌜ Tells (openOf (now (desk .entry) .clock) (now (desk .entry) .count) (now (jobs .entry))) r (now (desk .exit)) (now (jobs .exit)) ⌝ }
+{
+    let answered = lent::open(desk, jobs);
+    tell_desk(answered)
+}
+
+#[no_mangle]
+pub extern "C" fn merkazobi_request(
+    desk: &mut Desk,
+    jobs: &mut [Job],
+    t: u32,
+    c: u32,
+    d: u32,
+) -> Told
+    ensures { λ r. ⌜ Tells (requestOf (now (desk .entry) .clock) (now (desk .entry) .count) (now (jobs .entry)) t c d) r (now (desk .exit)) (now (jobs .exit)) ⌝ }
+{
+    let answered = lent::request(desk, jobs, t, c, d);
+    tell_desk(answered)
 }

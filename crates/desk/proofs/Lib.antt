@@ -13,4 +13,3 @@ pub mod Runs
 pub mod Promise
 pub mod Still
 pub mod Proved
-pub mod Worked

@@ -1,22 +1,21 @@
 -- What the builder's answers mean. Assumes nothing.
-use Prim.Native.Nat.{ℕ, _+_, _%_, _≤_, _<_}
+use Prim.Native.Nat.{ℕ, _%_, _≤_, _<_}
 use mathlib.Core.Path.{_≡_, refl, sym, ap, _∙_}
-use mathlib.Core.Logic.{_⊎_, inl, inr, _↔_}
-use mathlib.Core.Bool.{Bool, true, false, _||_, not, true≢false, or-comm}
+use mathlib.Core.Logic.{_⊎_, inl, inr}
+use mathlib.Core.Bool.{Bool, true, false, true≢false, or-comm}
 use mathlib.Core.List.{List}
 use native.Mathlib.Nat.{mod-self}
 use native.Mathlib.Omega.{arith}
-use lib.Dec.{eqb, leb, ltb}
+use lib.Dec.{eqb, ltb}
 use lib.ListN.{length, take, drop}
 use lib.Seq.{take-at}
-use borrow.Author.Tests.{eq-eqb, lt-ltb, le-ltb, le-leb, ltb-true, ltb-false, not-true, not-false}
-use Rattle.rules.specs.Walk.{first, some, pick}
-use Rattle.rules.specs.Table.{cycle, num, den, partitions, longest, partsCounted, frameGood, goodShare, goodPart, goodTick, badPart, firstBadPart}
-use Rattle.rules.specs.declared.Refusal.{Refusal}
+use borrow.Author.Tests.{eq-eqb, le-ltb, le-leb, ltb-true, ltb-false, not-false}
+use Rattle.rules.specs.Walk.{some, pick}
+use Rattle.rules.specs.Table.{cycle, num, den, partitions, longest, partsCounted, frameGood, goodShare, badPart, firstBadPart}
 use Rattle.rules.specs.declared.Refusal.the-variants.{Unharmonic, Want, Output}
-use Rattle.rules.proofs.First.{first-none, first-past, some-none, some-at}
+use Rattle.rules.proofs.First.{first-none, first-past, some-none}
 use Rattle.rules.proofs.Sum.{le-or-lt}
-use Rattle.rules.proofs.Tests.{pick-first, pick-second, and-intro, good-share}
+use Rattle.rules.proofs.Tests.{pick-first, pick-second, good-share}
 use Rattle.theory.specs.Plan.{own}
 use Rattle.theory.specs.Harmonic.{pairs, Harmonic, frame, load, planned, ticks, harmonicPlan}
 use Rattle.theory.specs.Theorems.{GoodParts}
@@ -28,7 +27,7 @@ use Rattle.harmonic.specs.declared.Built.{Built}
 use Rattle.harmonic.specs.declared.Built.the-variants.{Frame, Refused}
 use Rattle.harmonic.specs.Build.{clash, clashes, unharmonic, buildOf, leftOf}
 use Rattle.harmonic.specs.Theorems.{GoodTable, BuiltServes, WantExactly, WantNone, WantChecked, UnharmonicExactly, FrameExactly, BuildOne, Proved}
-use Rattle.harmonic.proofs.Orders.{counted-few, build-10, build-11, build-frame, Laid, laid}
+use Rattle.harmonic.proofs.Orders.{counted-few, build-10, build-11, build-frame, laid}
 
 -- ---- 10: of any two cycles, one divides the other
 

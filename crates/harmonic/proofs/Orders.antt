@@ -1,21 +1,18 @@
 -- The order of the builder's refusals, at the numbers that the code holds, and what a frame answered says of the table. Assumes nothing.
-use Prim.Native.Nat.{ℕ, _+_, _/_, _%_, _≤_, _<_}
-use mathlib.Core.Path.{_≡_, refl, sym, _∙_}
-use mathlib.Core.Bool.{Bool, true, false, _&&_, not}
+use Prim.Native.Nat.{ℕ, _+_, _%_, _≤_, _<_}
+use mathlib.Core.Path.{_≡_}
+use mathlib.Core.Bool.{true, false, _&&_}
 use mathlib.Core.List.{List}
 use lib.ListN.{length}
 use lib.Dec.{ltb, leb, eqb}
 use borrow.Author.Tests.{lt-ltb, le-ltb, ltb-false, leb-true, not-false}
 use native.Mathlib.Omega.{arith}
-use Rattle.rules.specs.Walk.{pick}
-use Rattle.rules.specs.Table.{partitions, cycle, num, den, partsCounted, countedIn, firstBadPart, badPart, goodPart, longest, partWidth}
-use Rattle.rules.specs.declared.Refusal.{Refusal}
+use Rattle.rules.specs.Table.{partitions, cycle, num, den, partsCounted, countedIn, firstBadPart, badPart, longest, partWidth}
 use Rattle.rules.specs.declared.Refusal.the-variants.{Limits, Partition, Unharmonic, Want, Output}
 use Rattle.rules.proofs.First.{first-past}
 use Rattle.rules.proofs.Tests.{pick-first, pick-second, and-parts, good-share}
 use Rattle.theory.specs.Harmonic.{frame, load}
 use Rattle.theory.specs.Theorems.{GoodParts}
-use Rattle.harmonic.specs.declared.Built.{Built}
 use Rattle.harmonic.specs.declared.Built.the-variants.{Frame, Refused}
 use Rattle.harmonic.specs.Build.{unharmonic, buildOf}
 use Rattle.harmonic.specs.Written.{Fit}

@@ -2,7 +2,7 @@
 use Prim.Native.Nat.{ℕ, _+_}
 use mathlib.Core.List.{List, _++_}
 use mathlib.Core.Bool.{Bool, not}
-use lib.ListN.{length, drop}
+use lib.ListN.{drop}
 use lib.Dec.{ltb}
 use Rattle.rules.specs.Walk.{pick, some}
 use Rattle.rules.specs.Table.{partitions, longest, partsCounted, firstBadPart}

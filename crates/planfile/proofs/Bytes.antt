@@ -1,13 +1,13 @@
 -- Laws of two-byte numbers: the numbers of bytes, the bytes of numbers, and bytes stored one behind the other. Assumes nothing.
 use Prim.Native.Nat.{ℕ, zero, suc, _+_, _-_, _*_, _/_, _%_, _≤_, _<_}
-use mathlib.Core.Path.{_≡_, refl, sym, ap, _∙_}
+use mathlib.Core.Path.{_≡_, refl}
 use mathlib.Core.List.{List, [], _∷_, _++_, append-assoc, append-nil}
-use native.Mathlib.Nat.{not-suc-le-zero, le-of-suc-le-suc, div-add-mod', mul-add-div-right, mul-add-mod-self-right, div-eq-of-lt, mod-eq-of-lt, suc-add}
+use native.Mathlib.Nat.{not-suc-le-zero, le-of-suc-le-suc, div-add-mod'}
 use native.Mathlib.Numerals.{add-one}
 use native.Mathlib.Omega.{arith}
-use lib.ListN.{length, getD, set, take, drop, length-append, length-take, length-drop, take-append-drop, drop-of-length-le}
-use lib.Seq.{take-suc, drop-cons, set-at, append-snoc, length-take-le, take-all, take-at, drop-at, drop-drop}
-use Rattle.planfile.specs.Bytes.{numsOf, bytesOf, Bytes, part, over}
+use lib.ListN.{length, getD, set, take, drop, length-append, length-drop, drop-of-length-le}
+use lib.Seq.{take-suc, drop-cons, set-at, length-take-le, take-all, take-at, drop-at, drop-drop}
+use Rattle.planfile.specs.Bytes.{numsOf, bytesOf, Bytes, over}
 
 double : (k : ℕ) → 2 * suc k ≡ suc (suc (2 * k))
 double k = omega arith

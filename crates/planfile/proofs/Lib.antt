@@ -4,5 +4,4 @@ pub mod Limits
 pub mod Reader
 pub mod Writer
 pub mod Trip
-pub mod Worked
 pub mod Proved

@@ -1,18 +1,14 @@
 -- Every promise of specs/Theorems.antt, proved. Assumes nothing.
-use Prim.Native.Nat.{ℕ, _+_, _*_, _≤_}
-use mathlib.Core.Path.{_≡_, refl, sym, ap, _∙_}
-use mathlib.Core.List.{List, [], _++_}
+use Prim.Native.Nat.{ℕ, _*_, _≤_}
+use mathlib.Core.Path.{_≡_, refl, sym, _∙_}
 use native.Mathlib.Omega.{arith}
-use lib.ListN.{length, take, drop, length-append, length-drop}
-use Rattle.rules.specs.declared.Refusal.{Refusal}
-use Rattle.planfile.specs.declared.Reading.the-variants.{Contents, Refused}
+use lib.ListN.{length, length-append, length-drop}
+use Rattle.planfile.specs.declared.Reading.the-variants.{Refused}
 use Rattle.planfile.specs.declared.Written.{Written}
 use Rattle.planfile.specs.declared.Written.the-variants as written
-use Rattle.planfile.specs.declared.Body.{Body}
-use Rattle.planfile.specs.declared.Body.the-variants.{Partitions, Tasks, Runs}
-use Rattle.planfile.specs.Reader.{partsAt, tasksAt, runsAt, sizeOf, readOf, sectionOf}
-use Rattle.planfile.specs.Writer.{fileOf, writeOf, leftBy, leftOf}
-use Rattle.planfile.specs.Theorems.{ReadWrite, WriteRead, SectionExact, SectionNone, Untouched, OneRead, OneSection, OneWrite, Proved}
+use Rattle.planfile.specs.Reader.{partsAt, tasksAt, runsAt, sizeOf, sectionOf}
+use Rattle.planfile.specs.Writer.{fileOf, writeOf, leftBy}
+use Rattle.planfile.specs.Theorems.{SectionExact, SectionNone, Untouched, Proved}
 use Rattle.planfile.proofs.Reader.{accepted, part-length}
 use Rattle.planfile.proofs.Writer.{fit}
 use Rattle.planfile.proofs.Trip.{file-length, left-rest, read-written, parts-all, write-back}

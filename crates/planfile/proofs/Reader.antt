@@ -1,15 +1,15 @@
 -- The order of the reader's refusals at the numbers that the code holds, and what an accepted file is. Assumes nothing.
-use Prim.Native.Nat.{ℕ, _+_, _-_, _*_, _/_, _≤_, _<_}
-use mathlib.Core.Path.{_≡_, refl, sym, _∙_}
+use Prim.Native.Nat.{ℕ, _+_, _-_, _*_, _≤_, _<_}
+use mathlib.Core.Path.{_≡_, refl, _∙_}
 use mathlib.Core.List.{List}
-use mathlib.Core.Bool.{Bool, true, false, not}
+use mathlib.Core.Bool.{true, false, not}
 use native.Mathlib.Omega.{arith}
-use lib.ListN.{length, getD, take, drop, length-drop}
+use lib.ListN.{length, drop, length-drop}
 use lib.Seq.{length-take-le}
 use lib.Dec.{ltb, eqb}
 use borrow.Author.Tests.{lt-ltb, le-ltb, eq-eqb, ne-eqb, eqb-true, not-false}
 use Rattle.rules.specs.Walk.{pick}
-use Rattle.rules.specs.Table.{partWidth, taskWidth, partitions, tasks, firstBadPart, firstBadTask}
+use Rattle.rules.specs.Table.{partitions, tasks, firstBadPart, firstBadTask}
 use Rattle.rules.specs.declared.Refusal.{Refusal}
 use Rattle.rules.specs.declared.Refusal.the-variants.{Short, Edition, Limits, Offset, Length, Partition, Task, Tick}
 use Rattle.planfile.specs.declared.Reading.{Reading}
@@ -17,7 +17,7 @@ use Rattle.planfile.specs.declared.Reading.the-variants.{Contents, Refus
 use Rattle.planfile.specs.declared.Body.{Body}
 use Rattle.planfile.specs.declared.Body.the-variants.{Partitions, Tasks, Runs}
 use Rattle.planfile.specs.Bytes.{numsOf, part}
-use Rattle.planfile.specs.Runs.{runWidth, runs, firstBadRun, judged}
+use Rattle.planfile.specs.Runs.{runs, firstBadRun}
 use Rattle.planfile.specs.Reader.{partsAt, tasksAt, runsAt, sizeOf, withinLimits, offsetsRight, partsIn, tasksIn, runsIn, bodiesOf, contentsOf, word, readOf, startOf, endOf}
 use Rattle.planfile.proofs.Bytes.{numsOf-length}
 use Rattle.planfile.proofs.Runs.{AllGood, pick-on, judged-6, judged-7, judged-8, judged-good, judged-inv}

@@ -1,17 +1,15 @@
 -- Laws of the runs' tests and of the refusals 6, 7 and 8, at the numbers that the code holds. Assumes nothing.
-use Prim.Native.Nat.{ℕ, _+_, _*_, _/_, _≤_, _<_}
-use mathlib.Core.Path.{_≡_, refl, sym, _∙_}
+use Prim.Native.Nat.{ℕ, _+_, _≤_, _<_}
+use mathlib.Core.Path.{_≡_, refl}
 use mathlib.Core.List.{List}
-use mathlib.Core.Bool.{Bool, true, false, _&&_, _||_, not}
-use lib.ListN.{length, getD}
-use lib.Dec.{ltb, leb, eqb}
+use mathlib.Core.Bool.{Bool, true, false, not}
+use lib.Dec.{ltb, eqb}
 use borrow.Author.Tests.{lt-ltb, le-ltb, ltb-false}
-use native.Mathlib.Omega.{arith}
-use Rattle.rules.specs.Walk.{pick, first, sum}
+use Rattle.rules.specs.Walk.{pick, sum}
 use Rattle.rules.specs.Table.{partitions, tasks, firstBadPart, firstBadTask}
 use Rattle.rules.specs.declared.Refusal.{Refusal}
 use Rattle.rules.specs.declared.Refusal.the-variants.{Partition, Task, Tick}
-use Rattle.rules.proofs.Sum.{sum-zero, sum-more}
+use Rattle.rules.proofs.Sum.{sum-more}
 use Rattle.planfile.specs.Runs.{runField, runOwner, runLength, runs, repeats, goodRun, badRun, firstBadRun, judged}
 
 -- a turn adds the length at k

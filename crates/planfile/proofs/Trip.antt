@@ -1,13 +1,12 @@
 -- The round trips: reading what was written gives back the tables, and writing what was read gives back the bytes. Assumes nothing.
-use Prim.Native.Nat.{ℕ, zero, suc, _+_, _-_, _*_, _/_, _%_, _≤_, _<_}
+use Prim.Native.Nat.{ℕ, zero, suc, _+_, _-_, _*_, _/_, _≤_, _<_}
 use mathlib.Core.Path.{_≡_, refl, sym, ap, _∙_}
-use mathlib.Core.List.{List, [], _∷_, _++_, append-assoc}
+use mathlib.Core.List.{List, _++_, append-assoc}
 use mathlib.Core.Bool.{true}
 use native.Mathlib.Omega.{arith}
-use lib.ListN.{length, getD, take, drop, length-append, length-drop}
+use lib.ListN.{length, getD, take, drop, length-append}
 use lib.Seq.{take-at, drop-at, take-all, take-add, length-take-le, getD-take, getD-drop, ext-getD}
 use Rattle.rules.specs.Table.{partitions, tasks}
-use Rattle.planfile.specs.declared.Reading.{Reading}
 use Rattle.planfile.specs.declared.Reading.the-variants.{Contents, Refused}
 use Rattle.planfile.specs.declared.Written.the-variants as written
 use Rattle.planfile.specs.declared.Body.the-variants.{Partitions, Tasks, Runs}
@@ -19,7 +18,7 @@ use Rattle.planfile.proofs.Bytes.{numsOf-length, numsOf-at, bytesOf-len
 use Rattle.planfile.proofs.Runs.{AllGood, judged-all}
 use Rattle.planfile.proofs.Limits.{within, right}
 use Rattle.planfile.proofs.Reader.{read-rest, Accepted, accepted, part-length, part-nums}
-use Rattle.planfile.proofs.Writer.{Fit, fit, write-all}
+use Rattle.planfile.proofs.Writer.{fit, write-all}
 
 -- READING WHAT WAS WRITTEN
 

@@ -1,8 +1,8 @@
 -- The order of the writer's refusals at the numbers that the code holds, and what it leaves. Assumes nothing.
-use Prim.Native.Nat.{ℕ, _+_, _-_, _*_, _/_, _≤_, _<_}
-use mathlib.Core.Path.{_≡_, refl, sym, ap, _∙_}
+use Prim.Native.Nat.{ℕ, _+_, _*_, _≤_, _<_}
+use mathlib.Core.Path.{_≡_, refl, _∙_}
 use mathlib.Core.List.{List, _++_}
-use mathlib.Core.Bool.{Bool, true, false, not}
+use mathlib.Core.Bool.{true, false, not}
 use native.Mathlib.Omega.{arith}
 use lib.ListN.{length, take, drop, length-append}
 use lib.Dec.{ltb}
@@ -15,7 +15,7 @@ use Rattle.planfile.specs.declared.Written.{Written}
 use Rattle.planfile.specs.declared.Written.the-variants.{Bytes, Refused}
 use Rattle.planfile.specs.Bytes.{bytesOf}
 use Rattle.planfile.specs.Runs.{runs, firstBadRun, judged}
-use Rattle.planfile.specs.Reader.{partsAt, tasksAt, runsAt, sizeOf, withinLimits}
+use Rattle.planfile.specs.Reader.{partsAt, tasksAt, runsAt, withinLimits}
 use Rattle.planfile.specs.Writer.{headNums, fileOf, sizeFor, writeOf, leftOf}
 use Rattle.planfile.proofs.Bytes.{bytesOf-length, next}
 use Rattle.planfile.proofs.Runs.{AllGood, pick-on, judged-6, judged-7, judged-8, judged-good, judged-inv}

@@ -5,12 +5,11 @@ ghost use mathlib.Core.Bool.{true};
 ghost use mathlib.Core.List.{_++_};
 ghost use Prim.Native.Nat.{_+_, _*_, _/_, _%_, _≤_, _<_, _^_, min};
 ghost use lib.ListN.{length, getD, set, take, drop};
-ghost use lib.Dec.{eqb};
 ghost use Rattle.rules.specs.Walk.{sum};
 ghost use Rattle.rules.specs.Table.{badPart, badTask, firstBadPart, firstBadTask};
 ghost use Rattle.planfile.specs.Bytes.{numsOf, bytesOf, over};
 ghost use Rattle.planfile.specs.Runs.{runField, runLength, runs, repeats, goodRun, badRun, firstBadRun};
-ghost use Rattle.planfile.specs.Reader.{tasksAt, runsAt, sizeOf, withinLimits, offsetsRight, bodiesOf, readOf, stretchOf, sectionOf};
+ghost use Rattle.planfile.specs.Reader.{sizeOf, withinLimits, offsetsRight, bodiesOf, readOf, stretchOf, sectionOf};
 ghost use Rattle.planfile.specs.Writer.{headNums, sizeFor, writeOf, leftOf};
 
 pub enum Reading {

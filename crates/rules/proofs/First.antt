@@ -1,7 +1,8 @@
--- Laws of `first` and `walk`: what a loop's turn, its find and its end say, and what is known of the answer. Assumes nothing.
+-- Laws of `first`, `walk` and `gathered`: what a loop's turn, its find and its end say, and what is known of the answer. Assumes nothing.
 use Prim.Native.Nat.{ℕ, zero, suc, _+_, _≤_, _<_}
 use mathlib.Core.Path.{_≡_, refl, sym, _∙_}
 use mathlib.Core.Bool.{Bool, true, false, true≢false}
+use mathlib.Core.List.{List, [], _++_}
 use mathlib.Core.Logic.{⊎-elim}
 use native.Mathlib.Nat.{not-suc-le-zero, le-of-suc-le-suc, eq-or-lt-of-le, le-antisymm}
 use native.Mathlib.Numerals.{add-one}
@@ -9,7 +10,7 @@ use native.Mathlib.Decide.{le-ind}
 use native.Mathlib.Omega.{arith}
 use lib.Dec.{ltb}
 use borrow.Author.Tests.{lt-ltb, le-ltb, ltb-true, ltb-false}
-use Rattle.rules.specs.Walk.{pick, first, some, walk}
+use Rattle.rules.specs.Walk.{pick, first, some, walk, gathered}
 
 pub walk-zero : {A : Type 0} (f : ℕ → A → A) (x : A) → walk f x 0 ≡ x
 unfolding walk
@@ -18,6 +19,14 @@ walk-zero f x = refl
 pub walk-more : {A : Type 0} (f : ℕ → A → A) (x : A) (i : ℕ) → walk f x (i + 1) ≡ f i (walk f x i)
 unfolding walk
 walk-more f x i = rw add-one
+
+pub gathered-zero : (f : ℕ → List ℕ) → gathered f 0 ≡ []
+unfolding gathered
+gathered-zero f = refl
+
+pub gathered-more : (f : ℕ → List ℕ) (i : ℕ) → gathered f (i + 1) ≡ gathered f i ++ f i
+unfolding gathered
+gathered-more f i = rw add-one
 
 module _ (p : ℕ → Bool) where
   pub first-zero : first p 0 ≡ 0

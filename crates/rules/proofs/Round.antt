@@ -1,8 +1,8 @@
 -- Division rounded up: the smallest q with x ≤ q·y. Assumes nothing.
 use mathlib.Core.Path.{_≡_, subst}
 use mathlib.Core.Logic.{_⊎_, inl, inr}
-use Prim.Native.Nat.{ℕ, suc, _+_, _-_, _*_, _/_, _%_, _≤_, _<_}
-use native.Mathlib.Nat.{div-lt-iff-lt-mul, lt-div-mul-add, mul-le-mul-left, mul-mod-left}
+use Prim.Native.Nat.{ℕ, suc, _+_, _-_, _*_, _%_, _≤_, _<_}
+use native.Mathlib.Nat.{div-lt-iff-lt-mul, lt-div-mul-add, mul-mod-left}
 use native.Mathlib.Omega.{arith}
 use Rattle.rules.specs.Walk.{roundUp}
 use Rattle.rules.proofs.Sum.{le-or-lt}
@@ -16,9 +16,6 @@ round-enough x y h = omega (arith, lt-div-mul-add {a = x + (y - 1)} {b = y} h)
 pub round-least : (x y q : ℕ) → 0 < y → x ≤ q * y → roundUp x y ≤ q
 unfolding roundUp
 round-least x y q h l = omega (arith, div-lt-iff-lt-mul {k = y} {x = x + (y - 1)} {y = suc q} h .1 (omega arith))
-
-pub round-mono : (x x′ y y′ : ℕ) → 0 < y → x′ ≤ x → y ≤ y′ → roundUp x′ y′ ≤ roundUp x y
-round-mono x x′ y y′ h l m = round-least x′ y′ (roundUp x y) (omega arith) (omega (arith, round-enough x y h, mul-le-mul-left (roundUp x y) m))
 
 -- it rises only behind a multiple
 pub round-suc : (x y : ℕ) → 0 < y → ¬ (x % y ≡ 0) → roundUp (suc x) y ≤ roundUp x y

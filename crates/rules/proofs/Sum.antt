@@ -1,9 +1,9 @@
 -- Laws of sums and counts. Assumes nothing.
 use mathlib.Core.Path.{_≡_, refl, sym, ap, ap₂, _∙_, subst}
 use mathlib.Core.Logic.{_⊎_, inl, inr}
-use mathlib.Core.Bool.{Bool, true, false, true≢false}
-use Prim.Native.Nat.{ℕ, zero, suc, _+_, _-_, _*_, _≤_, _<_, zero-le}
-use native.Mathlib.Nat.{add-suc, add-zero, add-assoc, le-refl}
+use mathlib.Core.Bool.{Bool, true, false}
+use Prim.Native.Nat.{ℕ, zero, suc, _+_, _-_, _≤_, _<_, zero-le}
+use native.Mathlib.Nat.{add-suc, add-zero, le-refl}
 use native.Mathlib.Numerals.{add-one}
 use native.Mathlib.Decide.{decLe, ℕ-discrete}
 use native.Mathlib.Omega.{arith}
@@ -186,14 +186,6 @@ unfolding count sum
 count-le p zero = zero-le
 count-le p (suc n) = omega (arith, count-le p n, only-self (p n) 1)
 
-pub count-mono : (p : ℕ → Bool) {m n : ℕ} → m ≤ n → count p m ≤ count p n
-unfolding count
-count-mono p h = sum-mono (λ k. only (p k) 1) h
-
 pub count-ext : (n : ℕ) (p q : ℕ → Bool) → ((k : ℕ) → k < n → p k ≡ q k) → count p n ≡ count q n
 unfolding count
 count-ext n p q h = sum-ext n (λ k. only (p k) 1) (λ k. only (q k) 1) (λ k l. ap (λ (b : Bool). only b 1) (h k l))
-
-pub count-split : (a b : ℕ) (p : ℕ → Bool) → count p (a + b) ≡ count p a + count (λ k. p (a + k)) b
-unfolding count
-count-split a b p = sum-split a b (λ k. only (p k) 1)

@@ -1,6 +1,7 @@
 -- The walks over i < n that every rule is made of. The number that a walk goes over stands last. Assumes nothing.
 use Prim.Native.Nat.{ℕ, zero, suc, _+_, _-_, _/_, min, max}
 use mathlib.Core.Bool.{Bool, true, false}
+use mathlib.Core.List.{List, [], _++_}
 use lib.Dec.{ltb}
 
 -- a where the test holds, else b
@@ -45,6 +46,11 @@ largest f (suc n) = max (largest f n) (f n)
 unfoldable pub walk : {A : Type 0} → (ℕ → A → A) → A → ℕ → A
 walk f x zero = x
 walk f x (suc n) = f n (walk f x n)
+
+-- the lists f 0, .., f (n - 1), one behind the other
+unfoldable pub gathered : (ℕ → List ℕ) → ℕ → List ℕ
+gathered f zero = []
+gathered f (suc n) = gathered f n ++ f n
 
 -- x / y, rounded up
 unfoldable pub roundUp : ℕ → ℕ → ℕ

@@ -1,18 +1,16 @@
 -- What the checker's answers mean. Assumes nothing.
 use Prim.Native.Nat.{ℕ, _+_, _≤_, _<_}
-use mathlib.Core.Path.{_≡_, refl, sym, ap, _∙_}
-use mathlib.Core.Logic.{_⊎_, inl, inr, _↔_}
-use mathlib.Core.Bool.{Bool, true, false, _&&_, not}
+use mathlib.Core.Path.{_≡_, refl, sym, _∙_}
+use mathlib.Core.Bool.{true, false, _&&_}
 use mathlib.Core.List.{List}
 use lib.ListN.{length}
 use lib.Dec.{ltb, leb}
-use borrow.Author.Tests.{lt-ltb, le-ltb, ltb-true, ltb-false, leb-true, not-false}
+use borrow.Author.Tests.{le-ltb, ltb-true, ltb-false, leb-true, not-false}
 use native.Mathlib.Omega.{arith}
-use Rattle.rules.specs.Walk.{first, pick}
-use Rattle.rules.specs.Table.{partitions, cycle, wanted, partsCounted, frameGood, goodPart, goodTick, badPart, badTick, firstBadPart, firstBadTick}
+use Rattle.rules.specs.Table.{partitions, cycle, wanted, partsCounted, frameGood, badPart, badTick, firstBadPart, firstBadTick}
 use Rattle.rules.specs.declared.Refusal.{Refusal}
-use Rattle.rules.specs.declared.Refusal.the-variants.{Limits, Partition, Tick, Shortfall}
-use Rattle.rules.proofs.First.{first-none, first-past, first-before, first-at, first-le}
+use Rattle.rules.specs.declared.Refusal.the-variants.{Limits, Shortfall}
+use Rattle.rules.proofs.First.{first-none, first-past, first-before, first-at}
 use Rattle.rules.proofs.Tests.{pick-first, pick-second, and-parts}
 use Rattle.theory.specs.Plan.{own, held}
 use Rattle.theory.specs.Plan as the-plan

@@ -1,13 +1,12 @@
 -- The order of the checker's refusals, at the numbers that the code holds. Assumes nothing.
 use Prim.Native.Nat.{ℕ, _+_, _≤_, _<_}
 use mathlib.Core.Path.{_≡_}
-use mathlib.Core.Bool.{Bool, true, false, _&&_}
+use mathlib.Core.Bool.{true, false}
 use mathlib.Core.List.{List}
 use lib.ListN.{length}
-use lib.Dec.{ltb}
 use borrow.Author.Tests.{lt-ltb, le-ltb}
 use native.Mathlib.Omega.{arith}
-use Rattle.rules.specs.Walk.{first, pick}
+use Rattle.rules.specs.Walk.{first}
 use Rattle.rules.specs.Table.{partitions, cycle, wanted, partsCounted, frameGood, firstBadPart, firstBadTick}
 use Rattle.rules.specs.declared.Refusal.the-variants.{Limits, Partition, Tick, Shortfall}
 use Rattle.rules.proofs.First.{first-found, first-done}

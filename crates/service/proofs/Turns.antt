@@ -1,24 +1,24 @@
 -- What the count of a stretch does at each turn. Assumes nothing.
-use Prim.Native.Nat.{ℕ, zero, suc, _+_, _%_, _≤_, _<_}
-use mathlib.Core.Path.{_≡_, refl, sym, ap, _∙_}
+use Prim.Native.Nat.{ℕ, zero, suc, _+_, _%_}
+use mathlib.Core.Path.{_≡_, sym, _∙_}
 use mathlib.Core.List.{List}
-use native.Mathlib.Nat.{add-zero, add-assoc, mod-add-mod}
+use native.Mathlib.Nat.{mod-add-mod}
 use native.Mathlib.Numerals.{add-one}
 use native.Mathlib.Omega.{arith}
 use lib.Dec.{eqb}
 use lib.ListN.{length, getD, List·getD-eq-default}
 use Rattle.rules.specs.Walk.{only, sum, count}
-use Rattle.rules.proofs.Sum.{count-zero, count-more, only-add, only-eq, only-ne, only-self}
+use Rattle.rules.proofs.Sum.{only-add, only-eq, only-ne, only-self}
 use Rattle.theory.specs.Plan.{own, owner, ownsFrom, owned, held}
+use Rattle.theory.proofs.Plan.{held-zero, held-more}
 
 pub held-none : (plan : List ℕ) (p s : ℕ) → 0 ≡ held own plan p 0 s
-unfolding owned
-held-none plan p s = sym (count-zero (ownsFrom (owner plan) p s))
+held-none plan p s = sym (held-zero (owner plan) p s)
 
 -- one tick more, at its place in the frame
 pub held-turn : (plan : List ℕ) (p s k at h b : ℕ) → at ≡ (s + k) % length plan → h ≡ held own plan p k s → b ≡ only (eqb (getD plan at 0) p) 1 → h + b ≡ held own plan p (k + 1) s
-unfolding owned ownsFrom owner
-held-turn plan p s k at h b ea eh eb = rw (count-more (λ k. eqb (getD plan ((s + k) % length plan) 0) p) k, eb, eh, ea)
+unfolding ownsFrom owner
+held-turn plan p s k at h b ea eh eb = rw (held-more (owner plan) p k s, eb, eh, ea)
 
 -- the place in the frame one tick later
 pub place-turn : (f s k at r : ℕ) → at ≡ (s + k) % f → r ≡ (at + 1) % f → r ≡ (s + (k + 1)) % f

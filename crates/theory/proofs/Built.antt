@@ -1,5 +1,5 @@
 -- The plan that the harmonic rule writes for a table serves it, and it is refused only where no plan serves. Assumes nothing.
-use mathlib.Core.Path.{_≡_, refl, ap, _∙_, subst}
+use mathlib.Core.Path.{_≡_, ap, _∙_, subst}
 use mathlib.Core.Logic.{_⊎_, inl, inr}
 use mathlib.Core.List.{List}
 use Prim.Native.Nat.{ℕ, zero, suc, _+_, _*_, _/_, _%_, _≤_, _<_}
@@ -7,13 +7,12 @@ use native.Mathlib.Nat.{mul-mod-left}
 use native.Mathlib.Omega.{arith}
 use lib.ListN.{getD}
 use Rattle.rules.proofs.Tests.{good-share}
-use Rattle.rules.specs.Walk.{sum, walk}
+use Rattle.rules.specs.Walk.{sum}
 use Rattle.rules.specs.Table.{cycle, num, den, partitions, wanted, longest}
-use Rattle.rules.proofs.First.{walk-more}
 use Rattle.rules.proofs.Sum.{le-or-lt}
 use Rattle.rules.proofs.Least.{largest-le, largest-is}
 use Rattle.theory.specs.Plan.{service, owned}
-use Rattle.theory.specs.Harmonic.{Harmonic, frame, share, load, rank, taken, giveTo, turn, idle, planned, harmonicPlan}
+use Rattle.theory.specs.Harmonic.{Harmonic, frame, share, load, rank, taken, turn, planned, harmonicPlan}
 use Rattle.theory.specs.Theorems.{GoodParts, HarmonicServes, HarmonicRefused, HarmonicPlanGood}
 use Rattle.theory.proofs.Order.{Sooner, pairs-divide, rank-below, taken-rank, taken-below, taken-sooner, taken-sum}
 use Rattle.theory.proofs.Need.{needed}
@@ -123,13 +122,3 @@ harmonic-refused ps some good har h rule plan s =
 pub harmonic-plan-good : HarmonicPlanGood
 harmonic-plan-good ps some good =
     (ticks-length (planned ps (partitions ps)) (frame ps), frame-pos ps some good, frame-low ps some good, frame-longest ps some good, owner-low ps some good)
-
--- ---- the rule's own steps
-
-pub planned-first : (ps : List ℕ) (t : ℕ) → planned ps 0 t ≡ 0
-unfolding planned walk idle
-planned-first ps t = refl
-
-pub planned-more : (ps : List ℕ) (r t : ℕ) → planned ps (r + 1) t ≡ giveTo ps (taken ps r) (planned ps r) t
-unfolding planned turn
-planned-more ps r t = ap (λ (o : ℕ → ℕ). o t) (walk-more (turn ps) idle r)

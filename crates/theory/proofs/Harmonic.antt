@@ -3,15 +3,13 @@
 use mathlib.Core.Path.{_≡_, refl, sym, ap, ap₂, _∙_, subst}
 use mathlib.Core.Logic.{_⊎_, inl, inr}
 use mathlib.Core.Bool.{Bool, true, false, _&&_}
-use mathlib.Core.List.{List}
 use Prim.Native.Nat.{ℕ, zero, suc, _+_, _-_, _*_, _/_, _%_, _≤_, _<_, min, zero-le}
-use native.Mathlib.Nat.{add-zero, zero-add, suc-mul, add-mod-right, add-mul-mod-self-right, mod-le, mod-add-mod, mod-eq-of-lt, mod-lt, mod-self, le-of-mul-le-mul-right, mul-div-cancel, le-trans, div-add-mod'}
+use native.Mathlib.Nat.{add-zero, zero-add, suc-mul, add-mod-right, mod-le, mod-add-mod, mod-eq-of-lt, mod-lt, mod-self, le-of-mul-le-mul-right, mul-div-cancel, le-trans, div-add-mod'}
 use native.Mathlib.Decide.{ℕ-discrete}
 use native.Mathlib.Omega.{arith}
 use lib.Dec.{eqb, ltb}
 use borrow.Author.Tests.{lt-ltb, le-ltb, eq-eqb, ne-eqb}
 use lib.ListN.{length, getD, List·getD-eq-default}
-use lib.Seq.{ext-getD}
 use Rattle.rules.specs.Walk.{pick, only, sum, count, walk}
 use Rattle.rules.proofs.Sum.{le-or-lt, only-eq, only-ne, only-self, sum-le, sum-eq, sum-first, sum-mono, count-zero, count-more}
 use Rattle.theory.specs.Plan.{owner, own, ownsFrom, owned, held}
@@ -61,15 +59,7 @@ module _ (o : ℕ → ℕ) (m : ℕ) (per : Period o m) where
 
 -- ---- one turn: in each cycle of m, counted from tick 0, the q earliest idle ticks
 
--- the idle ticks seen in a tick's cycle before it, in cycle c at offset i
-pub seen-in : (o : ℕ → ℕ) (m c i : ℕ) → i < m → owned o 0 ((c * m + i) % m) (c * m + i - (c * m + i) % m) ≡ owned o 0 i (c * m)
-seen-in o m c i l =
-    let r : (c * m + i) % m ≡ i =
-    (let e : c * m + i ≡ i + c * m = omega arith in ap (λ (x : ℕ). x % m) e ∙ add-mul-mod-self-right i c m ∙ mod-eq-of-lt l) in
-    let s : c * m + i - i ≡ c * m = omega arith in
-    rw (r, s)
-
--- the same tick by tick: none at a cycle's first tick, and one tick later one more where the tick is idle
+-- the idle ticks seen in a tick's cycle before it: none at a cycle's first tick, and one tick later one more where the tick is idle
 pub seen-first : (o : ℕ → ℕ) (m t : ℕ) → t % m ≡ 0 → owned o 0 (t % m) (t - t % m) ≡ 0
 unfolding owned
 seen-first o m t e = rw e (count-zero (ownsFrom o 0 (t - 0)))
@@ -91,10 +81,6 @@ seen-next o m t pos h = go (le-or-lt m (t % m + 1))
 
 module _ (p q m : ℕ) (o : ℕ → ℕ) where
   -- what a tick becomes, by the number of idle ticks seen before it in its cycle
-  pub give-seen : (c i seen : ℕ) → i < m → seen ≡ owned o 0 i (c * m) → give p q m o (c * m + i) ≡ pick (eqb (o (c * m + i)) 0 && ltb seen q) p (o (c * m + i))
-  unfolding give
-  give-seen c i seen l e = ap (λ (x : ℕ). pick (eqb (o (c * m + i)) 0 && ltb x q) p (o (c * m + i))) (seen-in o m c i l ∙ sym e)
-
   pub give-at : (t seen : ℕ) → seen ≡ owned o 0 (t % m) (t - t % m) → give p q m o t ≡ pick (eqb (o t) 0 && ltb seen q) p (o t)
   unfolding give
   give-at t seen e = ap (λ (x : ℕ). pick (eqb (o t) 0 && ltb x q) p (o t)) (sym e)
@@ -273,10 +259,6 @@ ticks-at o (suc n) (suc t) h = ticks-at (λ k. o (suc k)) n t (omega arith)
 
 pub ticks-past : (o : ℕ → ℕ) (n t : ℕ) → n ≤ t → getD (ticks o n) t 0 ≡ 0
 ticks-past o n t h = List·getD-eq-default (ticks o n) 0 {n = t} (omega (arith, ticks-length o n))
-
--- a list that has them all is they
-pub ticks-are : (o : ℕ → ℕ) (l : List ℕ) → ((t : ℕ) → t < length l → getD l t 0 ≡ o t) → l ≡ ticks o (length l)
-ticks-are o l h = ext-getD 0 l (ticks o (length l)) (sym (ticks-length o (length l))) (λ t k. h t k ∙ sym (ticks-at o (length l) t k))
 
 -- repeated, they are the owner of every tick
 pub ticks-owner : (o : ℕ → ℕ) (H : ℕ) → 0 < H → Period o H → (t : ℕ) → owner (ticks o H) t ≡ o t

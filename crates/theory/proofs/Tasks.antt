@@ -1,18 +1,18 @@
 -- Tasks as an instance of the core: the run theorem, the scheduling points, the verdict's point. Assumes nothing.
 use mathlib.Core.Path.{_≡_, refl, sym, ap, _∙_, subst}
-use mathlib.Core.Logic.{_⊎_, inl, inr, ⊎-elim}
-use mathlib.Core.Bool.{Bool, true, _&&_, _||_}
+use mathlib.Core.Logic.{⊎-elim}
+use mathlib.Core.Bool.{Bool, true, _&&_}
 use mathlib.Core.List.{List}
-use Prim.Native.Nat.{ℕ, suc, _+_, _-_, _*_, _%_, _≤_, _<_}
-use native.Mathlib.Nat.{add-zero, add-assoc, le-antisymm}
+use Prim.Native.Nat.{ℕ, suc, _+_, _*_, _%_, _≤_, _<_}
+use native.Mathlib.Nat.{add-zero, add-assoc}
 use native.Mathlib.Omega.{arith}
 use lib.Dec.{T, eqb, leb, eqb→eq, eqb-refl}
 use lib.ListN.{length}
 use borrow.Author.Tests.{leb-true, le-leb, eq-eqb}
-use Rattle.rules.specs.Walk.{only, first, some, sum, count, roundUp}
+use Rattle.rules.specs.Walk.{only, first, sum, count, roundUp}
 use Rattle.rules.specs.Table.{partition, budget, deadline, period, tasks}
-use Rattle.rules.proofs.First.{first-le, first-at, first-upto, some-at}
-use Rattle.rules.proofs.Sum.{le-or-lt, eq→eqb, sum-eq, count-ext}
+use Rattle.rules.proofs.First.{first-at, first-upto, some-at}
+use Rattle.rules.proofs.Sum.{eq→eqb, sum-eq, count-ext}
 use Rattle.theory.specs.Plan.{Rule, service, ownsFrom, owned, held, least}
 use Rattle.theory.specs.Task.{GoodTasks, rival, asked, demand, Fits, Passes, multiple, point, fits, pointFits, firstPoint}
 use Rattle.theory.specs.Run.{Ran, nothing, job, Before, Runs, Waiting, LegalTo}
@@ -158,11 +158,6 @@ module _ (rule : Rule) (plan ts : List ℕ) (i : ℕ) where
   unfolding firstPoint
   first-holds h = holds-parts (firstPoint rule plan ts i) (first-at (pointFits rule plan ts i) (suc (deadline ts i)) (omega arith))
 
-  -- a first point past D is the number behind it
-  pub first-fails : deadline ts i < firstPoint rule plan ts i → firstPoint rule plan ts i ≡ suc (deadline ts i)
-  unfolding firstPoint
-  first-fails h = le-antisymm (first-le (pointFits rule plan ts i) (suc (deadline ts i))) h
-
   -- a point that holds is a pass
   pub point-passes : firstPoint rule plan ts i ≤ deadline ts i → Passes rule plan ts i
   point-passes h =
@@ -181,13 +176,6 @@ module _ (rule : Rule) (plan ts : List ℕ) (i : ℕ) where
     -- the other way round: a first point past D is a fail, and a fail has none up to D
     pub point-fails : deadline ts i < firstPoint rule plan ts i → ¬ Passes rule plan ts i
     point-fails h pass = omega (arith, passes-point pass)
-
-  pub fails-point : ¬ Passes rule plan ts i → deadline ts i < firstPoint rule plan ts i
-  fails-point fail = go (le-or-lt (firstPoint rule plan ts i) (deadline ts i))
-    where
-      go : (firstPoint rule plan ts i ≤ deadline ts i) ⊎ (deadline ts i < firstPoint rule plan ts i) → deadline ts i < firstPoint rule plan ts i
-      go (inl h) = absurd (fail (point-passes h))
-      go (inr h) = h
 
 pub points-enough : PointsEnough
 points-enough rule plan ts parts good i inside = (passes-point rule plan ts i parts good inside, point-passes rule plan ts i)

@@ -1,16 +1,15 @@
 -- What is proved of the definitions: each statement is a type, and its proof is a term of it in proofs/. Assumes nothing.
 use mathlib.Core.Path.{_≡_}
 use mathlib.Core.Logic.{_⊎_, _↔_}
-use mathlib.Core.Bool.{Bool, true, false}
+use mathlib.Core.Bool.{Bool, true}
 use mathlib.Core.List.{List}
-use Prim.Native.Nat.{ℕ, suc, _+_, _-_, _*_, _%_, _≤_, _<_}
+use Prim.Native.Nat.{ℕ, suc, _+_, _*_, _≤_, _<_}
 use lib.Dec.{T}
 use lib.ListN.{length, getD}
-use Rattle.rules.specs.Walk.{roundUp}
-use Rattle.rules.specs.Table.{cycle, num, den, partitions, wants, goodShare, goodPart, longest, partition, deadline, tasks}
+use Rattle.rules.specs.Table.{cycle, partitions, wants, goodShare, goodPart, longest, partition, deadline, tasks}
 use Rattle.theory.specs.Plan.{Rule, own, owner, held, least, Serves}
 use Rattle.theory.specs.Harmonic.{Harmonic, pairs, frame, load, rank, taken, harmonicPlan}
-use Rattle.theory.specs.Task.{GoodTasks, Passes, Fits, point, pointFits, firstPoint}
+use Rattle.theory.specs.Task.{GoodTasks, Passes, Fits, point, firstPoint}
 use Rattle.theory.specs.Run.{Ran, done, Releases, LegalTo, Legal}
 use Rattle.theory.specs.Core.{Load, demandOf, PassesOn, PointOf, LowerBound, Brings, Queue}
 

@@ -5,13 +5,12 @@ use mathlib.Core.Bool.{Bool, true, false, _&&_, _||_, not}
 use mathlib.Core.List.{List, [], _∷_, _++_, append-nil}
 use native.Mathlib.Omega.{arith}
 use lib.ListN.{length, getD, take, replicate, length-append, length-replicate}
-use lib.Seq.{take-all}
-use lib.Dec.{ltb, leb, eqb}
+use lib.Dec.{leb, eqb}
 use borrow.Author.Tests.{le-leb, leb-true, eq-eqb, eqb-true, eqb-false, ne-eqb, lt-ltb, not-false, not-true}
-use Rattle.rules.specs.Walk.{pick, first, sum}
+use Rattle.rules.specs.Walk.{pick, sum}
 use Rattle.rules.specs.Table.{countedIn, badTick, firstBadTick}
 use Rattle.rules.proofs.First.{first-all, first-none, first-past}
-use Rattle.rules.proofs.Sum.{sum-more, sum-mono}
+use Rattle.rules.proofs.Sum.{sum-mono}
 use Rattle.planfile.specs.Runs.{runOwner, runLength, runs, repeats, goodRun, badRun, firstBadRun}
 use Rattle.planfile.proofs.Limits.{and-true}
 use Rattle.ticks.specs.Ticks.{ticksOf, joined, runsOf}

@@ -1,21 +1,20 @@
 -- Every promise of specs/Theorems.antt, proved. Assumes nothing.
-use Prim.Native.Nat.{ℕ, _+_, _*_, _≤_}
-use mathlib.Core.Path.{_≡_, refl, sym, ap, _∙_}
-use mathlib.Core.Bool.{true}
-use mathlib.Core.List.{List, _++_}
+use Prim.Native.Nat.{ℕ, _*_, _≤_}
+use mathlib.Core.Path.{_≡_, sym, _∙_}
+use mathlib.Core.List.{List}
 use native.Mathlib.Omega.{arith}
-use lib.ListN.{length, drop}
+use lib.ListN.{length}
 use lib.Dec.{leb}
 use borrow.Author.Tests.{leb-true}
-use Rattle.rules.specs.Table.{longest, frameGood, firstBadTick}
+use Rattle.rules.specs.Table.{longest, frameGood}
 use Rattle.planfile.specs.declared.Reading.the-variants.{Contents}
 use Rattle.planfile.specs.declared.Body.the-variants.{Runs}
-use Rattle.planfile.specs.Reader.{partsAt, tasksAt, runsAt, sizeOf, partsIn, tasksIn, runsIn, readOf, sectionOf, tableOf}
+use Rattle.planfile.specs.Reader.{runsAt, sizeOf, runsIn, readOf, sectionOf, tableOf}
 use Rattle.planfile.specs.Runs.{runs, firstBadRun}
 use Rattle.planfile.proofs.Limits.{and-true, within}
 use Rattle.planfile.proofs.Reader.{accepted, parts-are, part-nums}
 use Rattle.ticks.specs.Put.{Put}
-use Rattle.ticks.specs.Ticks.{ticksOf, runsOf, ticksPut}
+use Rattle.ticks.specs.Ticks.{ticksOf}
 use Rattle.ticks.specs.Theorems.{RunsBack, FileTicks, TicksLeft, RunsGood, Proved}
 use Rattle.ticks.proofs.Put.{put-front}
 use Rattle.ticks.proofs.Ticks.{ticks-some, ticks-back}

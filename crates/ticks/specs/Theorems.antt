@@ -10,7 +10,7 @@ use Rattle.planfile.specs.declared.Body.the-variants.{Runs}
 use Rattle.planfile.specs.Runs.{runWidth, runs, firstBadRun}
 use Rattle.planfile.specs.Reader.{readOf, tableOf}
 use Rattle.ticks.specs.Put.{Put}
-use Rattle.ticks.specs.Ticks.{ticksOf, runsOf, ticksPut, runsPut}
+use Rattle.ticks.specs.Ticks.{ticksOf, runsOf, ticksPut}
 
 -- the ticks of the runs of a plan are the plan
 abbrev pub TicksBack : Type 0

@@ -1,26 +1,24 @@
 -- What the verdict's answers mean. Assumes nothing.
-use Prim.Native.Nat.{ℕ, suc, _+_, _-_, _≤_, _<_}
-use mathlib.Core.Path.{_≡_, refl, sym, ap, _∙_, subst}
-use mathlib.Core.Logic.{_⊎_, inl, inr, _↔_}
-use mathlib.Core.Bool.{Bool, true, false, _&&_, not}
+use Prim.Native.Nat.{ℕ, _-_, _≤_, _<_}
+use mathlib.Core.Path.{_≡_, refl, sym, _∙_}
+use mathlib.Core.Bool.{Bool, true, false, _&&_}
 use mathlib.Core.List.{List}
 use native.Mathlib.Omega.{arith}
 use lib.Dec.{leb, ltb}
 use lib.ListN.{length}
 use borrow.Author.Tests.{le-ltb, le-leb, lt-leb, ltb-false, leb-true, leb-false, not-false}
-use Rattle.rules.specs.Walk.{first, pick}
-use Rattle.rules.specs.Table.{partitions, tasks, deadline, partsCounted, tasksCounted, frameGood, goodTask, badTask, badPart, firstBadPart, firstBadTask}
+use Rattle.rules.specs.Walk.{pick}
+use Rattle.rules.specs.Table.{partitions, tasks, deadline, partsCounted, tasksCounted, frameGood, badTask, badPart, firstBadPart, firstBadTask}
 use Rattle.rules.specs.declared.Refusal.{Refusal}
-use Rattle.rules.specs.declared.Refusal.the-variants.{Limits, Partition, Task}
+use Rattle.rules.specs.declared.Refusal.the-variants.{Limits}
 use Rattle.rules.proofs.First.{first-none, first-past}
 use Rattle.rules.proofs.Tests.{pick-first, pick-second, and-parts}
 use Rattle.theory.specs.Plan.{own}
-use Rattle.theory.specs.Task.{GoodTasks, Passes, firstPoint}
-use Rattle.theory.proofs.Tasks.{points-enough, point-smallest, point-passes, point-fails, run-theorem, endless-theorem}
+use Rattle.theory.specs.Task.{Passes, firstPoint}
+use Rattle.theory.proofs.Tasks.{points-enough, point-smallest, point-passes, run-theorem, endless-theorem}
 use Rattle.service.specs.declared.Checked.{Checked}
 use Rattle.service.specs.declared.Checked.the-variants as checked
 use Rattle.service.specs.Check.{planOf, checkOf}
-use Rattle.service.specs.Theorems.{GoodTables}
 use Rattle.service.proofs.Answers.{check-serves, frame-some}
 use Rattle.verdict.specs.declared.Judged.{Judged}
 use Rattle.verdict.specs.declared.Judged.the-variants.{Pass, Fail, Refused}
@@ -71,7 +69,7 @@ module _ (plan ps ts : List ℕ) (place : ℕ) where
       pick-second (ltb (firstBadPart (length plan) ps) (partitions ps)) _ _ checked.Serves (λ q. let z : _≡_ {A = ℕ} 0 1 = cc in absurd (omega arith)) (a .1) .1
 
   -- and from there the task's own answer is given
-  answer : Answered plan ps ts place → verdictOf plan ps ts place ≡ taskOf plan ts (place - 1)
+  pub answer : Answered plan ps ts place → verdictOf plan ps ts place ≡ taskOf plan ts (place - 1)
   unfolding verdictOf placeOf inside badPart badTask
   answer a =
       let g = check-serves plan ps .0 (a .accepted) .0 in

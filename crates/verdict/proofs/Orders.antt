@@ -1,21 +1,20 @@
 -- The order of the verdict's refusals, at the numbers that the code holds. Assumes nothing.
-use Prim.Native.Nat.{ℕ, _+_, _-_, _/_, _%_, _≤_, _<_}
+use Prim.Native.Nat.{ℕ, _+_, _-_, _%_, _≤_, _<_}
 use mathlib.Core.Path.{_≡_}
-use mathlib.Core.Bool.{Bool, true, false, _&&_}
+use mathlib.Core.Bool.{true, false, _&&_}
 use mathlib.Core.List.{List}
 use lib.ListN.{length}
-use lib.Dec.{ltb, leb, eqb}
+use lib.Dec.{leb, eqb}
 use borrow.Author.Tests.{lt-ltb, le-ltb, lt-leb, le-leb, leb-true}
 use Rattle.rules.specs.Table.{partitions, tasks, taskWidth, partsCounted, tasksCounted, countedIn, frameGood, firstBadPart, firstBadTask}
 use Rattle.rules.specs.declared.Refusal.{Refusal}
 use Rattle.rules.specs.declared.Refusal.the-variants.{Limits, Partition, Task}
 use Rattle.rules.proofs.Tests.{and-parts}
-use Rattle.service.specs.declared.Checked.{Checked}
 use Rattle.service.specs.declared.Checked.the-variants as checked
 use Rattle.service.specs.Check.{planOf}
 use Rattle.verdict.specs.declared.Judged.{Judged}
 use Rattle.verdict.specs.declared.Judged.the-variants.{Refused}
-use Rattle.verdict.specs.Verdict.{taskOf, after, inside, placeOf, verdictOf}
+use Rattle.verdict.specs.Verdict.{taskOf, inside, placeOf, verdictOf}
 
 pub counted-few : (ts : List ℕ) → tasksCounted ts ≡ true → tasks ts ≤ 128
 unfolding countedIn

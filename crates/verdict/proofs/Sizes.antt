@@ -1,13 +1,12 @@
 -- Bounds, and what a higher task adds. Assumes nothing.
-use Prim.Native.Nat.{ℕ, suc, _+_, _-_, _*_, _/_, _%_, _≤_, _<_}
-use mathlib.Core.Path.{_≡_, refl, sym, ap, _∙_}
-use mathlib.Core.Bool.{Bool, true, false, _&&_}
+use Prim.Native.Nat.{ℕ, suc, _+_, _-_, _*_, _%_, _≤_, _<_}
+use mathlib.Core.Path.{_≡_, sym, _∙_}
+use mathlib.Core.Bool.{Bool, true, false}
 use mathlib.Core.List.{List}
 use native.Mathlib.Nat.{mul-le-mul, mul-le-mul-left, mul-one, div-zero}
 use native.Mathlib.Omega.{arith}
 use lib.Dec.{eqb}
-use borrow.Author.Tests.{eq-eqb}
-use Rattle.rules.specs.Walk.{only, first, roundUp}
+use Rattle.rules.specs.Walk.{first, roundUp}
 use Rattle.rules.specs.Table.{budget, deadline, period}
 use Rattle.rules.proofs.First.{first-found, first-done}
 use Rattle.rules.proofs.Round.{round-least}

@@ -141,7 +141,7 @@ fn first_point(plan: &[u16], tasks: &[u16], i: usize) -> usize
 }
 
 // The answer for task i, counted from 0.
-fn task(plan: &[u16], tasks: &[u16], i: usize) -> Judged
+pub fn task(plan: &[u16], tasks: &[u16], i: usize) -> Judged
     requires { ⌜ i ≤ 128 ⌝ }
     ensures { λ r. ⌜ r ≡ taskOf (now (plan .entry)) (now (tasks .entry)) i ⌝ }
 {

@@ -4,9 +4,10 @@ use crate::answer::Answer;
 use crate::records::{self, Partition};
 
 /// The ticks of partition p in the n ticks of the repeated plan from tick s on.
+/// Of an empty plan every tick is idle.
 pub fn held(plan: &[u16], p: u16, s: u32, n: u32) -> u64 {
     if plan.is_empty() {
-        return 0;
+        return if p == 0 { u64::from(n) } else { 0 };
     }
     count(plan, p, s as usize % plan.len(), u64::from(n))
 }
@@ -32,13 +33,14 @@ fn count(plan: &[u16], p: u16, start: usize, n: u64) -> u64 {
 pub fn least(plan: &[u16], p: u16, t: u32) -> u64 {
     let starts = 0..plan.len();
     let counts = starts.map(|start| count(plan, p, start, u64::from(t)));
-    counts.min().unwrap_or(0)
+    counts.min().unwrap_or(held(plan, p, 0, t))
 }
 
 /// least(0), least(1), ... up to `longest`, walking on from each start once.
 pub fn least_up_to(plan: &[u16], p: u16, longest: usize) -> Vec<u64> {
     if plan.is_empty() {
-        return vec![0; longest + 1];
+        let each = (0..=longest).map(|t| least(plan, p, t as u32));
+        return each.collect();
     }
     let mut least: Vec<u64> = (0..=longest as u64).collect();
     for start in 0..plan.len() {
@@ -99,9 +101,10 @@ mod tests {
         for _ in 0..2000 {
             let ticks = rng.between(0, 9);
             let plan = plans::scattered(&mut rng, ticks, 2);
-            let walked = least_up_to(&plan, 1, 30);
+            let p = rng.pick(&[0, 1, 3]);
+            let walked = least_up_to(&plan, p, 30);
             for (t, &smallest) in walked.iter().enumerate() {
-                assert_eq!(smallest, least(&plan, 1, t as u32), "{plan:?} {t}");
+                assert_eq!(smallest, least(&plan, p, t as u32), "{plan:?} {p} {t}");
             }
         }
     }
@@ -110,6 +113,11 @@ mod tests {
     fn a_start_may_lie_past_the_frame() {
         assert_eq!(held(&[1, 0, 0], 1, u32::MAX, 4), 2);
         assert_eq!(held(&[1, 0, 0], 1, 2, 2), 1);
-        assert_eq!(held(&[], 0, 2, 2), 0);
+    }
+
+    #[test]
+    fn an_empty_plan_is_idle() {
+        assert_eq!((held(&[], 0, 2, 5), held(&[], 1, 2, 5)), (5, 0));
+        assert_eq!((least(&[], 0, 5), least(&[], 1, 5)), (5, 0));
     }
 }

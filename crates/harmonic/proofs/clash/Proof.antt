@@ -1,5 +1,5 @@
-use mathlib.Core.Path.{_≡_, sym, ap, _∙_}
-use mathlib.Core.Bool.{not, true, false}
+use mathlib.Core.Path.{sym, ap, _∙_}
+use mathlib.Core.Bool.{not}
 use Rattle.theory.specs.Harmonic.{pairs}
 use Rattle.harmonic.specs.Build.{clash}
 use borrow.Author.Needs.{needs}

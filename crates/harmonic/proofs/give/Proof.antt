@@ -1,5 +1,4 @@
 use Prim.Native.Nat.{_-_, _≤_}
-use mathlib.Core.Path.{_≡_}
 use Rattle.harmonic.proofs.Passes.{Giving, giving-none, giving-turn, written-end}
 use borrow.Author.Needs.{needs}
 use Rattle.harmonic.proofs.give.Statement.{statement}

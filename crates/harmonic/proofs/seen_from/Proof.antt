@@ -1,5 +1,4 @@
 use borrow.Author.Tests.{eq-eqb, ne-eqb}
-use borrow.Author.Needs.{needs}
 use Rattle.harmonic.proofs.seen_from.Statement.{statement}
 use Rattle.harmonic.proofs.seen_from.Tie as tie
 

@@ -1,11 +1,10 @@
 use mathlib.Core.Path.{_≡_, sym, _∙_}
-use Prim.Native.Nat.{_≤_, _-_, _*_, _/_}
-use lib.ListN.{length}
+use Prim.Native.Nat.{_≤_, _-_, _*_}
 use native.Mathlib.Omega.{arith}
 use Rattle.rules.specs.Walk.{first, sum}
 use Rattle.rules.proofs.First.{first-zero, first-more, first-found, first-done}
 use Rattle.rules.proofs.Sum.{sum-zero}
-use Rattle.planfile.specs.Runs.{runLength, runs, badRun}
+use Rattle.planfile.specs.Runs.{runLength, badRun}
 use Rattle.planfile.proofs.Runs.{total-more}
 use borrow.Author.Needs.{needs}
 use Rattle.planfile.proofs.first_bad_run.Statement.{statement}
@@ -33,7 +32,7 @@ bad-run-requires : tie.Need-bad-run-requires Inv-loop μ-loop
 bad-run-requires c κs = (search needs, omega arith, total-more (c .before .before .before .before .before .args .table .now) _ _ _ (c .before .before .before .loop .inv .2) (c .wide .ensures ∙ c .before .run-field .ensures))
 
 returns : tie.Need-returns Inv-loop μ-loop
-returns c = sym (first-found _ _ _ (omega arith) (c .before .before .before .before .before .loop .inv .1) (cc))
+returns c = sym (first-found _ _ _ (omega arith) (c .before .before .before .before .before .loop .inv .1) (sym (c .before .bad-run .ensures) ∙ c .if1 .taken))
 
 add-k : tie.Need-add-k Inv-loop μ-loop
 add-k c = search needs
@@ -42,7 +41,7 @@ loop-less : tie.Need-loop-less Inv-loop μ-loop
 loop-less c = search needs
 
 loop-again : tie.Need-loop-again Inv-loop μ-loop
-loop-again c = (search needs, first-more _ _ (c .before .before .before .before .before .loop .inv .1) (cc), total-more (c .before .before .before .before .before .before .before .args .table .now) _ _ _ (c .before .before .before .before .before .loop .inv .2) (c .before .before .wide .ensures ∙ c .before .before .before .run-field .ensures), search needs)
+loop-again c = (search needs, first-more _ _ (c .before .before .before .before .before .loop .inv .1) (sym (c .before .bad-run .ensures) ∙ c .if1 .left), total-more (c .before .before .before .before .before .before .before .args .table .now) _ _ _ (c .before .before .before .before .before .loop .inv .2) (c .before .before .wide .ensures ∙ c .before .before .before .run-field .ensures), search needs)
 
 returns-2 : tie.Need-returns-2 Inv-loop μ-loop
 returns-2 c = (sym (first-done _ _ _ (c .before .loop .inv .0) (search needs) (c .before .loop .inv .1)))

@@ -1,6 +1,5 @@
-use borrow.Author.Tests.{lt-ltb, le-ltb, lt-leb, le-leb, eq-eqb, ne-eqb, not-true, not-false}
+use borrow.Author.Tests.{lt-leb, le-leb}
 use Rattle.planfile.specs.Runs.{goodRun}
-use borrow.Author.Needs.{needs}
 use Rattle.planfile.proofs.good_run.Statement.{statement}
 use Rattle.planfile.proofs.good_run.Tie as tie
 

@@ -1,4 +1,4 @@
-use mathlib.Core.Path.{_≡_, refl, sym, _∙_}
+use mathlib.Core.Path.{_≡_, refl}
 use Prim.Native.Nat.{_≤_, _-_, _/_, min}
 use native.Mathlib.Omega.{arith}
 use lib.ListN.{length, length-set}

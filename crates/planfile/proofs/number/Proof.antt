@@ -1,5 +1,4 @@
 use mathlib.Core.Path.{sym}
-use native.Mathlib.Omega.{arith}
 use lib.ListN.{List·getD-eq-default}
 use Rattle.planfile.specs.Bytes.{numsOf}
 use Rattle.planfile.proofs.Bytes.{numsOf-at, numsOf-length}

@@ -1,4 +1,4 @@
-use borrow.Author.Tests.{lt-ltb, le-ltb, lt-leb, le-leb, eq-eqb, ne-eqb, not-true, not-false}
+use borrow.Author.Tests.{eq-eqb, ne-eqb}
 use Rattle.planfile.specs.Reader.{offsetsRight}
 use borrow.Author.Needs.{needs}
 use Rattle.planfile.proofs.offsets_right.Statement.{statement}

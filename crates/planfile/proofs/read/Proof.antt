@@ -1,4 +1,4 @@
-use mathlib.Core.Path.{_≡_, sym, _∙_}
+use mathlib.Core.Path.{sym, _∙_}
 use borrow.Author.Tests.{not-true, not-false}
 use Rattle.planfile.proofs.Reader.{read-1, read-2, read-3, read-4, read-5, read-rest}
 use borrow.Author.Needs.{needs}

@@ -1,5 +1,5 @@
 use Prim.Native.Nat.{_≤_, _<_}
-use borrow.Author.Tests.{lt-ltb, le-ltb, lt-leb, le-leb, eq-eqb, ne-eqb, not-true, not-false}
+use borrow.Author.Tests.{lt-ltb, le-ltb}
 use Rattle.planfile.specs.Runs.{repeats, runOwner}
 use native.Mathlib.Omega.{arith}
 use borrow.Author.Needs.{needs}

@@ -1,4 +1,4 @@
-use mathlib.Core.Path.{_≡_, sym, _∙_}
+use mathlib.Core.Path.{sym, _∙_}
 use Rattle.planfile.proofs.Limits.{within}
 use Rattle.planfile.proofs.Reader.{accepted}
 use borrow.Author.Needs.{needs}

@@ -1,5 +1,4 @@
-use mathlib.Core.Path.{_≡_, sym, _∙_}
-use borrow.Author.Tests.{lt-ltb, le-ltb, lt-leb, le-leb, eq-eqb, ne-eqb, not-true, not-false}
+use borrow.Author.Tests.{not-true, not-false}
 use Rattle.planfile.specs.Reader.{withinLimits}
 use borrow.Author.Needs.{needs}
 use Rattle.planfile.proofs.within_limits.Statement.{statement}

@@ -1,4 +1,4 @@
-use mathlib.Core.Path.{_≡_, sym, _∙_}
+use mathlib.Core.Path.{sym, _∙_}
 use Rattle.planfile.proofs.Writer.{ready, left-none, left-all}
 use borrow.Author.Needs.{needs}
 use Rattle.planfile.proofs.write.Statement.{statement}

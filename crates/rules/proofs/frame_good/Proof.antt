@@ -1,6 +1,5 @@
 use borrow.Author.Tests.{lt-leb, le-leb}
 use Rattle.rules.specs.Table.{frameGood}
-use borrow.Author.Needs.{needs}
 use Rattle.rules.proofs.frame_good.Statement.{statement}
 use Rattle.rules.proofs.frame_good.Tie as tie
 

@@ -1,6 +1,5 @@
 use borrow.Author.Tests.{lt-leb, le-leb}
 use Rattle.rules.specs.Table.{goodShare}
-use borrow.Author.Needs.{needs}
 use Rattle.rules.proofs.good_share.Statement.{statement}
 use Rattle.rules.proofs.good_share.Tie as tie
 

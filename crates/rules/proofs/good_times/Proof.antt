@@ -1,6 +1,5 @@
 use borrow.Author.Tests.{lt-leb, le-leb}
 use Rattle.rules.specs.Table.{goodTimes}
-use borrow.Author.Needs.{needs}
 use Rattle.rules.proofs.good_times.Statement.{statement}
 use Rattle.rules.proofs.good_times.Tie as tie
 

@@ -1,7 +1,7 @@
 use mathlib.Core.Path.{sym}
 use native.Mathlib.Nat.{div-zero, mul-le-mul}
 use native.Mathlib.Omega.{arith}
-use Prim.Native.Nat.{ℕ, _*_, _≤_, _<_}
+use Prim.Native.Nat.{ℕ, _*_, _≤_}
 use Rattle.rules.specs.Walk.{roundUp}
 use Rattle.rules.specs.Table.{wants}
 use borrow.Author.Needs.{needs}

@@ -1,8 +1,7 @@
 use Rattle.ticks.proofs.Put.{put-one, and-then}
 use Rattle.text.proofs.Decimal.{decimal-one, decimal-more, decimal-length}
 use mathlib.Core.Path.{_≡_}
-use Prim.Native.Nat.{_+_, _/_, _%_}
-use mathlib.Core.List.{[], _∷_}
+use Prim.Native.Nat.{_/_}
 use native.Mathlib.Omega.{arith}
 use borrow.Author.Needs.{needs}
 use Prim.Native.Nat.{ℕ, _<_}

@@ -1,4 +1,3 @@
-use mathlib.Core.Path.{_≡_, refl, sym, _∙_}
 use Rattle.ticks.proofs.Put.{put-one, and-then}
 use borrow.Author.Needs.{needs}
 use Rattle.ticks.proofs.put_run.Statement.{statement}

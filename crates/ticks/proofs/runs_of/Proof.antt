@@ -1,7 +1,6 @@
 use mathlib.Core.List.{_++_}
-use mathlib.Core.Path.{_≡_, refl, sym, _∙_}
-use Prim.Native.Nat.{_≤_, _<_, _-_, _+_, _*_, _/_}
-use native.Mathlib.Omega.{arith}
+use mathlib.Core.Path.{_≡_, refl}
+use Prim.Native.Nat.{_≤_, _-_, _*_}
 use lib.ListN.{length, drop, replicate}
 use Rattle.ticks.specs.Ticks.{runsOf}
 use Rattle.ticks.proofs.Put.{Rest, put-none, rest-all}

@@ -1,0 +1,4 @@
+pub mod Scan
+pub mod Plan
+pub mod Lent
+pub mod Theorems

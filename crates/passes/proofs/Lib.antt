@@ -1,0 +1,4 @@
+pub mod Up
+pub mod Passes
+pub mod Tied
+pub mod Tables

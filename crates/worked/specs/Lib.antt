@@ -1,0 +1,2 @@
+pub mod Document01
+pub mod Demands

@@ -1,0 +1,1 @@
+// The worked examples of document 01, and the three demands, stated over the entries. No code.
