@@ -10,7 +10,7 @@ use lib.Dec.{ltb}
 use borrow.Author.Tests.{lt-ltb, le-ltb, ltb-false}
 use Rattle.rules.specs.Walk.{pick}
 use Rattle.rules.proofs.Sum.{le-or-lt}
-use Rattle.text.specs.Decimal.{digits, decimal}
+use Rattle.text.specs.Decimal.{digits, decimal, value}
 
 digits-fuel : (f g n : ℕ) → n ≤ f → n ≤ g → digits f n ≡ digits g n
 unfolding digits
@@ -55,11 +55,7 @@ decimal-length n h = decimal-below 19 n (omega arith)
 
 -- THE DIGITS SAY THE NUMBER, AND THE FIRST OF SEVERAL IS NO 0
 
-unfoldable pub value : List ℕ → ℕ → ℕ
-value [] v = v
-value (d ∷ ds) v = value ds (v * 10 + (d - 48))
-
-value-append : (a b : List ℕ) (v : ℕ) → value (a ++ b) v ≡ value b (value a v)
+pub value-append : (a b : List ℕ) (v : ℕ) → value (a ++ b) v ≡ value b (value a v)
 unfolding value
 value-append [] b v = refl
 value-append (d ∷ a) b v = value-append a b (v * 10 + (d - 48))

@@ -1,5 +1,5 @@
 -- "numbers printed in decimal without leading zeros". Assumes nothing.
-use Prim.Native.Nat.{ℕ, zero, suc, _+_, _/_, _%_}
+use Prim.Native.Nat.{ℕ, zero, suc, _+_, _-_, _*_, _/_, _%_}
 use mathlib.Core.List.{List, [], _∷_, _++_}
 use lib.Dec.{ltb}
 use Rattle.rules.specs.Walk.{pick}
@@ -12,3 +12,8 @@ digits (suc fuel) n = pick (ltb n 10) ((48 + n) ∷ []) (digits fuel (n / 10) ++
 -- n has no more than n + 1 digits
 unfoldable pub decimal : ℕ → List ℕ
 decimal n = digits n n
+
+-- what digits say, read behind v: each makes it ten times as much, and adds itself
+unfoldable pub value : List ℕ → ℕ → ℕ
+value [] v = v
+value (d ∷ ds) v = value ds (v * 10 + (d - 48))

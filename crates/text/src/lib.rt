@@ -52,7 +52,7 @@ pub fn put_text(out: &mut [u8], at: usize, text: &[u8]) -> usize
 }
 
 // A text, and a number behind it.
-fn put_field(out: &mut [u8], at: usize, text: &[u8], n: usize) -> usize
+pub fn put_field(out: &mut [u8], at: usize, text: &[u8], n: usize) -> usize
     requires { ⌜ (at < 2 ^ 50) × (length (now text) < 2 ^ 32) ⌝ }
     ensures { λ r. ⌜ Put (now (out .entry)) at (now (text .entry) ++ decimal n) r (now (out .exit)) × (r ≤ at + length (now (text .entry)) + 20) ⌝ }
 {

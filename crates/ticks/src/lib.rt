@@ -10,7 +10,7 @@ ghost use Rattle.ticks.specs.Put.{Put};
 ghost use Rattle.ticks.specs.Ticks.{ticksPut, runsPut};
 
 // One number, where there is room for it; and the next place.
-fn put_one(out: &mut [u16], at: usize, x: u16) -> usize
+pub fn put_one(out: &mut [u16], at: usize, x: u16) -> usize
     requires { ⌜ at < 2 ^ 62 ⌝ }
     ensures { λ r. ⌜ (r ≡ at + 1) × (now (out .exit) ≡ set (now (out .entry)) at x) ⌝ }
 {

@@ -1,0 +1,11 @@
+// Reads a share table from standard input and writes its plan file, or one line that says why there is none.
+use libc::STDOUT_FILENO;
+
+fn main() {
+    // One byte more than a text may have, so that a longer one is seen.
+    let mut text = [0u8; 65537];
+    let n = io::read_full(0, &mut text);
+    let mut out = [0u8; 17520];
+    let k = planner::plan(&text[..n], &mut out);
+    io::write_all(STDOUT_FILENO, &out[..k]);
+}

@@ -1,0 +1,22 @@
+use borrow.Author.Needs.{needs}
+use Rattle.planner.proofs.put_refusal.Statement.{statement}
+use Rattle.planner.proofs.put_refusal.Tie as tie
+use Rattle.planner.proofs.put_refusal.Reads as reads
+use Rattle.planner.proofs.put_refusal.Lts as lts
+use Rattle.rules.proofs.tell.Reads as tell-reads
+use Rattle.text.proofs.put_refused.Reads as put-refused-reads
+
+tell-requires : tie.Need-tell-requires
+tell-requires c κs = search needs
+
+put-refused-requires : tie.Need-put-refused-requires
+put-refused-requires c κs = search needs
+
+same-length : tie.Need-same-length
+same-length c = search needs
+
+returns : tie.Need-returns
+returns c = (rw (← c .before .before .before .before .tell .ensures) (c .before .before .put-refused .ensures .0), search needs)
+
+pub put-refusal-spec : {M : Type 1} → statement M
+put-refusal-spec = tie.close (tie.spec tell-requires put-refused-requires same-length returns)

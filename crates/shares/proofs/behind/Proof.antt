@@ -1,0 +1,50 @@
+use mathlib.Core.Path.{_≡_, sym, _∙_, refl}
+use Rattle.shares.proofs.Words.{rest-is}
+use borrow.Author.Needs.{needs}
+use Rattle.shares.proofs.behind.Statement.{statement}
+use Rattle.shares.proofs.behind.Tie as tie
+use Rattle.shares.proofs.behind.Reads as reads
+use Rattle.shares.proofs.behind.Lts as lts
+use Rattle.shares.proofs.find.Reads as find-reads
+use Rattle.shares.proofs.width.Reads as width-reads
+
+find-requires : tie.Need-find-requires
+find-requires c κs = search needs
+
+sub-t : tie.Need-sub-t
+sub-t c = search needs
+
+part-t-start : tie.Need-part-t-start
+part-t-start c = search needs
+
+part-t-end : tie.Need-part-t-end
+part-t-end c = search needs
+
+width-requires : tie.Need-width-requires
+width-requires c κs = search needs
+
+sub-result : tie.Need-sub-result
+sub-result c = search needs
+
+part-result-start : tie.Need-part-result-start
+part-result-start c = search needs
+
+part-result-end : tie.Need-part-result-end
+part-result-end c = search needs
+
+returns : tie.Need-returns
+returns c = rest-is (c .before .before .before .before .before .args .l .now) _ (c .before .before .before .find .result) (c .before .width .result) refl (c .before .before .before .find .ensures .1) (c .before .width .ensures .1)
+
+pub behind-spec : {M : Type 1} → statement M
+behind-spec =
+    tie.close
+    (tie.spec
+    find-requires
+    sub-t
+    part-t-start
+    part-t-end
+    width-requires
+    sub-result
+    part-result-start
+    part-result-end
+    returns)

@@ -1,0 +1,18 @@
+use borrow.Author.Needs.{needs}
+use Rattle.shares.proofs.ends_word.Statement.{statement}
+use Rattle.shares.proofs.ends_word.Tie as tie
+use Rattle.shares.proofs.ends_word.Reads as reads
+use Rattle.shares.proofs.ends_word.Lts as lts
+use Rattle.shares.proofs.is_blank.Reads as is-blank-reads
+
+is-blank-requires : tie.Need-is-blank-requires
+is-blank-requires c κs = search needs
+
+returns : tie.Need-returns
+returns c = rw (← c .before .is-blank .ensures, c .if1 .taken)
+
+returns-2 : tie.Need-returns-2
+returns-2 c = rw (← c .before .is-blank .ensures, c .if1 .left)
+
+pub ends-word-spec : {M : Type 1} → statement M
+ends-word-spec = tie.close (tie.spec is-blank-requires returns returns-2)

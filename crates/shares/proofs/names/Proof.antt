@@ -1,0 +1,19 @@
+use borrow.Author.Needs.{needs}
+use Rattle.shares.proofs.names.Statement.{statement}
+use Rattle.shares.proofs.names.Tie as tie
+use Rattle.shares.proofs.names.Reads as reads
+use Rattle.shares.proofs.names.Lts as lts
+use Rattle.shares.proofs.same.Reads as same-reads
+use Rattle.shares.proofs.word.Reads as word-reads
+
+word-requires : tie.Need-word-requires
+word-requires c κs = search needs
+
+same-requires : tie.Need-same-requires
+same-requires c κs = search needs
+
+returns : tie.Need-returns
+returns c = rw (← c .before .word .ensures) (c .same .ensures)
+
+pub names-spec : {M : Type 1} → statement M
+names-spec = tie.close (tie.spec word-requires same-requires returns)
