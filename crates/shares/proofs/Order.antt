@@ -12,9 +12,9 @@ use Rattle.shares.proofs.Words.{tail}
 use lib.Dec.{ltb}
 use borrow.Author.Tests.{lt-ltb, le-ltb, ltb-false}
 use Rattle.rules.specs.declared.Refusal.the-variants.{Limits}
-use Rattle.rules.specs.Walk.{pick, first}
+use Rattle.rules.specs.Walk.{pick, first, gathered}
 use Rattle.rules.proofs.Tests.{pick-second}
-use Rattle.rules.proofs.First.{first-more, first-done}
+use Rattle.rules.proofs.First.{first-more, first-done, gathered-more}
 use Rattle.ticks.specs.Put.{Put}
 use Rattle.ticks.proofs.Put.{and-then}
 use Rattle.shares.specs.declared.Mark.the-variants as mark
@@ -29,7 +29,7 @@ use Rattle.shares.specs.declared.Table.{Table}
 use Rattle.shares.specs.declared.Table.the-variants.{Numbers, Refused}
 use Rattle.shares.specs.Words.{found, width, wordOf}
 use Rattle.shares.specs.Rows.{recordOf, rowOf, isWrong, whatOf}
-use Rattle.shares.specs.Table.{lineOf, afterLine, fromLine, rowAt, wrongAt, firstWrong, numsIn, numsAt, gathered, tableOf, longestText, seenOf, sizedOf, readBy, readOf}
+use Rattle.shares.specs.Table.{lineOf, afterLine, fromLine, rowAt, wrongAt, firstWrong, numsIn, numsAt, tableOf, longestText, seenOf, sizedOf, readBy, readOf}
 
 pub drop-all : (n : ℕ) (l : List ℕ) → length l ≤ n → drop n l ≡ []
 drop-all zero [] h = refl
@@ -120,10 +120,6 @@ nums-nothing Tasks = refl
 pub nums-wrong : (kind : Kind) (w : What) → numsIn kind (Wrong w) ≡ []
 nums-wrong Partitions w = refl
 nums-wrong Tasks w = refl
-
-gathered-more : (f : ℕ → List ℕ) (k : ℕ) → gathered f (k + 1) ≡ gathered f k ++ f k
-unfolding gathered
-gathered-more f k = rw add-one
 
 gathered-rest : (f : ℕ → List ℕ) (k n : ℕ) → k ≤ n → ((j : ℕ) → k ≤ j → f j ≡ []) → gathered f n ≡ gathered f k
 unfolding gathered

@@ -1,11 +1,11 @@
 -- A share table as text: its lines in order, the first that is wrong, and the records of each kind. Assumes nothing.
 use Prim.Native.Nat.{ℕ, zero, suc, _+_}
-use mathlib.Core.List.{List, [], _∷_, _++_}
+use mathlib.Core.List.{List, [], _∷_}
 use mathlib.Core.Bool.{Bool}
 use lib.ListN.{length, take, drop}
 use lib.Seq.{sets}
 use lib.Dec.{ltb}
-use Rattle.rules.specs.Walk.{pick, first}
+use Rattle.rules.specs.Walk.{pick, first, gathered}
 use Rattle.rules.specs.declared.Refusal.the-variants.{Limits}
 use Rattle.shares.specs.declared.Mark.the-variants as mark
 use Rattle.shares.specs.declared.Seen.{Seen}
@@ -55,11 +55,6 @@ numsIn Tasks (Wrong w) = []
 
 unfoldable pub numsAt : Kind → List ℕ → ℕ → List ℕ
 numsAt kind t k = numsIn kind (rowAt t k)
-
--- lists one behind the other, of 0, 1, .., n - 1
-unfoldable pub gathered : (ℕ → List ℕ) → ℕ → List ℕ
-gathered f zero = []
-gathered f (suc n) = gathered f n ++ f n
 
 -- the table of a kind: its records in the order of their lines
 unfoldable pub tableOf : Kind → List ℕ → List ℕ

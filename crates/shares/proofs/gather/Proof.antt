@@ -1,5 +1,6 @@
 use Rattle.shares.proofs.Order.{Reached, reached-start, reached-next, reached-row, gather-start, gather-turn, gather-end}
-use Rattle.shares.specs.Table.{gathered, numsAt}
+use Rattle.rules.specs.Walk.{gathered}
+use Rattle.shares.specs.Table.{numsAt}
 use Rattle.ticks.proofs.Put.{put-none}
 use Rattle.ticks.specs.Put.{Put}
 use lib.ListN.{length}
