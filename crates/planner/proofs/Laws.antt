@@ -120,6 +120,7 @@ planned-so ps ts room n e = judging (judgedOf ps ts) refl e
     building : judgedOf ps ts ≡ judged.Good → (b : Built) → buildOf ps longest ≡ b → writtenBy b ps ts room ≡ Bytes n → Planned ps ts room n
     building g (built.Frame h) f w = let a = laid ps longest h f in record { good = g; built = rw (a .is-frame) at f; written = rw (a .is-frame) at w }
     building g (built.Refused x) f w = let z : _≡_ {A = ℕ} 0 1 = cc in absurd (omega arith)
+
     judging : (j : Judged) → judgedOf ps ts ≡ j → unlessRefused j (writtenBy (buildOf ps longest) ps ts room) ≡ Bytes n → Planned ps ts room n
     judging judged.Good g w = building g (buildOf ps longest) refl w
     judging (judged.Refused x) g w = let z : _≡_ {A = ℕ} 0 1 = cc in absurd (omega arith)
