@@ -5,14 +5,6 @@ use borrow.Author.Tests.{lt-ltb, le-ltb}
 use borrow.Author.Needs.{needs}
 use Rattle.planner.proofs.judge.Statement.{statement}
 use Rattle.planner.proofs.judge.Tie as tie
-use Rattle.planner.proofs.judge.Reads as reads
-use Rattle.planner.proofs.judge.Lts as lts
-use Rattle.rules.proofs.first_bad_part.Reads as first-bad-part-reads
-use Rattle.rules.proofs.first_bad_task.Reads as first-bad-task-reads
-use Rattle.rules.proofs.partitions.Reads as partitions-reads
-use Rattle.rules.proofs.parts_counted.Reads as parts-counted-reads
-use Rattle.rules.proofs.tasks.Reads as tasks-reads
-use Rattle.rules.proofs.tasks_counted.Reads as tasks-counted-reads
 
 parts-counted-requires : tie.Need-parts-counted-requires
 parts-counted-requires c κs = search needs

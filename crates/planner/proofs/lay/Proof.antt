@@ -4,10 +4,6 @@ use mathlib.Core.Path.{_≡_, refl, sym, _∙_}
 use borrow.Author.Needs.{needs}
 use Rattle.planner.proofs.lay.Statement.{statement}
 use Rattle.planner.proofs.lay.Tie as tie
-use Rattle.planner.proofs.lay.Reads as reads
-use Rattle.planner.proofs.lay.Lts as lts
-use Rattle.harmonic.proofs.build.Reads as build-reads
-use Rattle.planner.proofs.put_plan.Reads as put-plan-reads
 
 slice-aggregate-build : tie.Need-slice-aggregate-build
 slice-aggregate-build c = search needs

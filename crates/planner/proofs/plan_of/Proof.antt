@@ -3,10 +3,6 @@ use mathlib.Core.Path.{_≡_, refl, sym, _∙_}
 use borrow.Author.Needs.{needs}
 use Rattle.planner.proofs.plan_of.Statement.{statement}
 use Rattle.planner.proofs.plan_of.Tie as tie
-use Rattle.planner.proofs.plan_of.Reads as reads
-use Rattle.planner.proofs.plan_of.Lts as lts
-use Rattle.planner.proofs.judge.Reads as judge-reads
-use Rattle.planner.proofs.lay.Reads as lay-reads
 
 judge-requires : tie.Need-judge-requires
 judge-requires c κs = search needs

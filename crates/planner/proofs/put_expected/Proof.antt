@@ -4,11 +4,6 @@ use native.Mathlib.Omega.{arith}
 use borrow.Author.Needs.{needs}
 use Rattle.planner.proofs.put_expected.Statement.{statement}
 use Rattle.planner.proofs.put_expected.Tie as tie
-use Rattle.planner.proofs.put_expected.Reads as reads
-use Rattle.planner.proofs.put_expected.Lts as lts
-use Rattle.planner.proofs.put_what.Reads as put-what-reads
-use Rattle.text.proofs.put_field.Reads as put-field-reads
-use Rattle.text.proofs.put_text.Reads as put-text-reads
 
 slice-aggregate-put-field : tie.Need-slice-aggregate-put-field
 slice-aggregate-put-field c = search needs

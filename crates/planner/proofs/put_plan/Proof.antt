@@ -4,10 +4,6 @@ use mathlib.Core.Path.{_≡_, refl, sym, _∙_}
 use borrow.Author.Needs.{needs}
 use Rattle.planner.proofs.put_plan.Statement.{statement}
 use Rattle.planner.proofs.put_plan.Tie as tie
-use Rattle.planner.proofs.put_plan.Reads as reads
-use Rattle.planner.proofs.put_plan.Lts as lts
-use Rattle.planfile.proofs.write.Reads as write-reads
-use Rattle.ticks.proofs.runs_of.Reads as runs-of-reads
 
 slice-aggregate-runs-of : tie.Need-slice-aggregate-runs-of
 slice-aggregate-runs-of c = search needs

@@ -1,10 +1,6 @@
 use borrow.Author.Needs.{needs}
 use Rattle.planner.proofs.put_refusal.Statement.{statement}
 use Rattle.planner.proofs.put_refusal.Tie as tie
-use Rattle.planner.proofs.put_refusal.Reads as reads
-use Rattle.planner.proofs.put_refusal.Lts as lts
-use Rattle.rules.proofs.tell.Reads as tell-reads
-use Rattle.text.proofs.put_refused.Reads as put-refused-reads
 
 tell-requires : tie.Need-tell-requires
 tell-requires c κs = search needs

@@ -2,9 +2,6 @@ use native.Mathlib.Omega.{arith}
 use borrow.Author.Needs.{needs}
 use Rattle.planner.proofs.put_what.Statement.{statement}
 use Rattle.planner.proofs.put_what.Tie as tie
-use Rattle.planner.proofs.put_what.Reads as reads
-use Rattle.planner.proofs.put_what.Lts as lts
-use Rattle.text.proofs.put_text.Reads as put-text-reads
 
 enum-told : tie.Need-enum-told
 enum-told c = search needs

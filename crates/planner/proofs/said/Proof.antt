@@ -2,10 +2,6 @@ use Rattle.planner.proofs.Laws.{said-file, said-line}
 use borrow.Author.Needs.{needs}
 use Rattle.planner.proofs.said.Statement.{statement}
 use Rattle.planner.proofs.said.Tie as tie
-use Rattle.planner.proofs.said.Reads as reads
-use Rattle.planner.proofs.said.Lts as lts
-use Rattle.planner.proofs.plan_of.Reads as plan-of-reads
-use Rattle.planner.proofs.put_refusal.Reads as put-refusal-reads
 
 plan-of-requires : tie.Need-plan-of-requires
 plan-of-requires c κs = search needs

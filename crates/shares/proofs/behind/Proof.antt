@@ -3,10 +3,6 @@ use Rattle.shares.proofs.Words.{rest-is}
 use borrow.Author.Needs.{needs}
 use Rattle.shares.proofs.behind.Statement.{statement}
 use Rattle.shares.proofs.behind.Tie as tie
-use Rattle.shares.proofs.behind.Reads as reads
-use Rattle.shares.proofs.behind.Lts as lts
-use Rattle.shares.proofs.find.Reads as find-reads
-use Rattle.shares.proofs.width.Reads as width-reads
 
 find-requires : tie.Need-find-requires
 find-requires c κs = search needs

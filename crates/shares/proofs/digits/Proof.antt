@@ -9,10 +9,6 @@ use Prim.Native.Nat.{_≤_, _-_, min}
 use borrow.Author.Needs.{needs}
 use Rattle.shares.proofs.digits.Statement.{statement}
 use Rattle.shares.proofs.digits.Tie as tie
-use Rattle.shares.proofs.digits.Reads as reads
-use Rattle.shares.proofs.digits.Lts as lts
-use Rattle.shares.proofs.digit.Reads as digit-reads
-use Rattle.shares.proofs.grown.Reads as grown-reads
 
 abbrev Inv-loop : tie.InvT-loop
 Inv-loop w n v₀ k₀ v k = (k ≤ n) × (v ≤ 65536) × (v ≡ min (value (take k w) 0) 65536)

@@ -1,9 +1,6 @@
 use borrow.Author.Needs.{needs}
 use Rattle.shares.proofs.ended.Statement.{statement}
 use Rattle.shares.proofs.ended.Tie as tie
-use Rattle.shares.proofs.ended.Reads as reads
-use Rattle.shares.proofs.ended.Lts as lts
-use Rattle.shares.proofs.word.Reads as word-reads
 
 word-requires : tie.Need-word-requires
 word-requires c κs = search needs

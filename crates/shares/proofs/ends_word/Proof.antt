@@ -1,9 +1,6 @@
 use borrow.Author.Needs.{needs}
 use Rattle.shares.proofs.ends_word.Statement.{statement}
 use Rattle.shares.proofs.ends_word.Tie as tie
-use Rattle.shares.proofs.ends_word.Reads as reads
-use Rattle.shares.proofs.ends_word.Lts as lts
-use Rattle.shares.proofs.is_blank.Reads as is-blank-reads
 
 is-blank-requires : tie.Need-is-blank-requires
 is-blank-requires c κs = search needs

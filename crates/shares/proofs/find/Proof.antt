@@ -6,9 +6,6 @@ use Prim.Native.Nat.{_≤_, _-_}
 use borrow.Author.Needs.{needs}
 use Rattle.shares.proofs.find.Statement.{statement}
 use Rattle.shares.proofs.find.Tie as tie
-use Rattle.shares.proofs.find.Reads as reads
-use Rattle.shares.proofs.find.Lts as lts
-use Rattle.shares.proofs.stops.Reads as stops-reads
 
 abbrev Inv-loop : tie.InvT-loop
 Inv-loop l mark n k₀ k = (k ≤ n) × (first (stopsAt mark l) k ≡ k)

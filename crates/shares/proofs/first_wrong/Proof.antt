@@ -7,12 +7,6 @@ use Prim.Native.Nat.{_≤_, _-_}
 use borrow.Author.Needs.{needs}
 use Rattle.shares.proofs.first_wrong.Statement.{statement}
 use Rattle.shares.proofs.first_wrong.Tie as tie
-use Rattle.shares.proofs.first_wrong.Reads as reads
-use Rattle.shares.proofs.first_wrong.Lts as lts
-use Rattle.shares.proofs.is_wrong.Reads as is-wrong-reads
-use Rattle.shares.proofs.next_line.Reads as next-line-reads
-use Rattle.shares.proofs.row_at.Reads as row-at-reads
-use Rattle.shares.proofs.what_in.Reads as what-in-reads
 
 abbrev Inv-loop : tie.InvT-loop
 Inv-loop text n at₀ k₀ at k = (at ≤ n) × Reached text at k × (first (wrongAt text) k ≡ k)

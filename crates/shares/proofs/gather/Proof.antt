@@ -9,11 +9,6 @@ use Prim.Native.Nat.{ℕ, _≤_, _-_, _+_, _*_}
 use borrow.Author.Needs.{needs}
 use Rattle.shares.proofs.gather.Statement.{statement}
 use Rattle.shares.proofs.gather.Tie as tie
-use Rattle.shares.proofs.gather.Reads as reads
-use Rattle.shares.proofs.gather.Lts as lts
-use Rattle.shares.proofs.next_line.Reads as next-line-reads
-use Rattle.shares.proofs.put_row.Reads as put-row-reads
-use Rattle.shares.proofs.row_at.Reads as row-at-reads
 
 abbrev Inv-loop : tie.InvT-loop
 Inv-loop text kind out₀ n put₀ at₀ out put at = (at ≤ n) × (put ≤ 4 * at) × (length out ≡ length out₀) × ((k : ℕ) × Reached text at k × Put out₀ 0 (gathered (numsAt kind text) k) put out)

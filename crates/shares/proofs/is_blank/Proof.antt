@@ -3,8 +3,6 @@ use borrow.Author.Tests.{eq-eqb, ne-eqb}
 use borrow.Author.Needs.{needs}
 use Rattle.shares.proofs.is_blank.Statement.{statement}
 use Rattle.shares.proofs.is_blank.Tie as tie
-use Rattle.shares.proofs.is_blank.Reads as reads
-use Rattle.shares.proofs.is_blank.Lts as lts
 
 returns : tie.Need-returns
 unfolding blank

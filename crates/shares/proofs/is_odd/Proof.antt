@@ -3,8 +3,6 @@ use borrow.Author.Tests.{lt-leb, le-leb, lt-ltb, le-ltb}
 use borrow.Author.Needs.{needs}
 use Rattle.shares.proofs.is_odd.Statement.{statement}
 use Rattle.shares.proofs.is_odd.Tie as tie
-use Rattle.shares.proofs.is_odd.Reads as reads
-use Rattle.shares.proofs.is_odd.Lts as lts
 
 returns : tie.Need-returns
 unfolding stops

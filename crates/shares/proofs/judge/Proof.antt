@@ -3,10 +3,6 @@ use borrow.Author.Tests.{lt-ltb, le-ltb}
 use borrow.Author.Needs.{needs}
 use Rattle.shares.proofs.judge.Statement.{statement}
 use Rattle.shares.proofs.judge.Tie as tie
-use Rattle.shares.proofs.judge.Reads as reads
-use Rattle.shares.proofs.judge.Lts as lts
-use Rattle.shares.proofs.first_wrong.Reads as first-wrong-reads
-use Rattle.shares.proofs.sized.Reads as sized-reads
 
 returns : tie.Need-returns
 unfolding readOf

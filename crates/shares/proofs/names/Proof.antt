@@ -1,10 +1,6 @@
 use borrow.Author.Needs.{needs}
 use Rattle.shares.proofs.names.Statement.{statement}
 use Rattle.shares.proofs.names.Tie as tie
-use Rattle.shares.proofs.names.Reads as reads
-use Rattle.shares.proofs.names.Lts as lts
-use Rattle.shares.proofs.same.Reads as same-reads
-use Rattle.shares.proofs.word.Reads as word-reads
 
 word-requires : tie.Need-word-requires
 word-requires c κs = search needs

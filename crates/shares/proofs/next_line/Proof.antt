@@ -2,9 +2,6 @@ use Rattle.shares.proofs.Order.{after-some, after-none}
 use borrow.Author.Needs.{needs}
 use Rattle.shares.proofs.next_line.Statement.{statement}
 use Rattle.shares.proofs.next_line.Tie as tie
-use Rattle.shares.proofs.next_line.Reads as reads
-use Rattle.shares.proofs.next_line.Lts as lts
-use Rattle.shares.proofs.find.Reads as find-reads
 
 sub-rest : tie.Need-sub-rest
 sub-rest c = search needs

@@ -1,10 +1,6 @@
 use borrow.Author.Needs.{needs}
 use Rattle.shares.proofs.number.Statement.{statement}
 use Rattle.shares.proofs.number.Tie as tie
-use Rattle.shares.proofs.number.Reads as reads
-use Rattle.shares.proofs.number.Lts as lts
-use Rattle.shares.proofs.numeral.Reads as numeral-reads
-use Rattle.shares.proofs.word.Reads as word-reads
 
 word-requires : tie.Need-word-requires
 word-requires c κs = search needs

@@ -2,10 +2,6 @@ use Rattle.shares.proofs.Words.{numeral-none, numeral-odd, numeral-all}
 use borrow.Author.Needs.{needs}
 use Rattle.shares.proofs.numeral.Statement.{statement}
 use Rattle.shares.proofs.numeral.Tie as tie
-use Rattle.shares.proofs.numeral.Reads as reads
-use Rattle.shares.proofs.numeral.Lts as lts
-use Rattle.shares.proofs.digits.Reads as digits-reads
-use Rattle.shares.proofs.find.Reads as find-reads
 
 returns : tie.Need-returns
 returns c = numeral-none _ (c .if1 .taken)

@@ -3,10 +3,6 @@ use Rattle.ticks.proofs.Put.{put-none, put-one, and-then}
 use borrow.Author.Needs.{needs}
 use Rattle.shares.proofs.put_row.Statement.{statement}
 use Rattle.shares.proofs.put_row.Tie as tie
-use Rattle.shares.proofs.put_row.Reads as reads
-use Rattle.shares.proofs.put_row.Lts as lts
-use Rattle.shares.proofs.put_three.Reads as put-three-reads
-use Rattle.ticks.proofs.put_one.Reads as put-one-reads
 
 enum-known-row : tie.Need-enum-known-row
 enum-known-row c = search needs

@@ -2,9 +2,6 @@ use Rattle.ticks.proofs.Put.{put-one, and-then}
 use borrow.Author.Needs.{needs}
 use Rattle.shares.proofs.put_three.Statement.{statement}
 use Rattle.shares.proofs.put_three.Tie as tie
-use Rattle.shares.proofs.put_three.Reads as reads
-use Rattle.shares.proofs.put_three.Lts as lts
-use Rattle.ticks.proofs.put_one.Reads as put-one-reads
 
 put-one-requires : tie.Need-put-one-requires
 put-one-requires c κs = search needs

@@ -3,10 +3,6 @@ use mathlib.Core.Path.{_≡_, sym, _∙_, refl}
 use borrow.Author.Needs.{needs}
 use Rattle.shares.proofs.read.Statement.{statement}
 use Rattle.shares.proofs.read.Tie as tie
-use Rattle.shares.proofs.read.Reads as reads
-use Rattle.shares.proofs.read.Lts as lts
-use Rattle.shares.proofs.gather.Reads as gather-reads
-use Rattle.shares.proofs.judge.Reads as judge-reads
 
 judge-requires : tie.Need-judge-requires
 judge-requires c κs = search needs

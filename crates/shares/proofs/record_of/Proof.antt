@@ -2,13 +2,6 @@ use Rattle.shares.specs.Rows.{recordOf}
 use borrow.Author.Needs.{needs}
 use Rattle.shares.proofs.record_of.Statement.{statement}
 use Rattle.shares.proofs.record_of.Tie as tie
-use Rattle.shares.proofs.record_of.Reads as reads
-use Rattle.shares.proofs.record_of.Lts as lts
-use Rattle.shares.proofs.behind.Reads as behind-reads
-use Rattle.shares.proofs.ended.Reads as ended-reads
-use Rattle.shares.proofs.names.Reads as names-reads
-use Rattle.shares.proofs.part_row.Reads as part-row-reads
-use Rattle.shares.proofs.task_row.Reads as task-row-reads
 
 ended-requires : tie.Need-ended-requires
 ended-requires c κs = search needs

@@ -4,10 +4,6 @@ use mathlib.Core.Path.{_≡_, sym, _∙_, refl}
 use borrow.Author.Needs.{needs}
 use Rattle.shares.proofs.row_at.Statement.{statement}
 use Rattle.shares.proofs.row_at.Tie as tie
-use Rattle.shares.proofs.row_at.Reads as reads
-use Rattle.shares.proofs.row_at.Lts as lts
-use Rattle.shares.proofs.find.Reads as find-reads
-use Rattle.shares.proofs.row_of.Reads as row-of-reads
 
 sub-rest : tie.Need-sub-rest
 sub-rest c = search needs

@@ -4,10 +4,6 @@ use mathlib.Core.Path.{_≡_, sym, _∙_, refl}
 use borrow.Author.Needs.{needs}
 use Rattle.shares.proofs.row_of.Statement.{statement}
 use Rattle.shares.proofs.row_of.Tie as tie
-use Rattle.shares.proofs.row_of.Reads as reads
-use Rattle.shares.proofs.row_of.Lts as lts
-use Rattle.shares.proofs.find.Reads as find-reads
-use Rattle.shares.proofs.record_of.Reads as record-of-reads
 
 find-requires : tie.Need-find-requires
 find-requires c κs = search needs

@@ -10,8 +10,6 @@ use Prim.Native.Nat.{_≤_, _-_}
 use borrow.Author.Needs.{needs}
 use Rattle.shares.proofs.same.Statement.{statement}
 use Rattle.shares.proofs.same.Tie as tie
-use Rattle.shares.proofs.same.Reads as reads
-use Rattle.shares.proofs.same.Lts as lts
 
 abbrev Inv-loop : tie.InvT-loop
 Inv-loop a b n k₀ k = (k ≤ n) × (first (differs a b) k ≡ k)

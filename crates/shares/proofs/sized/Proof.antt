@@ -3,9 +3,6 @@ use borrow.Author.Tests.{lt-ltb, le-ltb}
 use borrow.Author.Needs.{needs}
 use Rattle.shares.proofs.sized.Statement.{statement}
 use Rattle.shares.proofs.sized.Tie as tie
-use Rattle.shares.proofs.sized.Reads as reads
-use Rattle.shares.proofs.sized.Lts as lts
-use Rattle.shares.proofs.size.Reads as size-reads
 
 size-requires : tie.Need-size-requires
 size-requires c κs = search needs

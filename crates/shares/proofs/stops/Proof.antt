@@ -3,11 +3,6 @@ use Rattle.shares.specs.Words.{stops}
 use borrow.Author.Needs.{needs}
 use Rattle.shares.proofs.stops.Statement.{statement}
 use Rattle.shares.proofs.stops.Tie as tie
-use Rattle.shares.proofs.stops.Reads as reads
-use Rattle.shares.proofs.stops.Lts as lts
-use Rattle.shares.proofs.ends_word.Reads as ends-word-reads
-use Rattle.shares.proofs.is_blank.Reads as is-blank-reads
-use Rattle.shares.proofs.is_odd.Reads as is-odd-reads
 
 enum-told : tie.Need-enum-told
 enum-told c = search needs

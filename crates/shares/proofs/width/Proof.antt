@@ -3,9 +3,6 @@ use Rattle.shares.proofs.Words.{width-none, width-slash, width-more}
 use borrow.Author.Needs.{needs}
 use Rattle.shares.proofs.width.Statement.{statement}
 use Rattle.shares.proofs.width.Tie as tie
-use Rattle.shares.proofs.width.Reads as reads
-use Rattle.shares.proofs.width.Lts as lts
-use Rattle.shares.proofs.find.Reads as find-reads
 
 returns : tie.Need-returns
 returns c = (search needs, sym (width-none _ (c .if1 .taken)))

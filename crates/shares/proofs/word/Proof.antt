@@ -4,10 +4,6 @@ use Rattle.shares.proofs.Words.{word-is}
 use borrow.Author.Needs.{needs}
 use Rattle.shares.proofs.word.Statement.{statement}
 use Rattle.shares.proofs.word.Tie as tie
-use Rattle.shares.proofs.word.Reads as reads
-use Rattle.shares.proofs.word.Lts as lts
-use Rattle.shares.proofs.find.Reads as find-reads
-use Rattle.shares.proofs.width.Reads as width-reads
 
 find-requires : tie.Need-find-requires
 find-requires c κs = search needs
