@@ -31,6 +31,7 @@ use Rattle.ticks.proofs.Proved as ticks
 use Rattle.listing.specs.declared.Listed.the-variants as listed
 use Rattle.listing.specs.Listing.{listingOf, listOf}
 use Rattle.listing.proofs.Proved as listing
+use Rattle.planner.proofs.Proved as planner
 use Rattle.desk.specs.declared.Job.{Job}
 use Rattle.desk.specs.declared.Place.{Place}
 use Rattle.desk.specs.declared.Place.the-variants.{At, Nowhere}
@@ -171,6 +172,7 @@ second = record {
   of-files = planfile.proved;
   of-runs = ticks.proved;
   of-listings = listing.proved;
+  of-planner = planner.proved;
   of-desk = desk.proved;
   of-lent-desk = lent.proved;
   read-write = planfile.proved .read-write;

@@ -21,6 +21,7 @@ use Rattle.planfile.specs.Theorems as planfile
 use Rattle.ticks.specs.Theorems as ticks
 use Rattle.listing.specs.Listing.{listOf}
 use Rattle.listing.specs.Theorems as listing
+use Rattle.planner.specs.Theorems as planner
 use Rattle.desk.specs.declared.Job.{Job}
 use Rattle.desk.specs.Table.{said, openOf}
 use Rattle.desk.specs.Request.{requestOf}
@@ -73,6 +74,7 @@ pub record Demand2 : Type 0 where
   pub of-files : planfile.Proved
   pub of-runs : ticks.Proved
   pub of-listings : listing.Proved
+  pub of-planner : planner.Proved
   pub of-desk : desk.Proved
   pub of-lent-desk : lent.Proved
   pub read-write : planfile.ReadWrite
