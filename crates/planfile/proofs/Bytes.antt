@@ -5,7 +5,7 @@ use mathlib.Core.List.{List, [], _∷_, _++_, append-assoc, append-nil}
 use native.Mathlib.Nat.{not-suc-le-zero, le-of-suc-le-suc, div-add-mod'}
 use native.Mathlib.Numerals.{add-one}
 use native.Mathlib.Omega.{arith}
-use lib.ListN.{length, getD, set, take, drop, length-append, length-drop, drop-of-length-le}
+use lib.ListN.{length, getD, set, take, drop, length-drop, drop-of-length-le}
 use lib.Seq.{take-suc, drop-cons, set-at, length-take-le, take-all, take-at, drop-at, drop-drop}
 use Rattle.planfile.specs.Bytes.{numsOf, bytesOf, Bytes, over}
 
@@ -68,12 +68,6 @@ bytes-nums (x ∷ y ∷ bs) e h =
     rw (bytes-nums bs (omega arith) (λ k l. h (suc (suc k)) (omega arith)), ed, em)
 
 -- A LIST WITH THE FIRST n ELEMENTS OF s
-
-pub over-zero : (s d : List ℕ) → d ≡ over s 0 d
-over-zero s d = refl
-
-pub over-length : (s : List ℕ) (n : ℕ) (d : List ℕ) → n ≤ length s → n ≤ length d → length (over s n d) ≡ length d
-over-length s n d h k = simp (length-append, length-drop, length-take-le n s h) (omega arith)
 
 -- a loop's store at n
 pub over-more : (s : List ℕ) (n : ℕ) (d : List ℕ) → n < length s → n < length d → set (over s n d) n (getD s n 0) ≡ over s (n + 1) d

@@ -173,10 +173,6 @@ module _ (rule : Rule) (plan ts : List ℕ) (i : ℕ) where
         go : (t : ℕ) × PointOf (ofTasks ts) i t × (demandOf (ofTasks ts) i t ≤ low rule plan ts i t) → firstPoint rule plan ts i ≤ deadline ts i
         go (t, o, d) = omega (arith, first-earliest t (point-is ts i t o) (rw demand-of at d), o .1)
 
-    -- the other way round: a first point past D is a fail, and a fail has none up to D
-    pub point-fails : deadline ts i < firstPoint rule plan ts i → ¬ Passes rule plan ts i
-    point-fails h pass = omega (arith, passes-point pass)
-
 pub points-enough : PointsEnough
 points-enough rule plan ts parts good i inside = (passes-point rule plan ts i parts good inside, point-passes rule plan ts i)
 
