@@ -15,11 +15,11 @@ wide-requires c κs = search needs
 
 returns : tie.Need-returns
 unfolding taskOf
-returns c = rw (← c .before .before .before .first-point .ensures, ← c .before .before .deadline .ensures, ← c .before .wide .ensures, le-leb _ _ (c .if1 .taken))
+returns c = rw (← c .before .before .before .first-point .ensures, ← c .before .before .deadline .ensures, ← c .before .wide .ensures, le-leb (c .before .before .before .first-point .result) (c .before .wide .result) (c .if1 .taken))
 
 returns-2 : tie.Need-returns-2
 unfolding taskOf
-returns-2 c = rw (← c .before .before .before .first-point .ensures, ← c .before .before .deadline .ensures, ← c .before .wide .ensures, lt-leb _ _ (c .if1 .left))
+returns-2 c = rw (← c .before .before .before .first-point .ensures, ← c .before .before .deadline .ensures, ← c .before .wide .ensures, lt-leb (c .before .before .before .first-point .result) (c .before .wide .result) (c .if1 .left))
 
 pub task-spec : {M : Type 1} → statement M
 task-spec =
