@@ -1,4 +1,6 @@
 // Reads a plan file from standard input and writes its listing to standard output.
+use libc::STDERR_FILENO;
+use libc::STDOUT_FILENO;
 use listing::Listed;
 
 fn main() {
@@ -8,7 +10,10 @@ fn main() {
     let listed = listing::listing(&file[..n], &mut out);
     match listed {
         Listed::Text(k) => {
-            io::write_all(1, &out[..k]);
+            let written = io::write_all(STDOUT_FILENO, &out[..k]);
+            if !written {
+                io::write_all(STDERR_FILENO, b"a write failed\n");
+            }
         }
         Listed::Refused(_) => {}
     }

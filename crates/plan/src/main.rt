@@ -1,4 +1,5 @@
 // Reads a share table from standard input and writes its plan file, or one line that says why there is none.
+use libc::STDERR_FILENO;
 use libc::STDOUT_FILENO;
 
 fn main() {
@@ -7,5 +8,8 @@ fn main() {
     let n = io::read_full(0, &mut text);
     let mut out = [0u8; 17520];
     let k = planner::plan(&text[..n], &mut out);
-    io::write_all(STDOUT_FILENO, &out[..k]);
+    let written = io::write_all(STDOUT_FILENO, &out[..k]);
+    if !written {
+        io::write_all(STDERR_FILENO, b"a write failed\n");
+    }
 }

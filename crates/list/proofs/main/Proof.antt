@@ -36,6 +36,12 @@ slice-aggregate-write-all c = let h = text-fits _ _ _ (sym (c .before .before .b
 write-all-requires : tie.Need-write-all-requires
 write-all-requires c κs = search needs
 
+slice-aggregate-write-all-2 : tie.Need-slice-aggregate-write-all-2
+slice-aggregate-write-all-2 c = search needs
+
+write-all-requires-2 : tie.Need-write-all-requires-2
+write-all-requires-2 c κs = search needs
+
 enum-told : tie.Need-enum-told
 enum-told c = search needs
 
@@ -44,6 +50,9 @@ returns c = search needs
 
 returns-2 : tie.Need-returns-2
 returns-2 c = search needs
+
+returns-3 : tie.Need-returns-3
+returns-3 c = search needs
 
 pub main-spec : {M : Type 1} → statement M
 main-spec =
@@ -59,6 +68,9 @@ main-spec =
     array-share-prefix-out
     slice-aggregate-write-all
     write-all-requires
+    slice-aggregate-write-all-2
+    write-all-requires-2
     enum-told
     returns
-    returns-2)
+    returns-2
+    returns-3)
