@@ -263,7 +263,7 @@ fn every_small_request(trial: &mut Trial) {
         let count = trial.rng.between(0, 4);
         let mut lent = Lent::new(jobs::table(&mut trial.rng, count, spread));
         open(trial, &mut lent);
-        for t in 0..14 {
+        for t in trial.each(0..14) {
             for c in 0..9 {
                 for d in 0..24 {
                     request(trial, &mut lent.clone(), Request { t, c, d });

@@ -2,14 +2,21 @@
 
 use std::env;
 use std::io::{self, Read, Write};
-use std::path::{self, Path, PathBuf};
+use std::path::{self, PathBuf};
 use std::process::{Child, ChildStdin, ChildStdout, Command, ExitStatus, Stdio};
 
 const ADVICE: &str = "`sh tests/compare.sh` builds it";
 
+/// Where the C program is, and what runs it.
+#[derive(Clone)]
+pub struct Program {
+    x86: PathBuf,
+    calls: PathBuf,
+}
+
 /// Started on the first batch.
 pub struct Library {
-    program: PathBuf,
+    program: Program,
     running: Option<Running>,
 }
 
@@ -19,24 +26,28 @@ struct Running {
     from: ChildStdout,
 }
 
-fn root() -> PathBuf {
-    Path::new(env!("CARGO_MANIFEST_DIR")).join("../..")
-}
-
-/// target/calls, or what SECOND_CALLS names.
-pub fn program() -> Result<PathBuf, String> {
-    let named = env::var_os("SECOND_CALLS").map(PathBuf::from);
-    let program = named.unwrap_or_else(|| root().join("target/calls"));
-    if !program.is_file() {
-        return Err(format!("there is no {}: {ADVICE}", program.display()));
+impl Program {
+    /// target/calls, or what SECOND_CALLS names. The package's folder is asked for now: that of
+    /// the building is another one where the repository was copied or moved with what it built.
+    pub fn find() -> Result<Program, String> {
+        let folder = env::var_os("CARGO_MANIFEST_DIR").map(PathBuf::from);
+        let folder = folder.ok_or("not run by cargo: `sh tests/compare.sh` does it")?;
+        let root = folder.join("../..");
+        let named = env::var_os("SECOND_CALLS").map(PathBuf::from);
+        let calls = named.unwrap_or_else(|| root.join("target/calls"));
+        if !calls.is_file() {
+            return Err(format!("there is no {}: {ADVICE}", calls.display()));
+        }
+        let calls = path::absolute(calls).map_err(|error| error.to_string())?;
+        let x86 = root.join("tools/x86");
+        Ok(Program { x86, calls })
     }
-    path::absolute(&program).map_err(|error| format!("{}: {error}", program.display()))
 }
 
 impl Library {
-    pub fn new(program: &Path) -> Library {
+    pub fn new(program: &Program) -> Library {
         Library {
-            program: program.to_path_buf(),
+            program: program.clone(),
             running: None,
         }
     }
@@ -56,26 +67,25 @@ impl Library {
             Some(Ok(status)) => status.to_string(),
             _ => error.to_string(),
         };
-        let program = self.program.display();
-        format!("{program} left off within a batch ({how}); {ADVICE}")
+        let calls = self.program.calls.display();
+        format!("{calls} left off within a batch ({how}); {ADVICE}")
     }
 
     /// The end of the input ends the program, and all must have been well with it.
     pub fn end(&mut self) -> Result<(), String> {
-        let program = self.program.display();
+        let calls = self.program.calls.display();
         match self.running.take().map(Running::close) {
-            Some(Ok(status)) if !status.success() => Err(format!("{program} ended with {status}")),
-            Some(Err(error)) => Err(format!("{program}: {error}")),
+            Some(Ok(status)) if !status.success() => Err(format!("{calls} ended with {status}")),
+            Some(Err(error)) => Err(format!("{calls}: {error}")),
             _ => Ok(()),
         }
     }
 }
 
 impl Running {
-    fn start(program: &Path) -> Result<Running, String> {
-        let x86 = root().join("tools/x86");
-        let mut command = Command::new(&x86);
-        command.arg("run").arg(program);
+    fn start(Program { x86, calls }: &Program) -> Result<Running, String> {
+        let mut command = Command::new(x86);
+        command.arg("run").arg(calls);
         command.stdin(Stdio::piped()).stdout(Stdio::piped());
         let failed = |error: io::Error| format!("{} can't be started: {error}", x86.display());
         let mut child = command.spawn().map_err(failed)?;

@@ -1,11 +1,10 @@
 //! What the environment says: SECOND_SEED, SECOND_CASES, SECOND_SECONDS, SECOND_CALLS.
 
 use std::env;
-use std::path::PathBuf;
 use std::thread;
 use std::time::{Duration, Instant};
 
-use crate::library;
+use crate::library::Program;
 
 const SEED: u64 = 20_011_966;
 
@@ -13,7 +12,7 @@ pub struct Settings {
     pub seed: u64,
     /// How many times as many cases.
     pub times: u64,
-    pub program: PathBuf,
+    pub program: Program,
     pub threads: usize,
     end: Option<Instant>,
 }
@@ -24,9 +23,10 @@ impl Settings {
         Ok(Settings {
             seed: number("SECOND_SEED")?.unwrap_or(SEED),
             times: number("SECOND_CASES")?.unwrap_or(1),
-            program: library::program()?,
+            program: Program::find()?,
             threads: thread::available_parallelism().map_or(1, usize::from),
-            end: seconds.map(|seconds| Instant::now() + seconds),
+            // A time past all times is no limit.
+            end: seconds.and_then(|seconds| Instant::now().checked_add(seconds)),
         })
     }
 
@@ -35,8 +35,9 @@ impl Settings {
     pub fn until(&self, left: usize) -> Option<Instant> {
         let now = Instant::now();
         let end = self.end?;
-        let share = end.saturating_duration_since(now) * self.threads as u32 / left as u32;
-        Some(end.min(now + share))
+        let rest = end.saturating_duration_since(now);
+        let share = rest.saturating_mul(self.threads as u32) / left as u32;
+        Some(now + share.min(rest))
     }
 }
 
