@@ -1,24 +1,9 @@
 //! A request with 63 jobs, all of which move. The desk is lent anew to each call.
 
 use second::desk::{self, Desk, Job};
-use second::Answer;
 
+use crate::library;
 use crate::timing::line;
-
-extern "C" {
-    fn merkazobi_request(
-        desk: *mut Desk,
-        jobs: *mut Job,
-        places: usize,
-        t: u32,
-        c: u32,
-        d: u32,
-    ) -> Answer;
-}
-
-fn library(desk: &mut Desk, jobs: &mut [Job], [t, c, d]: [u32; 3]) -> Answer {
-    unsafe { merkazobi_request(desk, jobs.as_mut_ptr(), jobs.len(), t, c, d) }
-}
 
 /// Jobs end to end from tick 10 on, each with ten ticks to spare.
 fn end_to_end() -> (Desk, [Job; 64]) {
@@ -48,7 +33,7 @@ pub fn run() {
         "desk 63 jobs move",
         || {
             let (mut desk, mut jobs) = opened;
-            let answer = library(&mut desk, &mut jobs, [t, c, d]);
+            let answer = library::request(&mut desk, &mut jobs, t, c, d);
             (answer, desk, jobs)
         },
         || {

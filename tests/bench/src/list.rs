@@ -2,18 +2,11 @@
 
 use second::inputs::files::{self, Tables};
 use second::inputs::{plans, tables};
+use second::listing;
 use second::rng::Rng;
-use second::{listing, Answer};
 
+use crate::library;
 use crate::timing::line;
-
-extern "C" {
-    fn merkazobi_list(file: *const u8, bytes: usize, out: *mut u8, out_bytes: usize) -> Answer;
-}
-
-fn library(file: &[u8], out: &mut [u8]) -> Answer {
-    unsafe { merkazobi_list(file.as_ptr(), file.len(), out.as_mut_ptr(), out.len()) }
-}
 
 fn largest() -> Vec<u8> {
     let mut rng = Rng::new(1);
@@ -36,7 +29,7 @@ pub fn run() {
     let [mut ours, mut theirs] = [vec![0; 8192], vec![0; 8192]];
     line(
         "list 16, 128, 4096",
-        || (library(&file, &mut ours), ours.clone()),
+        || (library::list(&file, &mut ours), ours.clone()),
         || (listing::list(&file, &mut theirs), theirs.clone()),
     );
 }

@@ -1,34 +1,9 @@
 //! The verdict: a failing task of deadline 4,096, so that every scheduling point is tried.
 
-use second::{verdict, Answer};
+use second::verdict;
 
+use crate::library;
 use crate::timing::line;
-
-extern "C" {
-    fn merkazobi_verdict(
-        plan: *const u16,
-        ticks: usize,
-        parts: *const u16,
-        part_numbers: usize,
-        tasks: *const u16,
-        task_numbers: usize,
-        place: usize,
-    ) -> Answer;
-}
-
-fn library(plan: &[u16], parts: &[u16], tasks: &[u16], place: usize) -> Answer {
-    unsafe {
-        merkazobi_verdict(
-            plan.as_ptr(),
-            plan.len(),
-            parts.as_ptr(),
-            parts.len(),
-            tasks.as_ptr(),
-            tasks.len(),
-            place,
-        )
-    }
-}
 
 pub fn run() {
     let often = [
@@ -42,7 +17,7 @@ pub fn run() {
         let parts = [4, 3, 4];
         line(
             &format!("verdict D 4096, F {ticks}"),
-            || library(&plan, &parts, tasks, 4),
+            || library::verdict(&plan, &parts, tasks, 4),
             || verdict::verdict(&plan, &parts, tasks, 4),
         );
     }

@@ -23,6 +23,17 @@ impl Answer {
         }
     }
 
+    /// As they stand one behind the other.
+    pub fn numbers(&self) -> [u64; 5] {
+        [
+            self.number,
+            self.first,
+            self.second,
+            self.third,
+            self.fourth,
+        ]
+    }
+
     pub fn good(values: [u64; 4]) -> Answer {
         Answer::new(0, values)
     }

@@ -12,7 +12,6 @@ pub mod records;
 pub mod rng;
 pub mod runs;
 pub mod shares;
-pub mod trial;
 pub mod verdict;
 
 #[cfg(test)]

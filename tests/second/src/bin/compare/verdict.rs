@@ -1,41 +1,22 @@
 //! The verdict: the library against the second program, and against runs played out.
 
 use second::inputs::{faults, plans, tables};
-use second::records;
 use second::rng::Rng;
-use second::runs;
-use second::trial::Trial;
-use second::verdict;
+use second::{records, runs, verdict};
 
-mod library {
-    use second::Answer;
+use crate::batch::Entry;
+use crate::trial::{Named, Trial};
 
-    extern "C" {
-        fn merkazobi_verdict(
-            plan: *const u16,
-            ticks: usize,
-            parts: *const u16,
-            part_numbers: usize,
-            tasks: *const u16,
-            task_numbers: usize,
-            place: usize,
-        ) -> Answer;
-    }
-
-    pub fn verdict(plan: &[u16], parts: &[u16], tasks: &[u16], place: usize) -> Answer {
-        unsafe {
-            merkazobi_verdict(
-                plan.as_ptr(),
-                plan.len(),
-                parts.as_ptr(),
-                parts.len(),
-                tasks.as_ptr(),
-                tasks.len(),
-                place,
-            )
-        }
-    }
-}
+pub const TRIALS: &[Named] = &[
+    ("verdict, small", small),
+    ("verdict, one tick more or less", one_tick_more_or_less),
+    ("verdict, periods that meet", periods_that_meet),
+    ("verdict, faults", faults),
+    ("verdict, many frames", many_frames),
+    ("verdict, many tasks", many_tasks),
+    ("verdict, long frames", long_frames),
+    ("verdict, legal runs", legal_runs),
+];
 
 #[derive(Clone, Debug)]
 struct Input {
@@ -45,16 +26,16 @@ struct Input {
 }
 
 /// Some(point) for a pass.
-fn compare(trial: &Trial, input: &Input, place: usize) -> Option<u64> {
+fn compare(trial: &mut Trial, input: &Input, place: usize) -> Option<u64> {
     let Input { plan, parts, tasks } = input;
-    let answer = library::verdict(plan, parts, tasks, place);
-    let second = verdict::verdict(plan, parts, tasks, place);
-    trial.same((input, place), answer, second);
+    let answer = verdict::verdict(plan, parts, tasks, place);
+    let call = trial.call(Entry::Verdict, [place as u64, 0, 0], answer);
+    call.reads(plan).reads(parts).reads(tasks);
     (answer.number == 0 && answer.first > 0).then_some(answer.first)
 }
 
 /// Every place of the table and the two beside it; how many pass.
-fn compare_all(trial: &Trial, input: &Input) -> u64 {
+fn compare_all(trial: &mut Trial, input: &Input) -> u64 {
     let places = 0..=input.tasks.len() / 4 + 1;
     let passing = places.filter(|&place| compare(trial, input, place).is_some());
     passing.count() as u64
@@ -68,38 +49,32 @@ fn served(rng: &mut Rng, tasks: usize, period: usize) -> Input {
     Input { plan, parts, tasks }
 }
 
-#[test]
-fn small() {
-    let mut trial = Trial::new("verdict, small");
+fn small(trial: &mut Trial) {
     let mut passing = 0;
-    for _ in 0..trial.cases(15_000) {
+    for _ in trial.cases(15_000) {
         let tasks = trial.rng.between(0, 6);
         let period = trial.rng.pick(&[6, 20, 60, 200]);
         let input = served(&mut trial.rng, tasks, period);
-        passing += compare_all(&trial, &input);
+        passing += compare_all(trial, &input);
     }
-    assert!(passing > 5000, "{passing}");
+    trial.share("passing", passing, [1, 3]);
 }
 
 /// Deadlines that just pass or just fail, as V1 and V2 do.
-#[test]
-fn one_tick_more_or_less() {
-    let mut trial = Trial::new("verdict, one tick more or less");
-    for _ in 0..trial.cases(5000) {
+fn one_tick_more_or_less(trial: &mut Trial) {
+    for _ in trial.cases(5000) {
         let tasks = trial.rng.between(1, 4);
         let mut input = served(&mut trial.rng, tasks, 60);
         let [_, c, d, t] = [0, 1, 2, 3].map(|number| input.tasks[4 * (tasks - 1) + number]);
         for deadline in c..=t.min(d + 3) {
             input.tasks[4 * (tasks - 1) + 2] = deadline;
-            compare(&trial, &input, tasks);
+            compare(trial, &input, tasks);
         }
     }
 }
 
-#[test]
-fn periods_that_meet() {
-    let mut trial = Trial::new("verdict, periods that meet");
-    for _ in 0..trial.cases(8000) {
+fn periods_that_meet(trial: &mut Trial) {
+    for _ in trial.cases(8000) {
         let count = trial.rng.between(2, 6);
         let mut input = served(&mut trial.rng, count, 12);
         let base = trial.rng.between(2, 9) as u16;
@@ -109,14 +84,12 @@ fn periods_that_meet() {
             task[2] = trial.rng.between(1, task[3].into()) as u16;
             task[1] = trial.rng.between(1, 2).min(task[2].into()) as u16;
         }
-        compare_all(&trial, &input);
+        compare_all(trial, &input);
     }
 }
 
-#[test]
-fn faults() {
-    let mut trial = Trial::new("verdict, faults");
-    for _ in 0..trial.cases(50_000) {
+fn faults(trial: &mut Trial) {
+    for _ in trial.cases(50_000) {
         let rng = &mut trial.rng;
         let count = rng.between(0, 5);
         let mut input = served(rng, count, 30);
@@ -141,14 +114,12 @@ fn faults() {
         } else {
             rng.between(1, listed)
         };
-        compare(&trial, &input, place);
+        compare(trial, &input, place);
     }
 }
 
-#[test]
-fn many_frames() {
-    let mut trial = Trial::new("verdict, many frames");
-    for _ in 0..trial.cases(150) {
+fn many_frames(trial: &mut Trial) {
+    for _ in trial.cases(150) {
         let (plan, parts) = plans::served(&mut trial.rng, 2, 8);
         let mut input = Input {
             plan,
@@ -163,14 +134,12 @@ fn many_frames() {
         let d = trial.rng.between(3000, 4096) as u16;
         let c = trial.rng.between(1, 1200) as u16;
         input.tasks.extend([1, c, d, 4096]);
-        compare(&trial, &input, input.tasks.len() / 4);
+        compare(trial, &input, input.tasks.len() / 4);
     }
 }
 
-#[test]
-fn many_tasks() {
-    let mut trial = Trial::new("verdict, many tasks");
-    for case in 0..trial.cases(300) {
+fn many_tasks(trial: &mut Trial) {
+    for case in trial.cases(300) {
         let count = [127, 128, 129][case as usize % 3];
         let mut input = served(&mut trial.rng, 0, 1);
         let partitions = input.parts.len() / 3;
@@ -180,38 +149,34 @@ fn many_tasks() {
             input.tasks.extend([owner, 1, period, period]);
         }
         let place = trial.rng.between(0, count + 1);
-        compare(&trial, &input, place);
+        compare(trial, &input, place);
     }
 }
 
 /// Sixteen partitions in the longest frame, up to the longest deadline.
-#[test]
-fn long_frames() {
-    let mut trial = Trial::new("verdict, long frames");
-    for _ in 0..trial.cases(12) {
+fn long_frames(trial: &mut Trial) {
+    for _ in trial.cases(12) {
         let parts = tables::sixteen(&mut trial.rng);
         let short = plans::serving(&mut trial.rng, &parts, 128).unwrap_or_default();
         let d = trial.rng.between(2000, 4096) as u16;
         let c = trial.rng.between(1, 120) as u16;
         let tasks = vec![3, 40, 1500, 1500, 2, 1, 7, 7, 3, c, d, 4096];
         let plan = short.repeat(32);
-        compare(&trial, &Input { plan, parts, tasks }, 3);
+        compare(trial, &Input { plan, parts, tasks }, 3);
     }
 }
 
 /// In no legal run does a task that passes ever miss.
-#[test]
-fn legal_runs() {
-    let mut trial = Trial::new("verdict, legal runs");
+fn legal_runs(trial: &mut Trial) {
     let mut played = 0;
-    for _ in 0..trial.cases(8000) {
+    for _ in trial.cases(8000) {
         let count = trial.rng.between(1, 5);
         let input = served(&mut trial.rng, count, 40);
         let Ok(tasks) = records::tasks(&input.tasks) else {
             continue;
         };
         for place in 1..=count {
-            if compare(&trial, &input, place).is_none() {
+            if compare(trial, &input, place).is_none() {
                 continue;
             }
             for _ in 0..3 {
@@ -221,5 +186,5 @@ fn legal_runs() {
             }
         }
     }
-    assert!(played > 5000, "{played}");
+    trial.share("played", played, [5, 8]);
 }

@@ -4,33 +4,18 @@
 use second::desk::{self, Desk, Job};
 use second::inputs::jobs;
 use second::rng::Rng;
-use second::trial::Trial;
 use second::Answer;
 
-mod library {
-    use second::desk::{Desk, Job};
-    use second::Answer;
+use crate::batch::{Call, Entry};
+use crate::trial::{Named, Trial};
 
-    extern "C" {
-        fn merkazobi_open(desk: *mut Desk, jobs: *mut Job, places: usize) -> Answer;
-        fn merkazobi_request(
-            desk: *mut Desk,
-            jobs: *mut Job,
-            places: usize,
-            t: u32,
-            c: u32,
-            d: u32,
-        ) -> Answer;
-    }
-
-    pub fn open(desk: &mut Desk, jobs: &mut [Job]) -> Answer {
-        unsafe { merkazobi_open(desk, jobs.as_mut_ptr(), jobs.len()) }
-    }
-
-    pub fn request(desk: &mut Desk, jobs: &mut [Job], t: u32, c: u32, d: u32) -> Answer {
-        unsafe { merkazobi_request(desk, jobs.as_mut_ptr(), jobs.len(), t, c, d) }
-    }
-}
+pub const TRIALS: &[Named] = &[
+    ("desk, sequences", sequences),
+    ("desk, nearly full tables", nearly_full_tables),
+    ("desk, every small request", every_small_request),
+    ("desk, openings", openings),
+    ("desk, spoilt tables", spoilt_tables),
+];
 
 /// Places behind the lent ones, which nobody may touch.
 const BEHIND: usize = 2;
@@ -73,27 +58,27 @@ impl Lent {
     }
 }
 
-/// Opens a copy with each program; answer and all lent must agree.
-fn open(trial: &Trial, lent: &mut Lent) -> Answer {
-    let [mut library, mut second] = [lent.clone(), lent.clone()];
-    let places = lent.places;
-    let answer = library::open(&mut library.desk, &mut library.jobs[..places]);
-    let expected = desk::open(&mut second.desk, &mut second.jobs[..places]);
-    trial.same(("open", &lent), (answer, &library), (expected, &second));
-    *lent = library;
+/// Opens the desk with both programs; answer and all lent must agree.
+fn open(trial: &mut Trial, lent: &mut Lent) -> Answer {
+    let before = lent.clone();
+    let answer = desk::open(&mut lent.desk, &mut lent.jobs[..before.places]);
+    let call = trial.call(Entry::Open, [0; 3], answer);
+    lend_all(call, &before, lent);
     answer
 }
 
-fn request(trial: &Trial, lent: &mut Lent, request: Request) -> Answer {
-    let [mut library, mut second] = [lent.clone(), lent.clone()];
-    let places = lent.places;
+fn request(trial: &mut Trial, lent: &mut Lent, request: Request) -> Answer {
+    let before = lent.clone();
     let Request { t, c, d } = request;
-    let answer = library::request(&mut library.desk, &mut library.jobs[..places], t, c, d);
-    let expected = desk::request(&mut second.desk, &mut second.jobs[..places], t, c, d);
-    let input = (request, &lent);
-    trial.same(input, (answer, &library), (expected, &second));
-    *lent = library;
+    let answer = desk::request(&mut lent.desk, &mut lent.jobs[..before.places], t, c, d);
+    let call = trial.call(Entry::Request, [t, c, d].map(u64::from), answer);
+    lend_all(call, &before, lent);
     answer
+}
+
+fn lend_all(call: Call, before: &Lent, after: &Lent) {
+    let call = call.writes(1, &[before.desk], &[after.desk]);
+    call.writes(before.places, &before.jobs, &after.jobs);
 }
 
 /// A time at or after the clock: the clock itself, beside a start or an end, or any.
@@ -249,55 +234,47 @@ fn sequence(trial: &mut Trial, count: usize, requests: usize, tally: &mut Tally)
     }
 }
 
-#[test]
-fn sequences() {
-    let mut trial = Trial::new("desk, sequences");
+fn sequences(trial: &mut Trial) {
     let mut tally = [0; 20];
-    for _ in 0..trial.cases(20_000) {
+    for _ in trial.cases(20_000) {
         let count = trial.rng.pick(&[0, 1, 2, 3, 5, 8, 20, 40]);
-        sequence(&mut trial, count, 30, &mut tally);
+        sequence(trial, count, 30, &mut tally);
     }
-    let all: u64 = tally.iter().sum();
-    let met = [0, 14, 15, 16, 18]
-        .iter()
-        .all(|&number| tally[number] > all / 200);
-    assert!(met && all >= 200_000, "{tally:?}");
+    trial.share("requests", tally.iter().sum(), [10, 1]);
+    for number in [0, 14, 15, 16, 18] {
+        trial.share(&format!("answered {number}"), tally[number], [1, 16]);
+    }
 }
 
-#[test]
-fn nearly_full_tables() {
-    let mut trial = Trial::new("desk, nearly full tables");
+fn nearly_full_tables(trial: &mut Trial) {
     let mut tally = [0; 20];
-    for _ in 0..trial.cases(6000) {
+    for _ in trial.cases(6000) {
         let count = trial.rng.pick(&[60, 62, 63, 64]);
-        sequence(&mut trial, count, 20, &mut tally);
+        sequence(trial, count, 20, &mut tally);
     }
-    assert!(tally[0] > 500 && tally[17] > 500, "{tally:?}");
+    trial.share("answered 0", tally[0], [1, 12]);
+    trial.share("answered 17", tally[17], [1, 12]);
 }
 
-#[test]
-fn every_small_request() {
-    let mut trial = Trial::new("desk, every small request");
-    for _ in 0..trial.cases(60) {
+fn every_small_request(trial: &mut Trial) {
+    for _ in trial.cases(60) {
         let mut spread = jobs::spread(&mut trial.rng);
         spread.from = 0;
         let count = trial.rng.between(0, 4);
         let mut lent = Lent::new(jobs::table(&mut trial.rng, count, spread));
-        open(&trial, &mut lent);
-        for t in 0..14 {
+        open(trial, &mut lent);
+        for t in trial.each(0..14) {
             for c in 0..9 {
                 for d in 0..24 {
-                    request(&trial, &mut lent.clone(), Request { t, c, d });
+                    request(trial, &mut lent.clone(), Request { t, c, d });
                 }
             }
         }
     }
 }
 
-#[test]
-fn openings() {
-    let mut trial = Trial::new("desk, openings");
-    for _ in 0..trial.cases(60_000) {
+fn openings(trial: &mut Trial) {
+    for _ in trial.cases(60_000) {
         let rng = &mut trial.rng;
         let spread = jobs::spread(rng);
         let count = rng.pick(&[0, 1, 2, 3, 63, 64]);
@@ -309,16 +286,14 @@ fn openings() {
         if rng.one_in(10) {
             lent.lend(rng.pick(&[0, 1, 63, 65, 128]));
         }
-        open(&trial, &mut lent);
+        open(trial, &mut lent);
     }
 }
 
 /// 13 comes before all other refusals, and changes nothing.
-#[test]
-fn spoilt_tables() {
-    let mut trial = Trial::new("desk, spoilt tables");
+fn spoilt_tables(trial: &mut Trial) {
     let mut refused = 0;
-    for _ in 0..trial.cases(80_000) {
+    for _ in trial.cases(80_000) {
         let rng = &mut trial.rng;
         let spread = jobs::spread(rng);
         let count = rng.pick(&[0, 1, 2, 3, 10, 63, 64]);
@@ -336,7 +311,7 @@ fn spoilt_tables() {
         if rng.one_in(10) {
             lent.lend(rng.pick(&[0, 1, 63, 65, 128]));
         }
-        refused += u64::from(request(&trial, &mut lent, asked).number == 13);
+        refused += u64::from(request(trial, &mut lent, asked).number == 13);
     }
-    assert!(refused > 30_000, "{refused}");
+    trial.share("refused with 13", refused, [3, 8]);
 }

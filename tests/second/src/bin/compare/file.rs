@@ -1,55 +1,23 @@
 //! The reader, the sections and the writer: the library against the second program.
 
-use second::file;
 use second::inputs::faults;
 use second::inputs::files::{self, get, put, Tables};
 use second::rng::Rng;
-use second::trial::Trial;
+use second::{file, Answer};
 
-mod library {
-    use second::Answer;
+use crate::batch::Entry;
+use crate::trial::{Named, Trial};
 
-    extern "C" {
-        fn merkazobi_read(file: *const u8, bytes: usize) -> Answer;
-        fn merkazobi_section(file: *const u8, bytes: usize, which: u64) -> Answer;
-        fn merkazobi_write(
-            frame: u64,
-            parts: *const u16,
-            part_numbers: usize,
-            tasks: *const u16,
-            task_numbers: usize,
-            runs: *const u16,
-            run_numbers: usize,
-            out: *mut u8,
-            out_bytes: usize,
-        ) -> Answer;
-    }
-
-    pub fn read(file: &[u8]) -> Answer {
-        unsafe { merkazobi_read(file.as_ptr(), file.len()) }
-    }
-
-    pub fn section(file: &[u8], which: u64) -> Answer {
-        unsafe { merkazobi_section(file.as_ptr(), file.len(), which) }
-    }
-
-    pub fn write(tables: &super::Tables, out: &mut [u8]) -> Answer {
-        let [parts, tasks, runs] = [&tables.parts, &tables.tasks, &tables.runs];
-        unsafe {
-            merkazobi_write(
-                tables.frame,
-                parts.as_ptr(),
-                parts.len(),
-                tasks.as_ptr(),
-                tasks.len(),
-                runs.as_ptr(),
-                runs.len(),
-                out.as_mut_ptr(),
-                out.len(),
-            )
-        }
-    }
-}
+pub const TRIALS: &[Named] = &[
+    ("file, good", good_files),
+    ("file, damaged", damaged_files),
+    ("file, two rules at once", two_rules_at_once),
+    ("file, every number of W1", every_number_of_w1),
+    ("file, every pair of W1", every_pair_of_w1),
+    ("file, at the limits", at_the_limits),
+    ("file, lengths that wrap", lengths_that_wrap),
+    ("file, spoilt tables", spoilt_tables),
+];
 
 const PATTERN: u8 = 0xA5;
 const BEHIND: usize = 8;
@@ -60,30 +28,43 @@ const W1: [u8; 44] = [
 ];
 
 /// The reader and every section; the refusal's number.
-fn compare_read(trial: &Trial, bytes: &[u8]) -> u64 {
-    let answer = library::read(bytes);
-    trial.same(bytes, answer, file::read(bytes));
+fn compare_read(trial: &mut Trial, bytes: &[u8]) -> u64 {
+    let answer = read(trial, bytes);
     for which in [0, 1, 2, 3, 1 << 32, u64::MAX] {
-        let second = file::section(bytes, which);
-        trial.same((bytes, which), library::section(bytes, which), second);
+        section(trial, bytes, which);
     }
     answer.number
 }
 
-/// Lends so many bytes to both writers; the refusal's number.
-fn compare_write(trial: &Trial, tables: &Tables, out_bytes: usize) -> u64 {
+fn read(trial: &mut Trial, bytes: &[u8]) -> Answer {
+    let answer = file::read(bytes);
+    trial.call(Entry::Read, [0; 3], answer).reads(bytes);
+    answer
+}
+
+fn section(trial: &mut Trial, bytes: &[u8], which: u64) -> Answer {
+    let answer = file::section(bytes, which);
+    let call = trial.call(Entry::Section, [which, 0, 0], answer);
+    call.reads(bytes);
+    answer
+}
+
+/// Lends so many bytes to both writers; the answer, and the bytes lent.
+fn compare_write(trial: &mut Trial, tables: &Tables, out_bytes: usize) -> (Answer, Vec<u8>) {
     let Tables {
         frame,
         parts,
         tasks,
         runs,
     } = tables;
-    let mut library = vec![PATTERN; out_bytes + BEHIND];
-    let mut second = library.clone();
-    let answer = library::write(tables, &mut library[..out_bytes]);
-    let expected = file::write(*frame, parts, tasks, runs, &mut second[..out_bytes]);
-    trial.same((tables, out_bytes), (answer, &library), (expected, &second));
-    answer.number
+    let before = vec![PATTERN; out_bytes + BEHIND];
+    let mut after = before.clone();
+    let answer = file::write(*frame, parts, tasks, runs, &mut after[..out_bytes]);
+    let call = trial.call(Entry::Write, [*frame, 0, 0], answer);
+    let call = call.reads(parts).reads(tasks).reads(runs);
+    call.writes(out_bytes, &before, &after);
+    after.truncate(out_bytes);
+    (answer, after)
 }
 
 /// The length of the file with these tables.
@@ -102,57 +83,51 @@ fn some_length(rng: &mut Rng, needed: usize) -> usize {
     }
 }
 
-/// What the library's sections hold, as numbers.
-fn bodies(bytes: &[u8]) -> [Vec<u16>; 3] {
+/// What the sections hold, as numbers.
+fn bodies(trial: &mut Trial, bytes: &[u8]) -> [Vec<u16>; 3] {
     [0, 1, 2].map(|which| {
-        let body = library::section(bytes, which);
+        let body = section(trial, bytes, which);
         let body = body.first as usize..body.second as usize;
         body.step_by(2).map(|at| get(bytes, at)).collect()
     })
 }
 
 /// Read after write gives the tables, write after read gives the bytes.
-fn there_and_back(trial: &Trial, tables: &Tables) {
-    let mut out = vec![PATTERN; length(tables)];
-    let answer = library::write(tables, &mut out);
+fn there_and_back(trial: &mut Trial, tables: &Tables) {
+    let (answer, out) = compare_write(trial, tables, length(tables));
     trial.same(tables, answer.first, out.len() as u64);
-    let [parts, tasks, runs] = bodies(&out);
+    let [parts, tasks, runs] = bodies(trial, &out);
     let again = Tables {
-        frame: library::read(&out).first,
+        frame: read(trial, &out).first,
         parts,
         tasks,
         runs,
     };
     trial.same(&out, &again, tables);
-    let mut bytes = vec![PATTERN; out.len()];
-    library::write(&again, &mut bytes);
+    let (_, bytes) = compare_write(trial, &again, out.len());
     trial.same(tables, bytes, out);
 }
 
-#[test]
-fn good_files() {
-    let mut trial = Trial::new("file, good");
-    for _ in 0..trial.cases(20_000) {
+fn good_files(trial: &mut Trial) {
+    for _ in trial.cases(20_000) {
         let longest = trial.rng.pick(&[1, 4, 20, 40]);
         let tables = files::tables(&mut trial.rng, longest);
-        let number = compare_read(&trial, &tables.bytes());
+        let number = compare_read(trial, &tables.bytes());
         trial.same(&tables, number, 0);
-        there_and_back(&trial, &tables);
+        there_and_back(trial, &tables);
         let out_bytes = some_length(&mut trial.rng, length(&tables));
-        compare_write(&trial, &tables, out_bytes);
+        compare_write(trial, &tables, out_bytes);
     }
 }
 
-#[test]
-fn damaged_files() {
-    let mut trial = Trial::new("file, damaged");
-    for _ in 0..trial.cases(80_000) {
+fn damaged_files(trial: &mut Trial) {
+    for _ in trial.cases(80_000) {
         let longest = trial.rng.pick(&[4, 12, 40]);
         let mut bytes = files::tables(&mut trial.rng, longest).bytes();
         for _ in 0..trial.rng.pick(&[1, 1, 1, 2, 3]) {
             files::damage(&mut trial.rng, &mut bytes);
         }
-        compare_read(&trial, &bytes);
+        compare_read(trial, &bytes);
     }
 }
 
@@ -179,10 +154,8 @@ fn break_rule(rng: &mut Rng, bytes: &mut Vec<u8>, number: u64) {
 }
 
 /// "lowest number first"
-#[test]
-fn two_rules_at_once() {
-    let mut trial = Trial::new("file, two rules at once");
-    for _ in 0..trial.cases(300) {
+fn two_rules_at_once(trial: &mut Trial) {
+    for _ in trial.cases(300) {
         for low in 1..=8 {
             for high in low..=8 {
                 let mut tables = files::tables(&mut trial.rng, 12);
@@ -192,74 +165,67 @@ fn two_rules_at_once() {
                 if low < high {
                     break_rule(&mut trial.rng, &mut bytes, low);
                 }
-                let number = compare_read(&trial, &bytes);
+                let number = compare_read(trial, &bytes);
                 trial.same((&bytes, low, high), number, low);
             }
         }
     }
 }
 
-#[test]
-fn every_number_of_w1() {
-    let trial = Trial::new("file, every number of W1");
-    for length in 0..=W1.len() {
-        compare_read(&trial, &W1[..length]);
+fn every_number_of_w1(trial: &mut Trial) {
+    for length in trial.each(0..=W1.len()) {
+        compare_read(trial, &W1[..length]);
     }
-    for more in [1, 2, 3, 4, 8, 65536 - 44, 65536] {
-        compare_read(&trial, &[&W1[..], &vec![0; more]].concat());
+    for more in trial.each([1, 2, 3, 4, 8, 65536 - 44, 65536]) {
+        compare_read(trial, &[&W1[..], &vec![0; more]].concat());
     }
-    for at in (0..W1.len()).step_by(2) {
+    for at in trial.each((0..W1.len()).step_by(2)) {
         for number in 0..=u16::MAX {
             let near = !(70..=65532).contains(&number);
             if near || faults::EDGES.contains(&number) {
                 let mut bytes = W1;
                 put(&mut bytes, at, number);
-                compare_read(&trial, &bytes);
+                compare_read(trial, &bytes);
             }
         }
     }
 }
 
-#[test]
-fn every_pair_of_w1() {
-    let trial = Trial::new("file, every pair of W1");
+fn every_pair_of_w1(trial: &mut Trial) {
     let numbers = [0, 1, 2, 3, 4, 5, 16, 28, 36, 65535];
-    for first in (0..W1.len()).step_by(2) {
+    for first in trial.each((0..W1.len()).step_by(2)) {
         for second in (0..first).step_by(2) {
             for (one, other) in numbers.iter().flat_map(|n| numbers.map(|k| (*n, k))) {
                 let mut bytes = W1;
                 put(&mut bytes, first, one);
                 put(&mut bytes, second, other);
-                compare_read(&trial, &bytes);
+                compare_read(trial, &bytes);
             }
         }
     }
 }
 
-#[test]
-fn at_the_limits() {
-    let mut trial = Trial::new("file, at the limits");
-    for _ in 0..trial.cases(150) {
+fn at_the_limits(trial: &mut Trial) {
+    for _ in trial.cases(150) {
         let tables = files::largest(&mut trial.rng);
-        there_and_back(&trial, &tables);
+        there_and_back(trial, &tables);
         let mut bytes = tables.bytes();
-        trial.same(&bytes, compare_read(&trial, &bytes), 0);
+        let number = compare_read(trial, &bytes);
+        trial.same(&bytes, number, 0);
         files::damage(&mut trial.rng, &mut bytes);
-        compare_read(&trial, &bytes);
+        compare_read(trial, &bytes);
         let out_bytes = some_length(&mut trial.rng, length(&tables));
-        compare_write(&trial, &tables, out_bytes);
+        compare_write(trial, &tables, out_bytes);
     }
 }
 
 /// Lengths whose sum, taken in two bytes, would be the frame.
-#[test]
-fn lengths_that_wrap() {
-    let mut trial = Trial::new("file, lengths that wrap");
-    for _ in 0..trial.cases(5000) {
+fn lengths_that_wrap(trial: &mut Trial) {
+    for _ in trial.cases(5000) {
         let mut tables = files::tables(&mut trial.rng, 12);
         faults::wrapping_lengths(&mut trial.rng, &mut tables.runs);
-        compare_read(&trial, &tables.bytes());
-        compare_write(&trial, &tables, length(&tables));
+        compare_read(trial, &tables.bytes());
+        compare_write(trial, &tables, length(&tables));
     }
 }
 
@@ -276,17 +242,15 @@ fn spoil(rng: &mut Rng, tables: &mut Tables) {
     }
 }
 
-#[test]
-fn spoilt_tables() {
-    let mut trial = Trial::new("file, spoilt tables");
-    for _ in 0..trial.cases(60_000) {
+fn spoilt_tables(trial: &mut Trial) {
+    for _ in trial.cases(60_000) {
         let longest = trial.rng.pick(&[4, 12, 40]);
         let mut tables = files::tables(&mut trial.rng, longest);
         for _ in 0..trial.rng.pick(&[1, 1, 2, 3]) {
             spoil(&mut trial.rng, &mut tables);
         }
         let out_bytes = some_length(&mut trial.rng, length(&tables));
-        compare_write(&trial, &tables, out_bytes);
-        compare_read(&trial, &tables.bytes());
+        compare_write(trial, &tables, out_bytes);
+        compare_read(trial, &tables.bytes());
     }
 }

@@ -4,36 +4,33 @@ use second::inputs::files::{self, Tables};
 use second::inputs::tables;
 use second::listing;
 use second::rng::Rng;
-use second::trial::Trial;
 
-mod library {
-    use second::Answer;
+use crate::batch::Entry;
+use crate::trial::{Named, Trial};
 
-    extern "C" {
-        fn merkazobi_list(file: *const u8, bytes: usize, out: *mut u8, out_bytes: usize) -> Answer;
-    }
-
-    pub fn list(file: &[u8], out: &mut [u8]) -> Answer {
-        unsafe { merkazobi_list(file.as_ptr(), file.len(), out.as_mut_ptr(), out.len()) }
-    }
-}
+pub const TRIALS: &[Named] = &[
+    ("listing, serving", serving),
+    (
+        "listing, plans that may not serve",
+        plans_that_may_not_serve,
+    ),
+    ("listing, damaged", damaged),
+    (
+        "listing, every length of the output",
+        every_length_of_the_output,
+    ),
+    ("listing, long", long_listings),
+];
 
 const PATTERN: u8 = 0xA5;
 const BEHIND: usize = 8;
 
-fn compare_into(trial: &Trial, file: &[u8], out_bytes: usize) {
-    let mut library = vec![PATTERN; out_bytes + BEHIND];
-    let mut second = library.clone();
-    let answer = library::list(file, &mut library[..out_bytes]);
-    let expected = listing::list(file, &mut second[..out_bytes]);
-    if (answer, &library) != (expected, &second) {
-        let read = |out: &[u8]| String::from_utf8_lossy(out).into_owned();
-        trial.same(
-            (file, out_bytes),
-            (answer, read(&library), &library),
-            (expected, read(&second), &second),
-        );
-    }
+fn compare_into(trial: &mut Trial, file: &[u8], out_bytes: usize) {
+    let before = vec![PATTERN; out_bytes + BEHIND];
+    let mut after = before.clone();
+    let answer = listing::list(file, &mut after[..out_bytes]);
+    let call = trial.call(Entry::List, [0; 3], answer);
+    call.reads(file).writes(out_bytes, &before, &after);
 }
 
 /// An output too short, exact or longer; the listing of the second program.
@@ -57,24 +54,21 @@ fn some_serving(rng: &mut Rng) -> Tables {
     files::serving(rng, count, longest, tasks)
 }
 
-#[test]
-fn serving() {
-    let mut trial = Trial::new("listing, serving");
+fn serving(trial: &mut Trial) {
     let [mut pass, mut fail] = [0, 0];
-    for _ in 0..trial.cases(25_000) {
+    for _ in trial.cases(25_000) {
         let file = some_serving(&mut trial.rng).bytes();
-        let text = compare(&mut trial, &file);
-        pass += text.matches("pass").count();
-        fail += text.matches("fail").count();
+        let text = compare(trial, &file);
+        pass += text.matches("pass").count() as u64;
+        fail += text.matches("fail").count() as u64;
     }
-    assert!(pass > 1000 && fail > 1000, "{pass} {fail}");
+    trial.share("pass", pass, [1, 25]);
+    trial.share("fail", fail, [1, 25]);
 }
 
-#[test]
-fn plans_that_may_not_serve() {
-    let mut trial = Trial::new("listing, plans that may not serve");
+fn plans_that_may_not_serve(trial: &mut Trial) {
     let mut refused = 0;
-    for _ in 0..trial.cases(20_000) {
+    for _ in trial.cases(20_000) {
         let mut tables = files::tables(&mut trial.rng, 12);
         if trial.rng.one_in(2) {
             let frame = tables.frame as usize;
@@ -83,43 +77,37 @@ fn plans_that_may_not_serve() {
             let part = tables::partitions(&mut trial.rng, 1, frame);
             tables.parts[3 * record + 1..][..2].copy_from_slice(&part[1..]);
         }
-        let text = compare(&mut trial, &tables.bytes());
-        refused += usize::from(text == "refused 9\n");
+        let text = compare(trial, &tables.bytes());
+        refused += u64::from(text == "refused 9\n");
     }
-    assert!(refused > 1000, "{refused}");
+    trial.share("refused with 9", refused, [1, 20]);
 }
 
-#[test]
-fn damaged() {
-    let mut trial = Trial::new("listing, damaged");
-    for _ in 0..trial.cases(40_000) {
+fn damaged(trial: &mut Trial) {
+    for _ in trial.cases(40_000) {
         let mut file = some_serving(&mut trial.rng).bytes();
         for _ in 0..trial.rng.pick(&[1, 1, 2, 3]) {
             files::damage(&mut trial.rng, &mut file);
         }
-        compare(&mut trial, &file);
+        compare(trial, &file);
     }
 }
 
-#[test]
-fn every_length_of_the_output() {
-    let mut trial = Trial::new("listing, every length of the output");
-    for _ in 0..trial.cases(50) {
+fn every_length_of_the_output(trial: &mut Trial) {
+    for _ in trial.cases(50) {
         let file = some_serving(&mut trial.rng).bytes();
         for out_bytes in 0..=listing::text(&file).len() + 3 {
-            compare_into(&trial, &file, out_bytes);
+            compare_into(trial, &file, out_bytes);
         }
         for out_bytes in 0..=12 {
-            compare_into(&trial, &file[..file.len() - 1], out_bytes);
+            compare_into(trial, &file[..file.len() - 1], out_bytes);
         }
     }
 }
 
 /// Sixteen partitions, many tasks, and numbers of up to four digits.
-#[test]
-fn long_listings() {
-    let mut trial = Trial::new("listing, long");
-    for case in 0..trial.cases(20) {
+fn long_listings(trial: &mut Trial) {
+    for case in trial.cases(20) {
         let mut tables = some_serving(&mut trial.rng);
         let partitions = tables.partitions();
         for _ in 0..trial.rng.between(60, 128 - tables.tasks.len() / 4) {
@@ -130,7 +118,7 @@ fn long_listings() {
         if case % 5 == 0 {
             tables = long_frame(&mut trial.rng);
         }
-        compare(&mut trial, &tables.bytes());
+        compare(trial, &tables.bytes());
     }
 }
 

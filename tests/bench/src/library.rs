@@ -1,0 +1,71 @@
+//! The library's entries that are timed, over slices.
+
+use second::desk::{Desk, Job};
+use second::Answer;
+
+#[cfg(not(target_arch = "x86_64"))]
+compile_error!("the archive is for x86-64, and a time under an emulator means nothing");
+
+#[link(name = "api", kind = "static")]
+extern "C" {
+    fn merkazobi_build(
+        parts: *const u16,
+        part_numbers: usize,
+        out: *mut u16,
+        out_ticks: usize,
+    ) -> Answer;
+    fn merkazobi_check(
+        plan: *const u16,
+        ticks: usize,
+        parts: *const u16,
+        part_numbers: usize,
+    ) -> Answer;
+    fn merkazobi_verdict(
+        plan: *const u16,
+        ticks: usize,
+        parts: *const u16,
+        part_numbers: usize,
+        tasks: *const u16,
+        task_numbers: usize,
+        place: usize,
+    ) -> Answer;
+    fn merkazobi_list(file: *const u8, bytes: usize, out: *mut u8, out_bytes: usize) -> Answer;
+    fn merkazobi_request(
+        desk: *mut Desk,
+        jobs: *mut Job,
+        places: usize,
+        t: u32,
+        c: u32,
+        d: u32,
+    ) -> Answer;
+}
+
+pub fn build(parts: &[u16], out: &mut [u16]) -> Answer {
+    unsafe { merkazobi_build(parts.as_ptr(), parts.len(), out.as_mut_ptr(), out.len()) }
+}
+
+pub fn check(plan: &[u16], parts: &[u16]) -> Answer {
+    unsafe { merkazobi_check(plan.as_ptr(), plan.len(), parts.as_ptr(), parts.len()) }
+}
+
+pub fn verdict(plan: &[u16], parts: &[u16], tasks: &[u16], place: usize) -> Answer {
+    unsafe {
+        merkazobi_verdict(
+            plan.as_ptr(),
+            plan.len(),
+            parts.as_ptr(),
+            parts.len(),
+            tasks.as_ptr(),
+            tasks.len(),
+            place,
+        )
+    }
+}
+
+pub fn list(file: &[u8], out: &mut [u8]) -> Answer {
+    unsafe { merkazobi_list(file.as_ptr(), file.len(), out.as_mut_ptr(), out.len()) }
+}
+
+pub fn request(desk: &mut Desk, jobs: &mut [Job], t: u32, c: u32, d: u32) -> Answer {
+    unsafe { merkazobi_request(desk, jobs.as_mut_ptr(), jobs.len(), t, c, d) }
+}

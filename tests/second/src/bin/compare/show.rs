@@ -1,0 +1,215 @@
+//! A call in words, for the complaint.
+
+use std::fmt::Write;
+
+use crate::batch::{number, ANSWER, GIVEN, HEAD, SLICES};
+
+/// What an entry is called, the plain numbers that it is given, and what is lent to it.
+type Names = (
+    &'static str,
+    &'static [&'static str],
+    &'static [&'static str],
+);
+
+/// What is shown as text too.
+const TEXT: &str = "text";
+
+const ENTRIES: [Names; 12] = [
+    ("wants", &["m", "num", "den"], &[]),
+    ("held", &["p", "s", "n"], &["plan"]),
+    ("least", &["p", "t"], &["plan"]),
+    ("check", &[], &["plan", "parts"]),
+    ("build", &[], &["parts", "out"]),
+    ("verdict", &["place"], &["plan", "parts", "tasks"]),
+    ("read", &[], &["file"]),
+    ("section", &["which"], &["file"]),
+    ("write", &["frame"], &["parts", "tasks", "runs", "out"]),
+    ("list", &[], &["file", TEXT]),
+    ("open", &[], &["desk", "jobs"]),
+    ("request", &["t", "c", "d"], &["desk", "jobs"]),
+];
+
+/// So many calls of each entry.
+pub type Tally = [u64; ENTRIES.len()];
+
+/// The numbers of calls beside the entries' names, of those that were called.
+pub fn by_entry(tally: &Tally) -> String {
+    let named = ENTRIES.iter().zip(tally).filter(|(_, calls)| **calls > 0);
+    let named: Vec<String> = named
+        .map(|((name, ..), calls)| format!("{name} {calls}"))
+        .collect();
+    named.join(", ")
+}
+
+/// The call as it was asked, and what each program made of it.
+pub fn complaint(asked: &[u8], library: &[u8], second: &[u8]) -> String {
+    let (name, given, _) = ENTRIES[number(asked, 0) as usize];
+    let mut text = format!("input {name}");
+    for (place, what) in given.iter().enumerate() {
+        let _ = write!(text, " {what} {}", number(asked, GIVEN + 8 * place));
+    }
+    let slices = slices(asked);
+    for slice in &slices {
+        text += &slice.shown(asked);
+    }
+    for (who, bytes) in [("library", library), ("second", second)] {
+        let _ = write!(text, "\n{who} {}", answer(bytes));
+        let touched =
+            |slice: &&Slice| slice.differs(asked, library) || slice.differs(asked, second);
+        for slice in slices.iter().filter(touched) {
+            text += &slice.shown(bytes);
+        }
+    }
+    text + &first_difference(&slices, library, second)
+}
+
+fn answer(bytes: &[u8]) -> String {
+    let numbers = [0, 1, 2, 3, 4].map(|place| number(bytes, ANSWER + 8 * place));
+    let [number, values @ ..] = numbers;
+    format!("number {number}, values {values:?}")
+}
+
+/// Where the two differ first, if it is not in the answer.
+fn first_difference(slices: &[Slice], library: &[u8], second: &[u8]) -> String {
+    let differs = |at: &usize| library[*at] != second[*at];
+    let at = (0..second.len()).find(differs).unwrap_or(0);
+    if (ANSWER..SLICES).contains(&at) {
+        return String::new();
+    }
+    match slices
+        .iter()
+        .find(|slice| (slice.from..slice.to).contains(&at))
+    {
+        Some(slice) => {
+            let element = (at - slice.from) / slice.width;
+            format!("\nfirst difference: {}, element {element}", slice.name)
+        }
+        // In the call's head, or in what fills up a slice.
+        None => format!("\nfirst difference: outside of all that was lent, byte {at} of the call"),
+    }
+}
+
+/// Where a lent slice stands in its call.
+struct Slice {
+    name: &'static str,
+    lent: usize,
+    width: usize,
+    from: usize,
+    to: usize,
+}
+
+fn slices(asked: &[u8]) -> Vec<Slice> {
+    let (.., names) = ENTRIES[number(asked, 0) as usize];
+    let mut at = HEAD;
+    let mut slices = Vec::new();
+    for name in names {
+        let [lent, width, bytes] = [0, 8, 16].map(|more| number(asked, at + more) as usize);
+        let from = at + 24;
+        let to = from + bytes;
+        slices.push(Slice {
+            name,
+            lent,
+            width,
+            from,
+            to,
+        });
+        at = to.next_multiple_of(8);
+    }
+    slices
+}
+
+impl Slice {
+    fn bytes<'a>(&self, call: &'a [u8]) -> &'a [u8] {
+        &call[self.from..self.to]
+    }
+
+    fn differs(&self, one: &[u8], other: &[u8]) -> bool {
+        self.bytes(one) != self.bytes(other)
+    }
+
+    fn shown(&self, call: &[u8]) -> String {
+        let (lent, behind) = self.bytes(call).split_at(self.lent * self.width);
+        let mut text = format!("\n  {} [{}]", self.name, elements(lent, self.width));
+        if !behind.is_empty() {
+            let _ = write!(text, ", behind it [{}]", elements(behind, self.width));
+        }
+        if self.name == TEXT {
+            let read = String::from_utf8_lossy(lent);
+            let _ = write!(text, ": {:?}", read.trim_end_matches('\u{fffd}'));
+        }
+        text
+    }
+}
+
+/// The elements as numbers of their width, many equal neighbours once: `7 x 30`.
+fn elements(bytes: &[u8], width: usize) -> String {
+    let each: Vec<&[u8]> = bytes.chunks(width).collect();
+    let mut shown = Vec::new();
+    for run in each.chunk_by(|one, next| one == next) {
+        let one = element(run[0]);
+        match run.len() {
+            few @ 0..=4 => shown.extend(vec![one; few]),
+            many => shown.push(format!("{one} x {many}")),
+        }
+    }
+    shown.join(", ")
+}
+
+/// A number of one or two bytes, or a record of numbers of four.
+fn element(bytes: &[u8]) -> String {
+    match *bytes {
+        [one] => one.to_string(),
+        [low, high] => u16::from_le_bytes([low, high]).to_string(),
+        _ => {
+            let words = bytes.chunks_exact(4);
+            let numbers =
+                words.map(|word| u32::from_le_bytes([word[0], word[1], word[2], word[3]]));
+            let numbers: Vec<String> = numbers.map(|number| number.to_string()).collect();
+            format!("({})", numbers.join(" "))
+        }
+    }
+}
+
+#[cfg(test)]
+mod tests {
+    use second::Answer;
+
+    use super::complaint;
+    use crate::batch::{Batch, Entry};
+
+    /// Two calls, of which the second comes back with another number at a place.
+    fn shown(changed: usize) -> String {
+        let mut batch = Batch::new();
+        batch.call(Entry::Wants, [1, 1, 1], Answer::good([1, 0, 0, 0]));
+        let start = batch.asked.len();
+        let call = batch.call(Entry::Build, [0; 3], Answer::good([2, 0, 0, 0]));
+        let [before, after] = [[7; 9], [1, 1, 7, 7, 7, 7, 7, 7, 7]];
+        call.reads::<u16>(&[2, 1, 1])
+            .writes::<u16>(3, &before, &after);
+        let mut reply = batch.expected.clone();
+        reply[start + changed] += 1;
+        let call = batch.differing(&reply).unwrap_or_default();
+        complaint(
+            &batch.asked[call.clone()],
+            &reply[call.clone()],
+            &batch.expected[call],
+        )
+    }
+
+    #[test]
+    fn an_answer_that_differs() {
+        let lent = "\n  out [1, 1, 7], behind it [7 x 6]";
+        let input = "input build\n  parts [2, 1, 1]\n  out [7, 7, 7], behind it [7 x 6]";
+        let library = format!("\nlibrary number 0, values [3, 0, 0, 0]{lent}");
+        let second = format!("\nsecond number 0, values [2, 0, 0, 0]{lent}");
+        assert_eq!(shown(40), [input, &library, &second].concat());
+    }
+
+    #[test]
+    fn memory_that_differs() {
+        assert!(shown(104).ends_with("\nfirst difference: parts, element 0"));
+        assert!(shown(110)
+            .ends_with("\nfirst difference: outside of all that was lent, byte 110 of the call"));
+        assert!(shown(144).ends_with("\nfirst difference: out, element 4"));
+    }
+}
