@@ -1,13 +1,93 @@
-/* Merkazobi, the box planner: the C surface over libapi.a. The rules and the refusal numbers are document 01's. */
+/* Merkazobi, the box planner: the C surface. Rules and refusal numbers are document 01's; docs/FORMAT.md has the plan
+   file, all limits and the refusals in words.
+
+   The library is for x86-64 Linux. Installed by `make install`, it is libmerkazobi.a (pkg-config: merkazobi); in the
+   repository `rt staticlib api` writes target/staticlib/libapi.a, which is the same archive.
+
+   Every call ends with an answer, whatever numbers and bytes it is given. It allocates nothing, keeps nothing between
+   calls and calls nothing back, so any thread may call at any time, with memory of its own.
+
+   Pointers: what is lent must be there for the whole length said, aligned as its type asks. A null pointer is good
+   where the length is 0. What is lent for writing must not overlap anything else of the same call.
+
+   Cost: `merkazobi_list` takes up to MERKAZOBI_LIST_STACK bytes of stack, every other call up to MERKAZOBI_STACK. At the
+   limits a build, read or write takes well under a millisecond; a check up to some 0.3 s (16 partitions whose cycle is
+   a frame of 4,096); a verdict for D 4,096 in that frame 0.2 s with a few higher tasks, but half a minute where nearly
+   every tick is a scheduling point; a listing checks its plan and judges every task. A call of the desk goes through
+   its 64 places a few times: microseconds, whatever is asked. */
 #ifndef MERKAZOBI_H
 #define MERKAZOBI_H
 
 #include <stddef.h>
 #include <stdint.h>
 
+#ifdef __cplusplus
+extern "C" {
+#endif
+
+/* Limits: "Partitions 1 to 16, tasks 0 to 128, frame 1 to 4,096 ticks, runs 1 to 4,096. Cycle 1 to 4,096. Share num/den
+   with 1 <= num <= den <= 1,000. A task has 1 <= C <= D <= T <= 4,096". */
+#define MERKAZOBI_PARTITIONS 16
+#define MERKAZOBI_TASKS 128
+#define MERKAZOBI_FRAME 4096
+#define MERKAZOBI_RUNS 4096
+#define MERKAZOBI_CYCLE 4096
+#define MERKAZOBI_SHARE 1000
+#define MERKAZOBI_PERIOD 4096
+
+/* The desk: "64 jobs; times and budgets up to 1,000,000". */
+#define MERKAZOBI_PLACES 64
+#define MERKAZOBI_TIME 1000000
+
+/* Tables are numbers one behind the other, and a length always counts numbers, never records: a partition is 3 numbers
+   (cycle, num, den), a task 4 (partition, C, D, T), a run 2 (owner, length). So two partitions of cycle 4, shares 1/4
+   and 1/2, are lent as
+
+       const uint16_t parts[] = {4, 1, 4, 4, 1, 2};
+       merkazobi_build(parts, 6, out, MERKAZOBI_FRAME);
+
+   A length that is no whole number of records is refused with 3. A plan is the owner of each tick, 0 for idle: its
+   length is the frame. The length of a file or a text counts bytes, that of a job table places. */
+#define MERKAZOBI_PART_NUMBERS 3
+#define MERKAZOBI_TASK_NUMBERS 4
+#define MERKAZOBI_RUN_NUMBERS 2
+
+/* An output of so many bytes is long enough for any plan file, and for any listing: a line for the frame, each partition
+   and each task, of at most 128 bytes each. */
+#define MERKAZOBI_FILE_BYTES                                                                                         \
+    (16 + 2 * (MERKAZOBI_PART_NUMBERS * MERKAZOBI_PARTITIONS + MERKAZOBI_TASK_NUMBERS * MERKAZOBI_TASKS +            \
+               MERKAZOBI_RUN_NUMBERS * MERKAZOBI_RUNS))
+#define MERKAZOBI_LISTING_BYTES (128 * (1 + MERKAZOBI_PARTITIONS + MERKAZOBI_TASKS))
+
+#define MERKAZOBI_STACK 1024
+#define MERKAZOBI_LIST_STACK 32768
+
+/* The refusal numbers. Where several rules are broken the lowest number is told, then the lowest place. */
+enum {
+    MERKAZOBI_GOOD = 0,
+    MERKAZOBI_FILE_SHORT = 1, /* file under 16 bytes */
+    MERKAZOBI_EDITION = 2,    /* edition */
+    MERKAZOBI_LIMITS = 3,     /* a count or frame outside its limits */
+    MERKAZOBI_OFFSET = 4,     /* an offset is wrong */
+    MERKAZOBI_LENGTH = 5,     /* length differs from the contents */
+    MERKAZOBI_PARTITION = 6,  /* bad partition; first: its place from 1 */
+    MERKAZOBI_TASK = 7,       /* bad task; first: its place from 1, or 0 where the place asked for is not in the table */
+    MERKAZOBI_RUN = 8,        /* bad run or tick; first: its place from 1 */
+    MERKAZOBI_SERVICE = 9,    /* plan doesn't serve; partition, start, held, wanted */
+    MERKAZOBI_HARMONIC = 10,  /* cycles not harmonic */
+    MERKAZOBI_TICKS = 11,     /* want of ticks */
+    MERKAZOBI_OUTPUT = 12,    /* output shorter than needed */
+    MERKAZOBI_TABLE = 13,     /* job table, clock or count breaks the rules */
+    MERKAZOBI_NUMBER = 14,    /* C zero, or C, d or t above 1,000,000 */
+    MERKAZOBI_PAST = 15,      /* t before the clock */
+    MERKAZOBI_BUSY = 16,      /* busy */
+    MERKAZOBI_FULL = 17,      /* 64 jobs left after dropping */
+    MERKAZOBI_NO_PLACE = 18,  /* no place */
+    MERKAZOBI_TOO_FAR = 19    /* a move would exceed a job's x: proved never to happen */
+};
+
 /* What a call answers. number is 0 where the call is not refused, else the refusal's number; first to fourth hold what is
-   returned beside it, and 0 where there is nothing. Refusals 6, 7 and 8 have the record's place from 1 in first; 9 has
-   partition, start, held and wanted. */
+   returned beside it, and 0 where there is nothing. */
 typedef struct {
     size_t number;
     size_t first;
@@ -16,7 +96,62 @@ typedef struct {
     size_t fourth;
 } merkazobi_answer;
 
-/* A job of the desk: start a, budget C, deadline d, flexibility x. */
+/* ---- Shares and plans. Refusals 1 to 12 change no output; a success changes only what it needs. */
+
+/* "q = num*m/den, rounded up to a whole number": the ticks that a share wants in a cycle of m. 0 where den is 0. */
+size_t merkazobi_wants(uint16_t m, uint16_t num, uint16_t den);
+
+/* The ticks of partition p in the n ticks of the repeated plan from tick s on; ticks is the plan's length. For p 0 it
+   counts idle ticks. Of an empty plan every tick is idle. */
+size_t merkazobi_held(const uint16_t *plan, size_t ticks, uint16_t p, uint32_t s, uint32_t n);
+
+/* "the smallest number of a partition's ticks in any t consecutive ticks of the repeated plan"; p and ticks as above. */
+size_t merkazobi_least(const uint16_t *plan, size_t ticks, uint16_t p, uint32_t t);
+
+/* The builder: "Take partitions by rising cycle, equal cycles by place. In each cycle, counted from tick 0, give the
+   partition its q earliest idle ticks." first: the frame, the largest cycle. part_numbers is 3 for each partition;
+   out_ticks is how many ticks out has, MERKAZOBI_FRAME is always enough. Refusals 3, 6, 10, 11, 12. */
+merkazobi_answer merkazobi_build(const uint16_t *parts, size_t part_numbers, uint16_t *out, size_t out_ticks);
+
+/* The checker: whether "every stretch of m consecutive ticks of the repeated plan, from any start and across the frame's
+   end too, holds at least q ticks of that partition". ticks is the frame, part_numbers is 3 for each partition.
+   Refusals 3, 6, 8, 9; an empty plan is 3. */
+merkazobi_answer merkazobi_check(const uint16_t *plan, size_t ticks, const uint16_t *parts, size_t part_numbers);
+
+/* The verdict for the task at a place counted from 1: "Task i passes exactly when demand(t) <= least(t) for some t from 1
+   to D." first: the smallest scheduling point that holds, or 0 where the task fails. ticks is the frame, part_numbers
+   is 3 for each partition, task_numbers 4 for each task. Refusals 3, 6, 7, 8, 9; "a place outside the table is 7 with
+   place 0, after the other 7s". */
+merkazobi_answer merkazobi_verdict(const uint16_t *plan, size_t ticks, const uint16_t *parts, size_t part_numbers,
+                                   const uint16_t *tasks, size_t task_numbers, size_t place);
+
+/* ---- The plan file (docs/FORMAT.md). */
+
+/* The reader of a plan file. first: the frame; second, third, fourth: how many partitions, tasks, runs (records, not
+   numbers). Refusals 1 to 8. */
+merkazobi_answer merkazobi_read(const uint8_t *file, size_t bytes);
+
+/* "The reader hands back each body as a part of the file itself": which is 0 for partitions, 1 for tasks, 2 for runs.
+   first and second: the byte where the part starts and the one behind its end; both are 0 for a file that is not
+   accepted, and for any other which. number is always 0. The numbers in the part have two bytes, high byte first. */
+merkazobi_answer merkazobi_section(const uint8_t *file, size_t bytes, size_t which);
+
+/* The writer: "puts each body into its own stretch of the lent output". first: the file's length in bytes. part_numbers
+   is 3 for each partition, task_numbers 4 for each task, run_numbers 2 for each run; MERKAZOBI_FILE_BYTES is always
+   enough for out. Refusals 3, 6, 7, 8, 12. */
+merkazobi_answer merkazobi_write(size_t frame, const uint16_t *parts, size_t part_numbers, const uint16_t *tasks,
+                                 size_t task_numbers, const uint16_t *runs, size_t run_numbers, uint8_t *out,
+                                 size_t out_bytes);
+
+/* The listing of a plan file's bytes, as text without a zero behind it; "Any refusal prints only one line, as
+   `refused 9`, with its number." first: the text's length. Where out is too short: 12, and nothing is written;
+   MERKAZOBI_LISTING_BYTES is always enough. */
+merkazobi_answer merkazobi_list(const uint8_t *file, size_t bytes, uint8_t *out, size_t out_bytes);
+
+/* ---- The desk, which takes in late jobs. The caller keeps the job table and the desk's record, and changes nothing in
+   them between the calls. */
+
+/* A job of the desk: start a, budget C, deadline d, flexibility x (how far it can be moved back). */
 typedef struct {
     uint32_t a;
     uint32_t c;
@@ -30,59 +165,20 @@ typedef struct {
     uint32_t count;
 } merkazobi_desk;
 
-/* Tables are numbers one after another: a partition is cycle, num, den; a task is partition, C, D, T; a run is owner,
-   length; a plan is the owner of each tick. A length counts numbers (bytes of a file, places of a job table).
-   Refusals 1 to 12 change no output; a success changes only what it needs. */
-
-/* "q = num*m/den, rounded up to a whole number": the ticks that a share wants in a cycle of m. 0 where den is 0. */
-size_t merkazobi_wants(uint16_t m, uint16_t num, uint16_t den);
-
-/* The ticks of partition p in the n ticks of the repeated plan from tick s on. Of an empty plan every tick is idle. */
-size_t merkazobi_held(const uint16_t *plan, size_t ticks, uint16_t p, uint32_t s, uint32_t n);
-
-/* "the smallest number of a partition's ticks in any t consecutive ticks of the repeated plan" */
-size_t merkazobi_least(const uint16_t *plan, size_t ticks, uint16_t p, uint32_t t);
-
-/* The builder: "Take partitions by rising cycle, equal cycles by place. In each cycle, counted from tick 0, give the
-   partition its q earliest idle ticks." first: the frame, the largest cycle. Refusals 3, 6, 10, 11, 12. */
-merkazobi_answer merkazobi_build(const uint16_t *parts, size_t part_numbers, uint16_t *out, size_t out_ticks);
-
-/* The checker: whether "every stretch of m consecutive ticks of the repeated plan, from any start and across the frame's
-   end too, holds at least q ticks of that partition". Refusals 3, 6, 8, 9. */
-merkazobi_answer merkazobi_check(const uint16_t *plan, size_t ticks, const uint16_t *parts, size_t part_numbers);
-
-/* The verdict for the task at a place counted from 1: "Task i passes exactly when demand(t) <= least(t) for some t from 1
-   to D." first: the smallest scheduling point that holds, or 0 where the task fails. Refusals 3, 6, 7, 8, 9; "a place
-   outside the table is 7 with place 0, after the other 7s". */
-merkazobi_answer merkazobi_verdict(const uint16_t *plan, size_t ticks, const uint16_t *parts, size_t part_numbers,
-                                   const uint16_t *tasks, size_t task_numbers, size_t place);
-
-/* The reader of a plan file. first: the frame; second, third, fourth: how many partitions, tasks, runs. Refusals 1 to 8. */
-merkazobi_answer merkazobi_read(const uint8_t *file, size_t bytes);
-
-/* "The reader hands back each body as a part of the file itself": which is 0 for partitions, 1 for tasks, 2 for runs.
-   first and second: where the part starts and where it ends; both are 0 for a file that is not accepted, and for any
-   other which. number is always 0. */
-merkazobi_answer merkazobi_section(const uint8_t *file, size_t bytes, size_t which);
-
-/* The writer: "puts each body into its own stretch of the lent output". first: the file's length.
-   Refusals 3, 6, 7, 8, 12. */
-merkazobi_answer merkazobi_write(size_t frame, const uint16_t *parts, size_t part_numbers, const uint16_t *tasks,
-                                 size_t task_numbers, const uint16_t *runs, size_t run_numbers, uint8_t *out,
-                                 size_t out_bytes);
-
-/* The listing of a plan file's bytes; "Any refusal prints only one line, as `refused 9`, with its number." first: the
-   text's length. Where out is too short: 12, and nothing is written. */
-merkazobi_answer merkazobi_list(const uint8_t *file, size_t bytes, uint8_t *out, size_t out_bytes);
-
-/* Opening the desk: "takes any x of a listed job and any clock, works x out and sets the clock to 0". A table of other
-   than 64 places is 13. Refusal 13, which changes nothing. */
+/* Opening the desk: "takes any x of a listed job and any clock, works x out and sets the clock to 0". Before it: count
+   is the number of jobs, at most 64; the jobs stand first in the table by rising start, each with c at least 1, with
+   a + c at most its d and at most the next job's a, and with d at most 1,000,000; all places past the count hold zeros.
+   places is 64, the whole table's, whatever the count. Refusal 13, which changes nothing. */
 merkazobi_answer merkazobi_open(merkazobi_desk *desk, merkazobi_job *jobs, size_t places);
 
-/* A request at time t of budget c and deadline d. first: the place from 0, after dropping; second: the start.
-   Refusals 13 to 19: "13, 14, 15 and 19 change nothing at the desk. 16, 17, 18 set the clock to t and drop finished
-   jobs .. A job taken in sets the clock too." */
+/* A request at time t of budget c and deadline d, in ticks of the desk's own partition; places is 64. first: the place
+   from 0, after dropping; second: the start. Refusals 13 to 19: "13, 14, 15 and 19 change nothing at the desk. 16, 17,
+   18 set the clock to t and drop finished jobs .. A job taken in sets the clock too." */
 merkazobi_answer merkazobi_request(merkazobi_desk *desk, merkazobi_job *jobs, size_t places, uint32_t t, uint32_t c,
                                    uint32_t d);
+
+#ifdef __cplusplus
+}
+#endif
 
 #endif

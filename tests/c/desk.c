@@ -1,22 +1,11 @@
 /* D1 to D5 of document 01 on a static table, through the C surface. */
-#include <stdio.h>
 #include <string.h>
 
+#include "expect.h"
 #include "merkazobi.h"
 
-#define PLACES 64
-
-static merkazobi_job table[PLACES];
+static merkazobi_job table[MERKAZOBI_PLACES];
 static merkazobi_desk desk;
-static int failures;
-
-static void expect(const char *what, size_t found, size_t wanted)
-{
-    if (found != wanted) {
-        printf("%s: %zu, not %zu\n", what, found, wanted);
-        failures++;
-    }
-}
 
 static void expect_job(const char *what, size_t place, uint32_t a, uint32_t c, uint32_t d, uint32_t x)
 {
@@ -31,12 +20,12 @@ static void open_d1(void)
     table[1] = (merkazobi_job){15, 5, 24, 7};
     table[2] = (merkazobi_job){30, 2, 40, 0};
     desk = (merkazobi_desk){77, 3};
-    expect("D1", merkazobi_open(&desk, table, PLACES).number, 0);
+    expect("D1", merkazobi_open(&desk, table, MERKAZOBI_PLACES).number, 0);
 }
 
 static merkazobi_answer request(uint32_t t, uint32_t c, uint32_t d)
 {
-    return merkazobi_request(&desk, table, PLACES, t, c, d);
+    return merkazobi_request(&desk, table, MERKAZOBI_PLACES, t, c, d);
 }
 
 static void d1(void)
@@ -80,10 +69,10 @@ static void d3_and_d4(void)
 static void d5(void)
 {
     open_d1();
-    expect("D5", request(12, 1, 40).number, 16);
+    expect("D5", request(12, 1, 40).number, MERKAZOBI_BUSY);
     expect("D5 clock", desk.clock, 12);
     expect("D5 count", desk.count, 3);
-    expect("other places", merkazobi_request(&desk, table, PLACES - 1, 12, 1, 40).number, 13);
+    expect("other places", merkazobi_request(&desk, table, MERKAZOBI_PLACES - 1, 12, 1, 40).number, MERKAZOBI_TABLE);
 }
 
 int main(void)

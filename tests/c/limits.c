@@ -1,0 +1,188 @@
+/* The header against the library: each limit is good and one more is refused, each refusal's name has its number, a null
+   pointer is good where the length is 0, and no call takes more stack than is said. */
+#include <string.h>
+
+#include "expect.h"
+#include "merkazobi.h"
+
+/* Tables as long as they may be, and one record longer. */
+static uint16_t parts[MERKAZOBI_PART_NUMBERS * (MERKAZOBI_PARTITIONS + 1)];
+static uint16_t tasks[MERKAZOBI_TASK_NUMBERS * (MERKAZOBI_TASKS + 1)];
+static uint16_t runs[MERKAZOBI_RUN_NUMBERS * (MERKAZOBI_RUNS + 1)];
+static uint16_t plan[MERKAZOBI_FRAME + 1];
+static uint8_t file[MERKAZOBI_FILE_BYTES];
+static uint8_t text[MERKAZOBI_LISTING_BYTES];
+static merkazobi_job jobs[MERKAZOBI_PLACES + 1];
+static merkazobi_desk desk;
+
+enum {
+    PARTS = MERKAZOBI_PART_NUMBERS * MERKAZOBI_PARTITIONS,
+    TASKS = MERKAZOBI_TASK_NUMBERS * MERKAZOBI_TASKS,
+    RUNS = MERKAZOBI_RUN_NUMBERS * MERKAZOBI_RUNS,
+    FRAME = MERKAZOBI_FRAME,
+    PLACES = MERKAZOBI_PLACES,
+};
+
+/* Partitions by turns, a tick each, as ticks and as runs. */
+static void fill(void)
+{
+    for (size_t i = 0; i <= MERKAZOBI_PARTITIONS; i++)
+        memcpy(&parts[MERKAZOBI_PART_NUMBERS * i], (uint16_t[]){16, 1, 16}, 6);
+    for (size_t i = 0; i <= MERKAZOBI_TASKS; i++)
+        memcpy(&tasks[MERKAZOBI_TASK_NUMBERS * i], (uint16_t[]){1, 1, 16, MERKAZOBI_PERIOD}, 8);
+    for (size_t i = 0; i <= FRAME; i++)
+        plan[i] = (uint16_t)(1 + i % MERKAZOBI_PARTITIONS);
+    for (size_t i = 0; i <= MERKAZOBI_RUNS; i++)
+        memcpy(&runs[MERKAZOBI_RUN_NUMBERS * i], (uint16_t[]){plan[i % FRAME], 1}, 4);
+}
+
+/* A table of one record. */
+static size_t built(uint16_t cycle, uint16_t num, uint16_t den)
+{
+    static uint16_t out[FRAME];
+    return merkazobi_build((uint16_t[]){cycle, num, den}, 3, out, FRAME).number;
+}
+
+static size_t judged(uint16_t c, uint16_t d, uint16_t t)
+{
+    return merkazobi_verdict(plan, FRAME, parts, PARTS, (uint16_t[]){1, c, d, t}, 4, 1).number;
+}
+
+static size_t written(size_t frame, size_t part_numbers, size_t task_numbers, size_t run_numbers, size_t bytes)
+{
+    return merkazobi_write(frame, parts, part_numbers, tasks, task_numbers, runs, run_numbers, file, bytes).number;
+}
+
+static size_t opened(uint32_t count, size_t places)
+{
+    memset(jobs, 0, sizeof jobs);
+    for (uint32_t i = 0; i < count; i++)
+        jobs[i] = (merkazobi_job){10 + i, 1, MERKAZOBI_TIME, 0};
+    desk = (merkazobi_desk){0, count};
+    return merkazobi_open(&desk, jobs, places).number;
+}
+
+static size_t asked(uint32_t t, uint32_t c, uint32_t d)
+{
+    return merkazobi_request(&desk, jobs, PLACES, t, c, d).number;
+}
+
+static void limits(void)
+{
+    expect("partitions and a frame", merkazobi_check(plan, FRAME, parts, PARTS).number, MERKAZOBI_GOOD);
+    expect("a partition more", merkazobi_check(plan, FRAME, parts, PARTS + 3).number, MERKAZOBI_LIMITS);
+    expect("a tick more", merkazobi_check(plan, FRAME + 1, parts, PARTS).number, MERKAZOBI_LIMITS);
+    expect("cycle", built(MERKAZOBI_CYCLE, 1, 1), MERKAZOBI_GOOD);
+    expect("a longer cycle", built(MERKAZOBI_CYCLE + 1, 1, 1), MERKAZOBI_PARTITION);
+    expect("share", built(4, 1, MERKAZOBI_SHARE), MERKAZOBI_GOOD);
+    expect("a finer share", built(4, 1, MERKAZOBI_SHARE + 1), MERKAZOBI_PARTITION);
+    expect("period", judged(1, 16, MERKAZOBI_PERIOD), MERKAZOBI_GOOD);
+    expect("a longer period", judged(1, 16, MERKAZOBI_PERIOD + 1), MERKAZOBI_TASK);
+    expect("the longest file", written(FRAME, PARTS, TASKS, RUNS, sizeof file), MERKAZOBI_GOOD);
+    expect("a byte less", written(FRAME, PARTS, TASKS, RUNS, sizeof file - 1), MERKAZOBI_OUTPUT);
+    expect("a task more", written(FRAME, PARTS, TASKS + 4, RUNS, sizeof file), MERKAZOBI_LIMITS);
+    expect("a run more", written(FRAME, PARTS, TASKS, RUNS + 2, sizeof file), MERKAZOBI_LIMITS);
+    expect("a file of that length", merkazobi_read(file, sizeof file).fourth, MERKAZOBI_RUNS);
+    expect("its listing", merkazobi_list(file, sizeof file, text, sizeof text).number, MERKAZOBI_GOOD);
+    expect("places", opened(PLACES, PLACES), MERKAZOBI_GOOD);
+    expect("a place more", opened(1, PLACES + 1), MERKAZOBI_TABLE);
+    expect("a place less", opened(1, PLACES - 1), MERKAZOBI_TABLE);
+    expect("a job more", opened(PLACES + 1, PLACES), MERKAZOBI_TABLE);
+    opened(1, PLACES);
+    expect("time", asked(0, 1, MERKAZOBI_TIME), MERKAZOBI_GOOD);
+    expect("a later deadline", asked(0, 1, MERKAZOBI_TIME + 1), MERKAZOBI_NUMBER);
+}
+
+/* The numbers that nothing else here comes to. */
+static void refusals(void)
+{
+    const uint16_t third[] = {4, 1, 4, 8, 3, 8, 8, 1, 2};
+    uint16_t out[8];
+    written(FRAME, PARTS, TASKS, RUNS, sizeof file);
+    expect("a short file", merkazobi_read(file, 15).number, MERKAZOBI_FILE_SHORT);
+    expect("another length", merkazobi_read(file, sizeof file - 1).number, MERKAZOBI_LENGTH);
+    file[5]++;
+    expect("another offset", merkazobi_read(file, sizeof file).number, MERKAZOBI_OFFSET);
+    file[1]++;
+    expect("another edition", merkazobi_read(file, sizeof file).number, MERKAZOBI_EDITION);
+    expect("an owner not in the table", merkazobi_check(plan, FRAME, parts, 3).number, MERKAZOBI_RUN);
+    expect("P3", merkazobi_build(third, 9, out, 8).number, MERKAZOBI_TICKS);
+    expect("P4", merkazobi_build((uint16_t[]){4, 1, 1, 6, 1, 1}, 6, out, 8).number, MERKAZOBI_HARMONIC);
+    const uint16_t p5[] = {1, 1, 0, 0, 0, 0, 1, 1};
+    const merkazobi_answer short_at_1 = merkazobi_check(p5, 8, (uint16_t[]){4, 1, 2}, 3);
+    expect("P5", short_at_1.number, MERKAZOBI_SERVICE);
+    expect("P5 start", short_at_1.second, 1);
+    opened(PLACES, PLACES);
+    expect("no place left", asked(0, 1, 100), MERKAZOBI_FULL);
+    opened(1, PLACES);
+    expect("no place", asked(0, 11, 5), MERKAZOBI_NO_PLACE);
+    expect("later", asked(4, 11, 5), MERKAZOBI_NO_PLACE);
+    expect("before the clock", asked(3, 1, 5), MERKAZOBI_PAST);
+    jobs[0] = (merkazobi_job){3, 4, 9, 2};
+    expect("busy", asked(4, 1, 20), MERKAZOBI_BUSY);
+}
+
+static void nulls(void)
+{
+    expect("null plan", merkazobi_check(NULL, 0, parts, PARTS).number, MERKAZOBI_LIMITS);
+    expect("null table", merkazobi_build(NULL, 0, NULL, 0).number, MERKAZOBI_LIMITS);
+    expect("null output", merkazobi_build(parts, 3, NULL, 0).number, MERKAZOBI_OUTPUT);
+    expect("null tasks", merkazobi_verdict(plan, FRAME, parts, PARTS, NULL, 0, 1).number, MERKAZOBI_TASK);
+    expect("null file", merkazobi_read(NULL, 0).number, MERKAZOBI_FILE_SHORT);
+    expect("null part", merkazobi_section(NULL, 0, 0).second, 0);
+    expect("null listing", merkazobi_list(NULL, 0, NULL, 0).number, MERKAZOBI_OUTPUT);
+    expect("null runs", merkazobi_write(1, parts, 3, NULL, 0, NULL, 0, NULL, 0).number, MERKAZOBI_LIMITS);
+    expect("null jobs", merkazobi_open(&desk, NULL, 0).number, MERKAZOBI_TABLE);
+    expect("idle ticks of no plan", merkazobi_held(NULL, 0, 0, 5, 7), 7);
+    expect("ticks of no plan", merkazobi_least(NULL, 0, 1, 7), 0);
+}
+
+/* The stack below is painted, and what a call has changed of it is what it took. */
+enum { DEPTH = 1 << 18, PAINT = 0xA7 };
+
+static __attribute__((noinline)) void paint(void)
+{
+    volatile uint8_t below[DEPTH];
+    for (size_t i = 0; i < DEPTH; i++)
+        below[i] = PAINT;
+}
+
+static __attribute__((noinline)) size_t taken(void)
+{
+    volatile uint8_t below[DEPTH];
+    size_t left = 0;
+    __asm__ volatile("" : : "r"(below) : "memory");
+    while (left < DEPTH && below[left] == PAINT)
+        left++;
+    return DEPTH - left;
+}
+
+#define STACK(most, call) (paint(), (void)(call), expect(#call, taken() > (most), 0))
+
+static void stack(void)
+{
+    written(FRAME, PARTS, TASKS, RUNS, sizeof file);
+    opened(PLACES - 1, PLACES);
+    STACK(MERKAZOBI_STACK, merkazobi_wants(4, 1, 2));
+    STACK(MERKAZOBI_STACK, merkazobi_held(plan, FRAME, 1, 7, FRAME));
+    STACK(MERKAZOBI_STACK, merkazobi_least(plan, FRAME, 1, 64));
+    STACK(MERKAZOBI_STACK, merkazobi_build(parts, PARTS, plan, FRAME));
+    STACK(MERKAZOBI_STACK, merkazobi_check(plan, FRAME, parts, PARTS));
+    STACK(MERKAZOBI_STACK, merkazobi_verdict(plan, FRAME, parts, PARTS, tasks, TASKS, 1));
+    STACK(MERKAZOBI_STACK, merkazobi_read(file, sizeof file));
+    STACK(MERKAZOBI_STACK, merkazobi_section(file, sizeof file, 2));
+    STACK(MERKAZOBI_STACK, merkazobi_write(FRAME, parts, PARTS, tasks, TASKS, runs, RUNS, file, sizeof file));
+    STACK(MERKAZOBI_LIST_STACK, merkazobi_list(file, sizeof file, text, sizeof text));
+    STACK(MERKAZOBI_STACK, merkazobi_open(&desk, jobs, PLACES));
+    STACK(MERKAZOBI_STACK, merkazobi_request(&desk, jobs, PLACES, 0, 5, 100));
+}
+
+int main(void)
+{
+    fill();
+    limits();
+    refusals();
+    nulls();
+    stack();
+    return failures != 0;
+}
