@@ -76,7 +76,8 @@ ends "a listing to a full output" 2 "box: can't write standard output: *" to_ful
 
 echo old >"$made/limited"
 limited() { (trap '' XFSZ && ulimit -f 16 && ./box plan "$made/long.shares" "$made/limited"); }
-ends "a file that may not grow" 2 "box: *" limited
+# An emulator may pass the signal on to the program, and the shell then says so.
+ends "a file that may not grow" 2 "*box: plan *" limited
 is "a file that may not grow" "$(cat "$made/limited")" old
 
 # A small disk and a device of one's own.
