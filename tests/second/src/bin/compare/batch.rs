@@ -82,6 +82,15 @@ pub fn number(bytes: &[u8], at: usize) -> u64 {
     u64::from_le_bytes(number)
 }
 
+/// What stands in the answer's place before: nothing that a call could answer.
+const UNANSWERED: Answer = Answer {
+    number: u64::MAX,
+    first: u64::MAX,
+    second: u64::MAX,
+    third: u64::MAX,
+    fourth: u64::MAX,
+};
+
 /// A batch begins with its length, which stands in both from the first.
 pub struct Batch {
     pub asked: Vec<u8>,
@@ -106,10 +115,7 @@ impl Batch {
     /// Writes down a call that lends nothing yet.
     pub fn call(&mut self, entry: Entry, given: [u64; 3], answer: Answer) -> Call<'_> {
         self.starts.push(self.asked.len());
-        for (bytes, answer) in [
-            (&mut self.asked, Answer::default()),
-            (&mut self.expected, answer),
-        ] {
+        for (bytes, answer) in [(&mut self.asked, UNANSWERED), (&mut self.expected, answer)] {
             put_number(entry as u64, bytes);
             let rest = given.into_iter().chain(answer.numbers());
             rest.for_each(|number| put_number(number, bytes));
