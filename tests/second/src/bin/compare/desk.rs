@@ -242,7 +242,7 @@ fn sequences(trial: &mut Trial) {
     }
     trial.share("requests", tally.iter().sum(), [10, 1]);
     for number in [0, 14, 15, 16, 18] {
-        trial.share(&format!("answered {number}"), tally[number], [1, 16]);
+        trial.share(&format!("answered {number}"), tally[number], [1, 15]);
     }
 }
 
