@@ -6,26 +6,26 @@ use lib.Dec.{eqb}
 use Rattle.rules.specs.Walk.{pick}
 use Rattle.rules.specs.declared.Told.{Told}
 use Rattle.rules.specs.Refusals.{telling, numbered, placed, told}
-use Rattle.service.specs.declared.Checked.{Checked}
-use Rattle.service.specs.declared.Checked.the-variants as checked
-use Rattle.harmonic.specs.declared.Built.{Built}
-use Rattle.harmonic.specs.declared.Built.the-variants as built
-use Rattle.verdict.specs.declared.Judged.{Judged}
-use Rattle.verdict.specs.declared.Judged.the-variants as judged
-use Rattle.planfile.specs.declared.Reading.{Reading}
-use Rattle.planfile.specs.declared.Reading.the-variants as reading
-use Rattle.planfile.specs.declared.Written.{Written}
-use Rattle.planfile.specs.declared.Written.the-variants as written
-use Rattle.planfile.specs.declared.Stretch.{Stretch}
-use Rattle.listing.specs.declared.Listed.{Listed}
-use Rattle.listing.specs.declared.Listed.the-variants as listed
-use Rattle.planfile.specs.declared.Body.the-variants.{Partitions, Tasks, Runs}
-use Rattle.planfile.specs.Reader.{readOf, stretchOf}
+use Rattle.plan_service.specs.declared.Checked.{Checked}
+use Rattle.plan_service.specs.declared.Checked.the-variants as checked
+use Rattle.plan_build.specs.declared.Built.{Built}
+use Rattle.plan_build.specs.declared.Built.the-variants as built
+use Rattle.task_verdict.specs.declared.Judged.{Judged}
+use Rattle.task_verdict.specs.declared.Judged.the-variants as judged
+use Rattle.file_codec.specs.declared.Reading.{Reading}
+use Rattle.file_codec.specs.declared.Reading.the-variants as reading
+use Rattle.file_codec.specs.declared.Written.{Written}
+use Rattle.file_codec.specs.declared.Written.the-variants as written
+use Rattle.file_codec.specs.declared.Stretch.{Stretch}
+use Rattle.file_listing.specs.declared.Listed.{Listed}
+use Rattle.file_listing.specs.declared.Listed.the-variants as listed
+use Rattle.file_codec.specs.declared.Body.the-variants.{Partitions, Tasks, Runs}
+use Rattle.file_codec.specs.Reader.{readOf, stretchOf}
 use Rattle.desk.specs.declared.Job.{Job}
 use Rattle.desk.specs.declared.Outcome.{Outcome}
 use Rattle.desk.specs.Table.{said}
-use Rattle.lent.specs.declared.Desk.{Desk}
-use Rattle.lent.specs.Lent.{deskOf}
+use Rattle.desk_lent.specs.declared.Desk.{Desk}
+use Rattle.desk_lent.specs.Lent.{deskOf}
 
 abbrev pub toldChecked : Checked → Told
 toldChecked checked.Serves = numbered 0

@@ -1,25 +1,25 @@
 // The one export crate: every entry over plain numbers and slices, for C and Rust. include/merkazobi.h declares it.
 use desk::Answer;
 use desk::Job;
-use harmonic::Built;
-use lent::Desk;
-use listing::Listed;
-use planfile::Body;
-use planfile::Reading;
-use planfile::Written;
+use desk_lent::Desk;
+use file_codec::Body;
+use file_codec::Reading;
+use file_codec::Written;
+use file_listing::Listed;
+use plan_build::Built;
+use plan_service::Checked;
 use rules::Told;
-use service::Checked;
-use verdict::Judged;
+use task_verdict::Judged;
 ghost use mathlib.Core.Path.{_≡_};
 ghost use lib.ListN.{length};
 ghost use Rattle.rules.specs.Table.{wants};
 ghost use Rattle.theory.specs.Plan.{own, held, least};
-ghost use Rattle.service.specs.Check.{checkOf};
-ghost use Rattle.harmonic.specs.Build.{buildOf, leftOf};
-ghost use Rattle.verdict.specs.Verdict.{verdictOf};
-ghost use Rattle.planfile.specs.Reader.{readOf, stretchOf};
-ghost use Rattle.planfile.specs.Writer as writer;
-ghost use Rattle.listing.specs.Listing as lister;
+ghost use Rattle.plan_service.specs.Check.{checkOf};
+ghost use Rattle.plan_build.specs.Build.{buildOf, leftOf};
+ghost use Rattle.task_verdict.specs.Verdict.{verdictOf};
+ghost use Rattle.file_codec.specs.Reader.{readOf, stretchOf};
+ghost use Rattle.file_codec.specs.Writer as writer;
+ghost use Rattle.file_listing.specs.Listing as lister;
 ghost use Rattle.desk.specs.Table.{said, openOf};
 ghost use Rattle.desk.specs.Request.{requestOf};
 ghost use Rattle.api.specs.Answers.{toldChecked, toldBuilt, toldJudged, toldReading, toldStretch, toldSection, toldWritten, toldListed, Tells};
@@ -47,21 +47,21 @@ pub extern "C" fn merkazobi_wants(m: u16, num: u16, den: u16) -> usize
 pub extern "C" fn merkazobi_held(plan: &[u16], p: u16, s: u32, n: u32) -> usize
     ensures { λ r. ⌜ r ≡ held own (now (plan .entry)) p n s ⌝ }
 {
-    service::held(plan, p, s, n)
+    plan_service::held(plan, p, s, n)
 }
 
 #[no_mangle]
 pub extern "C" fn merkazobi_least(plan: &[u16], p: u16, t: u32) -> usize
     ensures { λ r. ⌜ r ≡ least own (now (plan .entry)) p t ⌝ }
 {
-    service::least(plan, p, t)
+    plan_service::least(plan, p, t)
 }
 
 #[no_mangle]
 pub extern "C" fn merkazobi_check(plan: &[u16], parts: &[u16]) -> Told
     ensures { λ r. ⌜ r ≡ toldChecked (checkOf (now (plan .entry)) (now (parts .entry))) ⌝ }
 {
-    let checked = service::check(plan, parts);
+    let checked = plan_service::check(plan, parts);
     match checked {
         Checked::Serves => answer(0, 0),
         Checked::Refused(r) => rules::tell(r),
@@ -72,7 +72,7 @@ pub extern "C" fn merkazobi_check(plan: &[u16], parts: &[u16]) -> Told
 pub extern "C" fn merkazobi_build(parts: &[u16], out: &mut [u16]) -> Told
     ensures { λ r. ⌜ (r ≡ toldBuilt (buildOf (now (parts .entry)) (length (now (out .entry))))) × (now (out .exit) ≡ leftOf (buildOf (now (parts .entry)) (length (now (out .entry)))) (now (parts .entry)) (now (out .entry))) ⌝ }
 {
-    let built = harmonic::build(parts, out);
+    let built = plan_build::build(parts, out);
     match built {
         Built::Frame(h) => answer(h, 0),
         Built::Refused(r) => rules::tell(r),
@@ -88,7 +88,7 @@ pub extern "C" fn merkazobi_verdict(
 ) -> Told
     ensures { λ r. ⌜ r ≡ toldJudged (verdictOf (now (plan .entry)) (now (parts .entry)) (now (tasks .entry)) place) ⌝ }
 {
-    let judged = verdict::verdict(plan, parts, tasks, place);
+    let judged = task_verdict::verdict(plan, parts, tasks, place);
     match judged {
         Judged::Pass(t) => answer(t, 0),
         Judged::Fail => answer(0, 0),
@@ -100,7 +100,7 @@ pub extern "C" fn merkazobi_verdict(
 pub extern "C" fn merkazobi_read(file: &[u8]) -> Told
     ensures { λ r. ⌜ r ≡ toldReading (readOf (now (file .entry))) ⌝ }
 {
-    let reading = planfile::read(file);
+    let reading = file_codec::read(file);
     match reading {
         Reading::Contents {
             frame,
@@ -121,7 +121,7 @@ pub extern "C" fn merkazobi_read(file: &[u8]) -> Told
 fn stretch(file: &[u8], which: Body) -> Told
     ensures { λ r. ⌜ r ≡ toldStretch (stretchOf (readOf (now (file .entry))) which) ⌝ }
 {
-    let s = planfile::stretch_of(file, which);
+    let s = file_codec::stretch_of(file, which);
     answer(s.offset, s.end)
 }
 
@@ -151,7 +151,7 @@ pub extern "C" fn merkazobi_write(
 ) -> Told
     ensures { λ r. ⌜ (r ≡ toldWritten (writer.writeOf frame (now (parts .entry)) (now (tasks .entry)) (now (runs .entry)) (length (now (out .entry))))) × (now (out .exit) ≡ writer.leftOf frame (now (parts .entry)) (now (tasks .entry)) (now (runs .entry)) (now (out .entry))) ⌝ }
 {
-    let written = planfile::write(frame, parts, tasks, runs, out);
+    let written = file_codec::write(frame, parts, tasks, runs, out);
     match written {
         Written::Bytes(n) => answer(n, 0),
         Written::Refused(r) => rules::tell(r),
@@ -162,7 +162,7 @@ pub extern "C" fn merkazobi_write(
 pub extern "C" fn merkazobi_list(file: &[u8], out: &mut [u8]) -> Told
     ensures { λ r. ⌜ (r ≡ toldListed (lister.listOf (now (file .entry)) (length (now (out .entry))))) × (now (out .exit) ≡ lister.leftOf (now (file .entry)) (now (out .entry))) ⌝ }
 {
-    let listed = listing::listing(file, out);
+    let listed = file_listing::listing(file, out);
     match listed {
         Listed::Text(n) => answer(n, 0),
         Listed::Refused(r) => rules::tell(r),
@@ -183,7 +183,7 @@ fn tell_desk(answered: Answer) -> Told
 pub extern "C" fn merkazobi_open(desk: &mut Desk, jobs: &mut [Job]) -> Told
     ensures { λ r. ⌜ Tells (openOf (now (desk .entry) .clock) (now (desk .entry) .count) (now (jobs .entry))) r (now (desk .exit)) (now (jobs .exit)) ⌝ }
 {
-    let answered = lent::open(desk, jobs);
+    let answered = desk_lent::open(desk, jobs);
     tell_desk(answered)
 }
 
@@ -197,6 +197,6 @@ pub extern "C" fn merkazobi_request(
 ) -> Told
     ensures { λ r. ⌜ Tells (requestOf (now (desk .entry) .clock) (now (desk .entry) .count) (now (jobs .entry)) t c d) r (now (desk .exit)) (now (jobs .exit)) ⌝ }
 {
-    let answered = lent::request(desk, jobs, t, c, d);
+    let answered = desk_lent::request(desk, jobs, t, c, d);
     tell_desk(answered)
 }

@@ -5,7 +5,8 @@ use lib.ListN.{getD}
 use Rattle.desk.specs.declared.Job.{Job}
 use Rattle.desk.specs.declared.Place.{Place}
 use Rattle.desk.specs.declared.Place.the-variants.{At, Nowhere}
-use Rattle.desk.specs.Table.{latest, none, places}
+use Rattle.rules.specs.Limits.{latest, places}
+use Rattle.desk.specs.Table.{none}
 
 -- the first n jobs of l have small numbers
 pub record Small (n : ℕ) (l : List Job) : Type 0 where

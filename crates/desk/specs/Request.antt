@@ -13,7 +13,8 @@ use Rattle.desk.specs.declared.Place.{Place}
 use Rattle.desk.specs.declared.Place.the-variants.{At, Nowhere}
 use Rattle.desk.specs.declared.Answer.the-variants.{Taken, Refused}
 use Rattle.desk.specs.declared.Outcome.{Outcome}
-use Rattle.desk.specs.Table.{places, latest, job, filled, outcome, refit, deskOk}
+use Rattle.rules.specs.Limits.{places, latest}
+use Rattle.desk.specs.Table.{job, filled, outcome, refit, deskOk}
 
 -- WHO IS LEFT
 

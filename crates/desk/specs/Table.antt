@@ -12,14 +12,7 @@ use Rattle.desk.specs.declared.Job.{Job}
 use Rattle.desk.specs.declared.Answer.{Answer}
 use Rattle.desk.specs.declared.Answer.the-variants.{Opened, Taken, Refused}
 use Rattle.desk.specs.declared.Outcome.{Outcome}
-
--- "Desk: 64 jobs"
-abbrev pub places : ℕ
-places = 64
-
--- "times and budgets up to 1,000,000"
-abbrev pub latest : ℕ
-latest = 1000000
+use Rattle.rules.specs.Limits.{places, latest}
 
 -- "start a, budget C, deadline d, flexibility x"
 abbrev pub job : ℕ → ℕ → ℕ → ℕ → Job

@@ -1,13 +1,13 @@
 // Reads a plan file from standard input and writes its listing to standard output.
+use file_listing::Listed;
 use libc::STDERR_FILENO;
 use libc::STDOUT_FILENO;
-use listing::Listed;
 
 fn main() {
     let mut file = [0u8; 17521];
     let n = io::read_full(0, &mut file);
     let mut out = [0u8; 18560];
-    let listed = listing::listing(&file[..n], &mut out);
+    let listed = file_listing::listing(&file[..n], &mut out);
     match listed {
         Listed::Text(k) => {
             let written = io::write_all(STDOUT_FILENO, &out[..k]);

@@ -7,7 +7,7 @@ fn main() {
     let mut text = [0u8; 65537];
     let n = io::read_full(0, &mut text);
     let mut out = [0u8; 17520];
-    let k = planner::plan(&text[..n], &mut out);
+    let k = share_plan::plan(&text[..n], &mut out);
     let written = io::write_all(STDOUT_FILENO, &out[..k]);
     if !written {
         io::write_all(STDERR_FILENO, b"a write failed\n");

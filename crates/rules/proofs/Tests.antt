@@ -6,7 +6,8 @@ use Prim.Native.Nat.{ℕ, _≤_, _<_}
 use lib.Dec.{T, leb}
 use borrow.Author.Tests.{leb-true}
 use Rattle.rules.specs.Walk.{pick, first}
-use Rattle.rules.specs.Table.{goodShare, goodTimes, longest}
+use Rattle.rules.specs.Limits.{longest}
+use Rattle.rules.specs.Table.{goodShare, goodTimes}
 use Rattle.rules.proofs.First.{first-at, first-past}
 use Rattle.rules.proofs.Sum.{le-or-lt}
 

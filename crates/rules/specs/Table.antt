@@ -5,10 +5,7 @@ use mathlib.Core.Bool.{Bool, _&&_, not}
 use lib.ListN.{length, getD}
 use lib.Dec.{leb, eqb}
 use Rattle.rules.specs.Walk.{first, roundUp}
-
--- "Partition: cycle, num, den."
-abbrev pub partWidth : ℕ
-partWidth = 3
+use Rattle.rules.specs.Limits.{mostPartitions, mostTasks, longest, finestShare, partWidth, taskWidth}
 
 abbrev pub partField : List ℕ → ℕ → ℕ → ℕ
 partField ps k field = getD ps (partWidth * k + field) 0
@@ -24,10 +21,6 @@ den ps k = partField ps k 2
 
 abbrev pub partitions : List ℕ → ℕ
 partitions ps = length ps / partWidth
-
--- "Task: partition, C, D, T."
-abbrev pub taskWidth : ℕ
-taskWidth = 4
 
 abbrev pub taskField : List ℕ → ℕ → ℕ → ℕ
 taskField ts j field = getD ts (taskWidth * j + field) 0
@@ -55,20 +48,17 @@ wants m n d = roundUp (n * m) d
 abbrev pub wanted : List ℕ → ℕ → ℕ
 wanted ps k = wants (cycle ps k) (num ps k) (den ps k)
 
--- THE LIMITS: "Partitions 1 to 16, tasks 0 to 128, frame 1 to 4,096 ticks, .. Cycle 1 to 4,096."
-
-abbrev pub longest : ℕ
-longest = 4096
+-- THE LIMITS
 
 -- a table of whole records, how many of them within bounds
 unfoldable pub countedIn : ℕ → ℕ → ℕ → ℕ → Bool
 countedIn low high width numbers = eqb (numbers % width) 0 && leb low (numbers / width) && leb (numbers / width) high
 
 abbrev pub partsCounted : List ℕ → Bool
-partsCounted ps = countedIn 1 16 partWidth (length ps)
+partsCounted ps = countedIn 1 mostPartitions partWidth (length ps)
 
 abbrev pub tasksCounted : List ℕ → Bool
-tasksCounted ts = countedIn 0 128 taskWidth (length ts)
+tasksCounted ts = countedIn 0 mostTasks taskWidth (length ts)
 
 -- "frame 1 to 4,096 ticks"
 unfoldable pub frameGood : ℕ → Bool
@@ -78,7 +68,7 @@ frameGood f = leb 1 f && leb f longest
 
 -- "Share num/den with 1 ≤ num ≤ den ≤ 1,000", and a cycle from 1 to the limit
 unfoldable pub goodShare : ℕ → ℕ → ℕ → ℕ → Bool
-goodShare limit m n d = leb 1 m && leb m limit && leb 1 n && leb n d && leb d 1000
+goodShare limit m n d = leb 1 m && leb m limit && leb 1 n && leb n d && leb d finestShare
 
 abbrev pub goodPart : ℕ → List ℕ → ℕ → Bool
 goodPart limit ps k = goodShare limit (cycle ps k) (num ps k) (den ps k)

@@ -1,5 +1,6 @@
 -- The walks over i < n that every rule is made of. The number that a walk goes over stands last. Assumes nothing.
-use Prim.Native.Nat.{ℕ, zero, suc, _+_, _-_, _/_, min, max}
+use Prim.Native.Nat.{ℕ, zero, suc, _+_, _-_, _/_, _<_, min, max}
+use mathlib.Core.Path.{_≡_}
 use mathlib.Core.Bool.{Bool, true, false}
 use mathlib.Core.List.{List, [], _++_}
 use lib.Dec.{ltb}
@@ -22,6 +23,10 @@ first p (suc n) = let r = first p n in pick (ltb r n) r (pick (p n) n (suc n))
 -- whether any i < n passes
 abbrev pub some : (ℕ → Bool) → ℕ → Bool
 some p n = ltb (first p n) n
+
+-- every i < n passes
+abbrev pub Every : (ℕ → Bool) → ℕ → Type 0
+Every p n = (i : ℕ) → i < n → p i ≡ true
 
 -- f 0 + .. + f (n - 1)
 unfoldable pub sum : (ℕ → ℕ) → ℕ → ℕ

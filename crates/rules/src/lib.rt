@@ -6,6 +6,8 @@ ghost use lib.ListN.{getD};
 ghost use Rattle.rules.specs.Table.{partField, cycle, num, den, partitions, taskField, partition, budget, deadline, period, tasks, wants, wanted, countedIn, partsCounted, tasksCounted, frameGood, goodShare, goodTimes, badPart, badTask, badTick, firstBadPart, firstBadTask, firstBadTick};
 ghost use Rattle.rules.specs.Refusals.{told, placed};
 
+pub mod limits; // limits.rt: every limit and width by name
+
 // Why a call refuses: document 01's table, from 1 to 19.
 pub enum Refusal {
     Short,

@@ -8,7 +8,8 @@ use native.Mathlib.Omega.{arith}
 use lib.ListN.{getD}
 use Rattle.rules.proofs.Tests.{good-share}
 use Rattle.rules.specs.Walk.{sum}
-use Rattle.rules.specs.Table.{cycle, num, den, partitions, wanted, longest}
+use Rattle.rules.specs.Limits.{longest}
+use Rattle.rules.specs.Table.{cycle, num, den, partitions, wanted}
 use Rattle.rules.proofs.Sum.{le-or-lt}
 use Rattle.rules.proofs.Least.{largest-le, largest-is}
 use Rattle.theory.specs.Plan.{service, owned}

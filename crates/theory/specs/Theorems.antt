@@ -6,7 +6,8 @@ use mathlib.Core.List.{List}
 use Prim.Native.Nat.{ℕ, suc, _+_, _*_, _≤_, _<_}
 use lib.Dec.{T}
 use lib.ListN.{length, getD}
-use Rattle.rules.specs.Table.{cycle, partitions, wants, goodShare, goodPart, longest, partition, deadline, tasks}
+use Rattle.rules.specs.Limits.{longest}
+use Rattle.rules.specs.Table.{cycle, partitions, wants, goodShare, goodPart, partition, deadline, tasks}
 use Rattle.theory.specs.Plan.{Rule, own, owner, held, least, Serves}
 use Rattle.theory.specs.Harmonic.{Harmonic, pairs, frame, load, rank, taken, harmonicPlan}
 use Rattle.theory.specs.Task.{GoodTasks, Passes, Fits, point, firstPoint}

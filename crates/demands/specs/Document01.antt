@@ -1,0 +1,109 @@
+-- The worked examples of document 01, under one statement about what the entries' contracts say that they answer and leave. Assumes nothing.
+use Prim.Native.Nat.{ℕ}
+use mathlib.Core.Path.{_≡_}
+use mathlib.Core.List.{List, [], _∷_, _++_}
+use Rattle.rules.specs.Table.{wanted}
+use Rattle.rules.specs.declared.Refusal.the-variants.{Shortfall, Unharmonic, Want, Busy, NoPlace}
+use Rattle.theory.specs.Plan.{own, least}
+use Rattle.theory.specs.Harmonic.{frame, load}
+use Rattle.plan_service.specs.declared.Checked.the-variants as checked
+use Rattle.plan_service.specs.Check.{checkOf}
+use Rattle.plan_build.specs.declared.Built.the-variants as built
+use Rattle.plan_build.specs.Build.{buildOf, leftOf}
+use Rattle.task_verdict.specs.declared.Judged.the-variants as judged
+use Rattle.task_verdict.specs.Verdict.{verdictOf}
+use Rattle.file_codec.specs.declared.Reading.the-variants.{Contents}
+use Rattle.file_codec.specs.Reader.{readOf}
+use Rattle.file_listing.specs.Listing.{listingOf}
+use Rattle.desk.specs.declared.Job.{Job}
+use Rattle.desk.specs.declared.Answer.the-variants.{Opened, Taken, Refused}
+use Rattle.desk.specs.Table.{job, filled, outcome, openOf}
+use Rattle.desk.specs.Request.{room, requestOf}
+
+-- "Cycles 4, 8, 8, shares 1/4, 3/8" and a third share
+abbrev pub three : ℕ → ℕ → List ℕ
+three n d = 4 ∷ 1 ∷ 4 ∷ 8 ∷ 3 ∷ 8 ∷ 8 ∷ n ∷ d ∷ []
+
+-- an output of eight ticks that holds something
+abbrev pub eight : List ℕ
+eight = 9 ∷ 9 ∷ 9 ∷ 9 ∷ 9 ∷ 9 ∷ 9 ∷ 9 ∷ []
+
+-- "plan 1 2 2 2 1 3 0 0"
+abbrev pub plan1 : List ℕ
+plan1 = 1 ∷ 2 ∷ 2 ∷ 2 ∷ 1 ∷ 3 ∷ 0 ∷ 0 ∷ []
+
+-- "plan 1 2 2 2 1 3 3 3, full"
+abbrev pub plan2 : List ℕ
+plan2 = 1 ∷ 2 ∷ 2 ∷ 2 ∷ 1 ∷ 3 ∷ 3 ∷ 3 ∷ []
+
+-- "plan 1 1 0 0 0 0 1 1"
+abbrev pub plan5 : List ℕ
+plan5 = 1 ∷ 1 ∷ 0 ∷ 0 ∷ 0 ∷ 0 ∷ 1 ∷ 1 ∷ []
+
+-- "first task C 2, D 8, T 16 .. Second, C 2, T 32", with its D
+abbrev pub two : ℕ → List ℕ
+two d = 2 ∷ 2 ∷ 8 ∷ 16 ∷ 2 ∷ 2 ∷ d ∷ 32 ∷ []
+
+-- the table of D1, as lent (any x and any clock) and as opened
+abbrev pub lent : List Job
+lent = filled (job 10 3 20 0 ∷ job 15 5 24 7 ∷ job 30 2 40 0 ∷ [])
+
+abbrev pub opened : List Job
+opened = filled (job 10 3 20 6 ∷ job 15 5 24 4 ∷ job 30 2 40 8 ∷ [])
+
+-- "Whole example, 44 bytes"
+abbrev pub file : List ℕ
+file = 0 ∷ 1 ∷ 0 ∷ 4 ∷ 0 ∷ 16 ∷ 0 ∷ 2 ∷ 0 ∷ 28 ∷ 0 ∷ 1 ∷ 0 ∷ 36 ∷ 0 ∷ 2 ∷ 0 ∷ 4 ∷ 0 ∷ 1 ∷ 0 ∷ 2 ∷ 0 ∷ 4 ∷ 0 ∷ 1 ∷ 0 ∷ 3 ∷ 0 ∷ 1 ∷ 0 ∷ 1 ∷ 0 ∷ 4 ∷ 0 ∷ 4 ∷ 0 ∷ 1 ∷ 0 ∷ 2 ∷ 0 ∷ 2 ∷ 0 ∷ 2 ∷ []
+
+-- "frame 4"
+abbrev pub line1 : List ℕ
+line1 = 102 ∷ 114 ∷ 97 ∷ 109 ∷ 101 ∷ 32 ∷ 52 ∷ 10 ∷ []
+
+-- "partition 1 wants 2 in 4 least 2"
+abbrev pub line2 : List ℕ
+line2 = 112 ∷ 97 ∷ 114 ∷ 116 ∷ 105 ∷ 116 ∷ 105 ∷ 111 ∷ 110 ∷ 32 ∷ 49 ∷ 32 ∷ 119 ∷ 97 ∷ 110 ∷ 116 ∷ 115 ∷ 32 ∷ 50 ∷ 32 ∷ 105 ∷ 110 ∷ 32 ∷ 52 ∷ 32 ∷ 108 ∷ 101 ∷ 97 ∷ 115 ∷ 116 ∷ 32 ∷ 50 ∷ 10 ∷ []
+
+-- "partition 2 wants 2 in 4 least 2"
+abbrev pub line3 : List ℕ
+line3 = 112 ∷ 97 ∷ 114 ∷ 116 ∷ 105 ∷ 116 ∷ 105 ∷ 111 ∷ 110 ∷ 32 ∷ 50 ∷ 32 ∷ 119 ∷ 97 ∷ 110 ∷ 116 ∷ 115 ∷ 32 ∷ 50 ∷ 32 ∷ 105 ∷ 110 ∷ 32 ∷ 52 ∷ 32 ∷ 108 ∷ 101 ∷ 97 ∷ 115 ∷ 116 ∷ 32 ∷ 50 ∷ 10 ∷ []
+
+-- "task 1 partition 1 pass 4"
+abbrev pub line4 : List ℕ
+line4 = 116 ∷ 97 ∷ 115 ∷ 107 ∷ 32 ∷ 49 ∷ 32 ∷ 112 ∷ 97 ∷ 114 ∷ 116 ∷ 105 ∷ 116 ∷ 105 ∷ 111 ∷ 110 ∷ 32 ∷ 49 ∷ 32 ∷ 112 ∷ 97 ∷ 115 ∷ 115 ∷ 32 ∷ 52 ∷ 10 ∷ []
+
+pub record Document01 : Type 0 where
+  -- "q = 1, 3, 1; plan 1 2 2 2 1 3 0 0"
+  pub p1-wants : (wanted (three 1 100) 0 ≡ 1) × (wanted (three 1 100) 1 ≡ 3) × (wanted (three 1 100) 2 ≡ 1)
+  pub p1 : (buildOf (three 1 100) 8 ≡ built.Frame 8) × (leftOf (built.Frame 8) (three 1 100) eight ≡ plan1)
+  pub p1-serves : checkOf plan1 (three 1 100) ≡ checked.Serves
+  -- "Third share 3/8: plan 1 2 2 2 1 3 3 3, full."
+  pub p2 : (buildOf (three 3 8) 8 ≡ built.Frame 8) × (leftOf (built.Frame 8) (three 3 8) eight ≡ plan2)
+  -- "Third share 1/2: 2 + 3 + 4 = 9 > 8, refusal 11."
+  pub p3 : (load (three 1 2) (frame (three 1 2)) ≡ 9) × (buildOf (three 1 2) 8 ≡ built.Refused Want)
+  -- "Cycles 4 and 6: refusal 10."
+  pub p4 : buildOf (4 ∷ 1 ∷ 2 ∷ 6 ∷ 1 ∷ 2 ∷ []) 8 ≡ built.Refused Unharmonic
+  -- "One partition, cycle 4, share 1/2, plan 1 1 0 0 0 0 1 1: refusal 9 at start 1, which holds 1 and wants 2."
+  pub p5 : checkOf plan5 (4 ∷ 1 ∷ 2 ∷ []) ≡ checked.Refused (Shortfall 1 1 1 2)
+  -- "In P1, partition 2 has least(5) = 0, least(8) = 3, least(13) = 3, least(14) = 4."
+  pub s1 : (least own plan1 2 5 ≡ 0) × (least own plan1 2 8 ≡ 3) × (least own plan1 2 13 ≡ 3) × (least own plan1 2 14 ≡ 4)
+  -- "first task .. passes at 8. Second .. with D 13 it fails (4 > 3), with D 14 it passes at 14."
+  pub v1 : verdictOf plan1 (three 1 100) (two 14) 1 ≡ judged.Pass 8
+  pub v2 : (verdictOf plan1 (three 1 100) (two 13) 2 ≡ judged.Fail) × (verdictOf plan1 (three 1 100) (two 14) 2 ≡ judged.Pass 14)
+  -- "Opened with (10, 3, 20), (15, 5, 24), (30, 2, 40), x is 6, 4, 8."
+  pub d1 : openOf 77 3 lent ≡ outcome opened 3 0 Opened
+  -- "t 8, C 6, d 16: start 8. Starts become 8, 14, 17, 30, x 2, 2, 2, 8."
+  pub d2 : requestOf 0 3 opened 8 6 16
+      ≡ outcome (filled (job 8 6 16 2 ∷ job 14 3 20 2 ∷ job 17 5 24 2 ∷ job 30 2 40 8 ∷ [])) 4 8 (Taken 0 8)
+  -- "From D1, t 8, C 8, d 40: start 8."
+  pub d3 : requestOf 0 3 opened 8 8 40 .answer ≡ Taken 0 8
+  -- "C 9, d 40: rooms 8, 6, 18, start 20, new x 9."
+  pub d4 : requestOf 0 3 opened 8 9 40
+      ≡ outcome (filled (job 10 3 20 6 ∷ job 15 5 24 4 ∷ job 20 9 40 9 ∷ job 30 2 40 8 ∷ [])) 4 8 (Taken 2 20)
+  pub d4-rooms : (room 8 40 (job 10 3 20 6) ≡ 8) × (room 13 40 (job 15 5 24 4) ≡ 6) × (room 20 40 (job 30 2 40 8) ≡ 18)
+  -- "From D1, t 12: busy."
+  pub d5 : requestOf 0 3 opened 12 1 40 ≡ outcome opened 3 12 (Refused Busy)
+  -- "From D1, t 25, C 4, d 29: no place."
+  pub d6 : requestOf 0 3 opened 25 4 29 ≡ outcome (filled (job 30 2 40 8 ∷ [])) 1 25 (Refused NoPlace)
+  -- the whole example's contents, and "Its listing"
+  pub w1-read : readOf file ≡ Contents 4 2 1 2
+  pub w1 : listingOf file ≡ line1 ++ (line2 ++ (line3 ++ line4))

@@ -1,0 +1,32 @@
+// Document 01's limits and the records' widths, each once: specs/Limits.antt has the same names.
+
+pub const MOST_PARTITIONS: usize = 16;
+
+pub const MOST_TASKS: usize = 128;
+
+pub const LONGEST: usize = 4096; // of a frame, a cycle, a period, and of runs
+
+pub const FINEST_SHARE: u16 = 1000;
+
+pub const PLACES: usize = 64;
+
+pub const LATEST: u32 = 1000000;
+
+pub const PART_WIDTH: usize = 3;
+
+pub const TASK_WIDTH: usize = 4;
+
+pub const RUN_WIDTH: usize = 2;
+
+pub const NUMBER_BYTES: usize = 2;
+
+pub const HEAD_BYTES: usize = 16;
+
+pub const PART_NUMBERS: usize = PART_WIDTH * MOST_PARTITIONS;
+
+pub const TASK_NUMBERS: usize = TASK_WIDTH * MOST_TASKS;
+
+pub const RUN_NUMBERS: usize = RUN_WIDTH * LONGEST;
+
+pub const LONGEST_FILE: usize = HEAD_BYTES
+    + NUMBER_BYTES * (PART_NUMBERS + TASK_NUMBERS + RUN_NUMBERS);

@@ -1,0 +1,177 @@
+-- Laws of lines and of what is gathered from them. Assumes nothing.
+use Prim.Native.Nat.{ℕ, zero, suc, _+_, _-_, _≤_, _<_}
+use mathlib.Core.Path.{_≡_, refl, sym, ap, _∙_}
+use mathlib.Core.Bool.{Bool, true, false}
+use mathlib.Core.List.{List, [], _∷_, _++_, append-nil}
+use native.Mathlib.Numerals.{add-one}
+use native.Mathlib.Decide.{le-ind}
+use native.Mathlib.Omega.{arith}
+use lib.ListN.{length, take, drop}
+use lib.Seq.{drop-drop}
+use Rattle.share_text.proofs.Words.{tail}
+use lib.Dec.{ltb}
+use borrow.Author.Tests.{lt-ltb, le-ltb, ltb-false}
+use Rattle.rules.specs.declared.Refusal.the-variants.{Limits}
+use Rattle.rules.specs.Walk.{pick, first, gathered}
+use Rattle.rules.proofs.Tests.{pick-second}
+use Rattle.rules.proofs.First.{first-more, first-done, gathered-more}
+use Rattle.file_runs.specs.Put.{Put}
+use Rattle.file_runs.proofs.Put.{and-then}
+use Rattle.share_text.specs.declared.Mark.the-variants as mark
+use Rattle.share_text.specs.declared.Seen.{Seen}
+use Rattle.share_text.specs.declared.Seen.the-variants.{Good, Line}
+use Rattle.share_text.specs.declared.What.{What}
+use Rattle.share_text.specs.declared.Kind.{Kind}
+use Rattle.share_text.specs.declared.Kind.the-variants.{Partitions, Tasks}
+use Rattle.share_text.specs.declared.Row.{Row}
+use Rattle.share_text.specs.declared.Row.the-variants.{Nothing, Wrong}
+use Rattle.share_text.specs.declared.Table.{Table}
+use Rattle.share_text.specs.declared.Table.the-variants.{Numbers, Refused}
+use Rattle.share_text.specs.Words.{found, width, wordOf}
+use Rattle.share_text.specs.Rows.{recordOf, rowOf, isWrong, whatOf}
+use Rattle.share_text.specs.Table.{lineOf, afterLine, fromLine, rowAt, wrongAt, firstWrong, numsIn, numsAt, tableOf, longestText, seenOf, sizedOf, readBy, readOf}
+
+pub drop-all : (n : ℕ) (l : List ℕ) → length l ≤ n → drop n l ≡ []
+drop-all zero [] h = refl
+drop-all (suc n) [] h = refl
+drop-all zero (x ∷ l) h = absurd (omega arith)
+drop-all (suc n) (x ∷ l) h = drop-all n l (omega arith)
+
+-- the line that begins at a place, and where the next one does
+pub line-is : (t : List ℕ) (at e : ℕ) → e ≡ found mark.Line (take (length t - at) (drop at t)) → take e (take (length t - at) (drop at t)) ≡ lineOf (drop at t)
+unfolding lineOf
+line-is t at e h = let f : e ≡ found mark.Line (drop at t) = rw (tail at t) at h in rw (tail at t, ← f)
+
+pub after-some : (t : List ℕ) (at e : ℕ) → e ≡ found mark.Line (take (length t - at) (drop at t)) → drop (at + (e + 1)) t ≡ afterLine (drop at t)
+unfolding afterLine
+after-some t at e h = let f : e ≡ found mark.Line (drop at t) = rw (tail at t) at h in rw (← f) (sym (drop-drop (e + 1) at t))
+
+pub after-none : (t : List ℕ) (at e : ℕ) → e ≡ found mark.Line (take (length t - at) (drop at t)) → length (take (length t - at) (drop at t)) ≤ e → drop (length t) t ≡ afterLine (drop at t)
+unfolding afterLine
+after-none t at e h l =
+    let f : e ≡ found mark.Line (drop at t) = rw (tail at t) at h in
+    let m : length (drop at t) ≤ e = rw (tail at t) at l in
+    drop-all (length t) t (omega arith) ∙ sym (rw (← f) (drop-all (e + 1) (drop at t) (omega arith)))
+
+from-more : (t : List ℕ) (k : ℕ) → fromLine t (k + 1) ≡ afterLine (fromLine t k)
+unfolding fromLine
+from-more t k = rw add-one
+
+-- a loop over the lines, at line k and its place in the text
+pub record Reached (t : List ℕ) (at k : ℕ) : Type 0 where
+  pub within : k ≤ at
+  pub from : drop at t ≡ fromLine t k
+
+pub reached-start : (t : List ℕ) → Reached t 0 0
+unfolding fromLine
+reached-start t = record { within = omega arith; from = refl }
+
+pub reached-next : {t : List ℕ} {at k : ℕ} (r : ℕ) → Reached t at k → at < r → drop r t ≡ afterLine (drop at t) → Reached t r (k + 1)
+reached-next {t} {at} {k} r a l e = record { within = omega (arith, a .within); from = e ∙ rw (a .from, from-more t k) }
+
+pub reached-row : {t : List ℕ} {at k : ℕ} {row : Row} → Reached t at k → row ≡ rowOf (lineOf (drop at t)) → row ≡ rowAt t k
+unfolding rowAt
+reached-row a e = e ∙ rw (a .from)
+
+-- nothing is left behind the end
+empty-row : rowOf (lineOf []) ≡ Nothing
+unfolding rowOf lineOf recordOf wordOf width first
+empty-row = refl
+
+after-empty : afterLine [] ≡ []
+unfolding afterLine first
+after-empty = refl
+
+left-empty : (t : List ℕ) (k j : ℕ) → k ≤ j → fromLine t k ≡ [] → fromLine t j ≡ []
+unfolding fromLine
+left-empty t k j h e = le-ind {n = k} (λ m. fromLine t m ≡ []) e (λ m l i. ap afterLine i ∙ after-empty) j h
+
+row-empty : (t : List ℕ) (k j : ℕ) → k ≤ j → fromLine t k ≡ [] → rowAt t j ≡ Nothing
+unfolding rowAt
+row-empty t k j h e = rw (left-empty t k j h e) empty-row
+
+past : {t : List ℕ} {at k : ℕ} → Reached t at k → length t ≤ at → fromLine t k ≡ []
+past {t} {at} a l = sym (a .from) ∙ drop-all at t l
+
+-- WRONG LINES
+
+first-rest : (p : ℕ → Bool) (k n : ℕ) → k ≤ n → first p k ≡ k → ((j : ℕ) → k ≤ j → p j ≡ false) → first p n ≡ n
+first-rest p k n h e f = le-ind {n = k} (λ m. first p m ≡ m) e (λ m l i. sym (ap (first p) (add-one m)) ∙ first-more p m i (f m l) ∙ add-one m) n h
+
+pub none-wrong : {t : List ℕ} {at k : ℕ} → Reached t at k → at ≤ length t → length t ≤ at → first (wrongAt t) k ≡ k → Good ≡ seenOf t
+unfolding seenOf wrongAt
+none-wrong {t} {at} {k} a h l e =
+    rw (first-rest (wrongAt t) k (length t) (omega (arith, a .within)) e (λ j m. ap isWrong (row-empty t k j m (past a l))), le-ltb (length t) (length t) (omega arith))
+
+pub some-wrong : (t : List ℕ) (k : ℕ) (row : Row) → k < length t → firstWrong t ≡ k → row ≡ rowAt t k → Line (k + 1) (whatOf row) ≡ seenOf t
+unfolding seenOf
+some-wrong t k row l e r = rw (e, lt-ltb k (length t) l, r)
+
+pub wrong-is : (t : List ℕ) (k : ℕ) {row : Row} {r b : Bool} → row ≡ rowAt t k → r ≡ isWrong row → r ≡ b → wrongAt t k ≡ b
+unfolding wrongAt
+wrong-is t k e f g = sym (ap isWrong e) ∙ sym f ∙ g
+
+-- GATHERED
+
+pub nums-nothing : (kind : Kind) → numsIn kind Nothing ≡ []
+nums-nothing Partitions = refl
+nums-nothing Tasks = refl
+
+pub nums-wrong : (kind : Kind) (w : What) → numsIn kind (Wrong w) ≡ []
+nums-wrong Partitions w = refl
+nums-wrong Tasks w = refl
+
+gathered-rest : (f : ℕ → List ℕ) (k n : ℕ) → k ≤ n → ((j : ℕ) → k ≤ j → f j ≡ []) → gathered f n ≡ gathered f k
+unfolding gathered
+gathered-rest f k n h g = le-ind {n = k} (λ m. gathered f m ≡ gathered f k) refl (λ m l i. ap (λ (x : List ℕ). gathered f m ++ x) (g m l) ∙ append-nil (gathered f m) ∙ i) n h
+
+pub gather-start : (f : ℕ → List ℕ) → gathered f 0 ≡ []
+unfolding gathered
+gather-start f = refl
+
+pub gather-turn : (kind : Kind) (t : List ℕ) (k : ℕ) {out m o : List ℕ} {i r : ℕ} {row : Row} → row ≡ rowAt t k → Put out 0 (gathered (numsAt kind t) k) i m → Put m i (numsIn kind row) r o
+    → Put out 0 (gathered (numsAt kind t) (k + 1)) r o
+unfolding numsAt
+gather-turn kind t k e p q = rw (gathered-more (numsAt kind t) k, ← e) (and-then p q)
+
+pub gather-end : (kind : Kind) {t : List ℕ} {at k : ℕ} → Reached t at k → at ≤ length t → length t ≤ at → gathered (numsAt kind t) k ≡ tableOf kind t
+unfolding tableOf numsAt
+gather-end kind {t} {at} {k} a h l = sym (gathered-rest (numsAt kind t) k (length t) (omega (arith, a .within)) (λ j m. ap (numsIn kind) (row-empty t k j m (past a l)) ∙ nums-nothing kind))
+
+-- WHAT AN ANSWER OF NUMBERS SAYS
+
+-- the text is no longer than a text may be, and both tables fit
+pub record Fits (t : List ℕ) (parts tasks p q : ℕ) : Type 0 where
+  pub short : length t ≤ longestText
+  pub parts-are : p ≡ length (tableOf Partitions t)
+  pub parts-fit : p ≤ parts
+  pub tasks-are : q ≡ length (tableOf Tasks t)
+  pub tasks-fit : q ≤ tasks
+
+seen-good : (s : Seen) (x : Table) (p q : ℕ) → readBy s x ≡ Numbers p q → x ≡ Numbers p q
+seen-good Good x p q e = e
+seen-good (Line number what) x p q e = let z : _≡_ {A = ℕ} 0 1 = cc in absurd (omega arith)
+
+not-refused : (p q : ℕ) → ¬ (Refused Limits ≡ Numbers p q)
+not-refused p q e = let z : _≡_ {A = ℕ} 0 1 = cc in omega arith
+
+pub fits : (t : List ℕ) (parts tasks p q : ℕ) → readOf t parts tasks ≡ Numbers p q → Fits t parts tasks p q
+unfolding readOf sizedOf
+fits t parts tasks p q e =
+    let n = length (tableOf Partitions t) in
+    let m = length (tableOf Tasks t) in
+    let y2 : Table = pick (ltb tasks m) (Refused Limits) (Numbers n m) in
+    let y1 : Table = pick (ltb parts n) (Refused Limits) y2 in
+    let e1 = pick-second (ltb longestText (length t)) (Refused Limits) (readBy (seenOf t) y1) (Numbers p q) (not-refused p q) e in
+    let e2 = pick-second (ltb parts n) (Refused Limits) y2 (Numbers p q) (not-refused p q) (seen-good (seenOf t) y1 p q (e1 .1)) in
+    let e3 = pick-second (ltb tasks m) (Refused Limits) (Numbers n m) (Numbers p q) (not-refused p q) (e2 .1) in
+    let f : Numbers n m ≡ Numbers p q = e3 .1 in
+    let ep : p ≡ n = cc in
+    let eq : q ≡ m = cc in
+    record {
+      short = ltb-false _ _ (e1 .0);
+      parts-are = ep;
+      parts-fit = rw ep (ltb-false _ _ (e2 .0));
+      tasks-are = eq;
+      tasks-fit = rw eq (ltb-false _ _ (e3 .0));
+    }

@@ -1,0 +1,89 @@
+-- A share table as text: its lines in order, the first that is wrong, and the records of each kind. Assumes nothing.
+use Prim.Native.Nat.{ℕ, zero, suc, _+_}
+use mathlib.Core.List.{List, [], _∷_}
+use mathlib.Core.Bool.{Bool}
+use lib.ListN.{length, take, drop}
+use lib.Seq.{sets}
+use lib.Dec.{ltb}
+use Rattle.rules.specs.Walk.{pick, first, gathered}
+use Rattle.rules.specs.declared.Refusal.the-variants.{Limits}
+use Rattle.share_text.specs.declared.Mark.the-variants as mark
+use Rattle.share_text.specs.declared.Seen.{Seen}
+use Rattle.share_text.specs.declared.Seen.the-variants.{Good, Line}
+use Rattle.share_text.specs.declared.Kind.{Kind}
+use Rattle.share_text.specs.declared.Kind.the-variants.{Partitions, Tasks}
+use Rattle.share_text.specs.declared.Row.{Row}
+use Rattle.share_text.specs.declared.Row.the-variants.{Nothing, Partition, Task, Wrong}
+use Rattle.share_text.specs.declared.Table.{Table}
+use Rattle.share_text.specs.declared.Table.the-variants.{Numbers, Expected, Refused}
+use Rattle.share_text.specs.Words.{found}
+use Rattle.share_text.specs.Rows.{rowOf, isWrong, whatOf}
+
+-- the first line of a text, and the text behind its newline
+unfoldable pub lineOf : List ℕ → List ℕ
+lineOf t = take (found mark.Line t) t
+
+unfoldable pub afterLine : List ℕ → List ℕ
+afterLine t = drop (found mark.Line t + 1) t
+
+-- the text from line k on; behind the last line nothing is left
+unfoldable pub fromLine : List ℕ → ℕ → List ℕ
+fromLine t zero = t
+fromLine t (suc k) = afterLine (fromLine t k)
+
+-- what line k says; a text has no more lines with anything in them than it has bytes
+unfoldable pub rowAt : List ℕ → ℕ → Row
+rowAt t k = rowOf (lineOf (fromLine t k))
+
+unfoldable pub wrongAt : List ℕ → ℕ → Bool
+wrongAt t k = isWrong (rowAt t k)
+
+-- "the first line that is wrong", or the number of bytes
+abbrev pub firstWrong : List ℕ → ℕ
+firstWrong t = first (wrongAt t) (length t)
+
+-- the numbers of a row of one kind
+abbrev pub numsIn : Kind → Row → List ℕ
+numsIn Partitions (Partition m n d) = m ∷ n ∷ d ∷ []
+numsIn Tasks (Task p c d t) = p ∷ c ∷ d ∷ t ∷ []
+numsIn Partitions Nothing = []
+numsIn Partitions (Task p c d t) = []
+numsIn Partitions (Wrong w) = []
+numsIn Tasks Nothing = []
+numsIn Tasks (Partition m n d) = []
+numsIn Tasks (Wrong w) = []
+
+unfoldable pub numsAt : Kind → List ℕ → ℕ → List ℕ
+numsAt kind t k = numsIn kind (rowAt t k)
+
+-- the table of a kind: its records in the order of their lines
+unfoldable pub tableOf : Kind → List ℕ → List ℕ
+tableOf kind t = gathered (numsAt kind t) (length t)
+
+abbrev pub longestText : ℕ
+longestText = 65536
+
+-- the first line that is wrong, from 1, and what was expected there
+unfoldable pub seenOf : List ℕ → Seen
+seenOf t = pick (ltb (firstWrong t) (length t)) (Line (firstWrong t + 1) (whatOf (rowAt t (firstWrong t)))) Good
+
+-- how many numbers there are of each kind, where the lent tables have room for so many; "a count outside its limits" where they have not
+unfoldable pub sizedOf : List ℕ → ℕ → ℕ → Table
+sizedOf t parts tasks =
+    pick (ltb parts (length (tableOf Partitions t))) (Refused Limits)
+    (pick (ltb tasks (length (tableOf Tasks t))) (Refused Limits)
+    (Numbers (length (tableOf Partitions t)) (length (tableOf Tasks t))))
+
+abbrev pub readBy : Seen → Table → Table
+readBy Good sized = sized
+readBy (Line number what) sized = Expected number what
+
+-- the answer: a text too long to be read, a wrong line, or the numbers
+unfoldable pub readOf : List ℕ → ℕ → ℕ → Table
+readOf t parts tasks = pick (ltb longestText (length t)) (Refused Limits) (readBy (seenOf t) (sizedOf t parts tasks))
+
+-- what a lent table then holds: its kind's records in front, where all of them fit
+abbrev pub leftBy : Table → List ℕ → List ℕ → List ℕ
+leftBy (Numbers p t) nums out = sets out 0 nums
+leftBy (Expected line what) nums out = out
+leftBy (Refused r) nums out = out
