@@ -10,11 +10,12 @@
    Pointers: what is lent must be there for the whole length said, aligned as its type asks. A null pointer is good
    where the length is 0. What is lent for writing must not overlap anything else of the same call.
 
-   Cost: `merkazobi_list` takes up to MERKAZOBI_LIST_STACK bytes of stack, every other call up to MERKAZOBI_STACK. At the
-   limits a build, read or write takes well under a millisecond; a check up to some 0.3 s (16 partitions whose cycle is
-   a frame of 4,096); a verdict for D 4,096 in that frame 0.2 s with a few higher tasks, but half a minute where nearly
-   every tick is a scheduling point; a listing checks its plan and judges every task. A call of the desk goes through
-   its 64 places a few times: microseconds, whatever is asked. */
+   Cost: `merkazobi_read` and `merkazobi_section` take up to MERKAZOBI_READ_STACK bytes of stack, `merkazobi_list` up
+   to MERKAZOBI_LIST_STACK, every other call up to MERKAZOBI_STACK. At the limits a build, read or write takes well
+   under a millisecond; a check up to some 0.3 s (16 partitions whose cycle is a frame of 4,096); a verdict for D
+   4,096 in that frame 0.2 s with a few higher tasks, but half a minute where nearly every tick is a scheduling point;
+   a listing checks its plan and judges every task. A call of the desk goes through its 64 places a few times:
+   microseconds, whatever is asked. */
 #ifndef MERKAZOBI_H
 #define MERKAZOBI_H
 
@@ -60,7 +61,8 @@ extern "C" {
 #define MERKAZOBI_LISTING_BYTES (128 * (1 + MERKAZOBI_PARTITIONS + MERKAZOBI_TASKS))
 
 #define MERKAZOBI_STACK 1024
-#define MERKAZOBI_LIST_STACK 32768
+#define MERKAZOBI_READ_STACK 20480
+#define MERKAZOBI_LIST_STACK 49152
 
 /* The refusal numbers. Where several rules are broken the lowest number is told, then the lowest place. */
 enum {

@@ -169,8 +169,8 @@ static void stack(void)
     STACK(MERKAZOBI_STACK, merkazobi_build(parts, PARTS, plan, FRAME));
     STACK(MERKAZOBI_STACK, merkazobi_check(plan, FRAME, parts, PARTS));
     STACK(MERKAZOBI_STACK, merkazobi_verdict(plan, FRAME, parts, PARTS, tasks, TASKS, 1));
-    STACK(MERKAZOBI_STACK, merkazobi_read(file, sizeof file));
-    STACK(MERKAZOBI_STACK, merkazobi_section(file, sizeof file, 2));
+    STACK(MERKAZOBI_READ_STACK, merkazobi_read(file, sizeof file));
+    STACK(MERKAZOBI_READ_STACK, merkazobi_section(file, sizeof file, 2));
     STACK(MERKAZOBI_STACK, merkazobi_write(FRAME, parts, PARTS, tasks, TASKS, runs, RUNS, file, sizeof file));
     STACK(MERKAZOBI_LIST_STACK, merkazobi_list(file, sizeof file, text, sizeof text));
     STACK(MERKAZOBI_STACK, merkazobi_open(&desk, jobs, PLACES));

@@ -1,28 +1,32 @@
 // The one export crate: every entry over plain numbers and slices, for C and Rust. include/merkazobi.h declares it.
 use desk::Answer;
+use desk::Ask;
+use desk::Asked;
+use desk::Desk;
 use desk::Job;
-use desk_lent::Desk;
-use file_codec::Body;
-use file_codec::Reading;
-use file_codec::Written;
-use file_listing::Listed;
-use plan_build::Built;
-use plan_service::Checked;
+use file_read::Body;
+use file_read::Reading;
+use rules::Filling;
+use rules::Finding;
 use rules::Told;
 use task_verdict::Judged;
 ghost use mathlib.Core.Path.{_≡_};
 ghost use lib.ListN.{length};
 ghost use Rattle.rules.specs.Table.{wants};
 ghost use Rattle.theory.specs.Plan.{own, held, least};
-ghost use Rattle.plan_service.specs.Check.{checkOf};
-ghost use Rattle.plan_build.specs.Build.{buildOf, leftOf};
+ghost use Rattle.plan_check.specs.Check.{checkOf};
+ghost use Rattle.plan_build.specs.Build.{buildOf};
+ghost use Rattle.rules.specs.Filling.{leftBy};
+ghost use Rattle.theory.specs.Harmonic.{harmonicPlan};
 ghost use Rattle.task_verdict.specs.Verdict.{verdictOf};
-ghost use Rattle.file_codec.specs.Reader.{readOf, stretchOf};
-ghost use Rattle.file_codec.specs.Writer as writer;
-ghost use Rattle.file_listing.specs.Listing as lister;
-ghost use Rattle.desk.specs.Table.{said, openOf};
+ghost use Rattle.file_read.specs.Reader.{readOf, bodyAt};
+ghost use Rattle.file_write.specs.Writer.{writeOf, writtenLeft};
+ghost use Rattle.file_listing.specs.Listing.{listOf, listedLeft};
+ghost use Rattle.desk.specs.declared.Ask.the-variants.{Open, Request};
+ghost use Rattle.desk.specs.Table.{openOf};
 ghost use Rattle.desk.specs.Request.{requestOf};
-ghost use Rattle.api.specs.Answers.{toldChecked, toldBuilt, toldJudged, toldReading, toldStretch, toldSection, toldWritten, toldListed, Tells};
+ghost use Rattle.desk.specs.Call.{said};
+ghost use Rattle.api.specs.Answers.{toldFinding, toldFilling, toldJudged, toldReading, toldStretch, toldSection, Tells};
 
 fn answer(first: usize, second: usize) -> Told
     ensures { λ r. ⌜ r ≡ record { number = 0; first = first; second = second; third = 0; fourth = 0 } ⌝ }
@@ -40,7 +44,7 @@ fn answer(first: usize, second: usize) -> Told
 pub extern "C" fn merkazobi_wants(m: u16, num: u16, den: u16) -> usize
     ensures { λ r. ⌜ r ≡ wants m num den ⌝ }
 {
-    rules::wants(m, num, den)
+    rules::records::wants(m, num, den)
 }
 
 #[no_mangle]
@@ -59,23 +63,26 @@ pub extern "C" fn merkazobi_least(plan: &[u16], p: u16, t: u32) -> usize
 
 #[no_mangle]
 pub extern "C" fn merkazobi_check(plan: &[u16], parts: &[u16]) -> Told
-    ensures { λ r. ⌜ r ≡ toldChecked (checkOf (now (plan .entry)) (now (parts .entry))) ⌝ }
+    ensures { λ r. ⌜ r ≡ toldFinding (checkOf (now (plan .entry)) (now (parts .entry))) ⌝ }
 {
-    let checked = plan_service::check(plan, parts);
+    let checked = plan_check::check(plan, parts);
     match checked {
-        Checked::Serves => answer(0, 0),
-        Checked::Refused(r) => rules::tell(r),
+        Finding::Good => answer(0, 0),
+        Finding::Refused(r) => rules::tell(r),
     }
 }
 
 #[no_mangle]
 pub extern "C" fn merkazobi_build(parts: &[u16], out: &mut [u16]) -> Told
-    ensures { λ r. ⌜ (r ≡ toldBuilt (buildOf (now (parts .entry)) (length (now (out .entry))))) × (now (out .exit) ≡ leftOf (buildOf (now (parts .entry)) (length (now (out .entry)))) (now (parts .entry)) (now (out .entry))) ⌝ }
+    ensures { λ r. ⌜ r ≡ toldFilling (buildOf (now (parts .entry)) (length (now (out .entry)))) ⌝ }
+    ensures { λ _. ⌜ now (out .exit)
+        ≡ leftBy (buildOf (now (parts .entry)) (length (now (out .entry)))) (harmonicPlan (now (parts .entry)))
+        (now (out .entry)) ⌝ }
 {
     let built = plan_build::build(parts, out);
     match built {
-        Built::Frame(h) => answer(h, 0),
-        Built::Refused(r) => rules::tell(r),
+        Filling::Fills(h) => answer(h, 0),
+        Filling::Refused(r) => rules::tell(r),
     }
 }
 
@@ -100,7 +107,7 @@ pub extern "C" fn merkazobi_verdict(
 pub extern "C" fn merkazobi_read(file: &[u8]) -> Told
     ensures { λ r. ⌜ r ≡ toldReading (readOf (now (file .entry))) ⌝ }
 {
-    let reading = file_codec::read(file);
+    let reading = file_read::read(file);
     match reading {
         Reading::Contents {
             frame,
@@ -119,9 +126,9 @@ pub extern "C" fn merkazobi_read(file: &[u8]) -> Told
 }
 
 fn stretch(file: &[u8], which: Body) -> Told
-    ensures { λ r. ⌜ r ≡ toldStretch (stretchOf (readOf (now (file .entry))) which) ⌝ }
+    ensures { λ r. ⌜ r ≡ toldStretch (bodyAt (readOf (now (file .entry))) which) ⌝ }
 {
-    let s = file_codec::stretch_of(file, which);
+    let s = file_read::stretch_of(file, which);
     answer(s.offset, s.end)
 }
 
@@ -149,23 +156,27 @@ pub extern "C" fn merkazobi_write(
     runs: &[u16],
     out: &mut [u8],
 ) -> Told
-    ensures { λ r. ⌜ (r ≡ toldWritten (writer.writeOf frame (now (parts .entry)) (now (tasks .entry)) (now (runs .entry)) (length (now (out .entry))))) × (now (out .exit) ≡ writer.leftOf frame (now (parts .entry)) (now (tasks .entry)) (now (runs .entry)) (now (out .entry))) ⌝ }
+    ensures { λ r. ⌜ r ≡ toldFilling
+        (writeOf frame (now (parts .entry)) (now (tasks .entry)) (now (runs .entry)) (length (now (out .entry)))) ⌝ }
+    ensures { λ _. ⌜ now (out .exit)
+        ≡ writtenLeft frame (now (parts .entry)) (now (tasks .entry)) (now (runs .entry)) (now (out .entry)) ⌝ }
 {
-    let written = file_codec::write(frame, parts, tasks, runs, out);
+    let written = file_write::write(frame, parts, tasks, runs, out);
     match written {
-        Written::Bytes(n) => answer(n, 0),
-        Written::Refused(r) => rules::tell(r),
+        Filling::Fills(n) => answer(n, 0),
+        Filling::Refused(r) => rules::tell(r),
     }
 }
 
 #[no_mangle]
 pub extern "C" fn merkazobi_list(file: &[u8], out: &mut [u8]) -> Told
-    ensures { λ r. ⌜ (r ≡ toldListed (lister.listOf (now (file .entry)) (length (now (out .entry))))) × (now (out .exit) ≡ lister.leftOf (now (file .entry)) (now (out .entry))) ⌝ }
+    ensures { λ r. ⌜ r ≡ toldFilling (listOf (now (file .entry)) (length (now (out .entry)))) ⌝ }
+    ensures { λ _. ⌜ now (out .exit) ≡ listedLeft (now (file .entry)) (now (out .entry)) ⌝ }
 {
     let listed = file_listing::listing(file, out);
     match listed {
-        Listed::Text(n) => answer(n, 0),
-        Listed::Refused(r) => rules::tell(r),
+        Filling::Fills(n) => answer(n, 0),
+        Filling::Refused(r) => rules::tell(r),
     }
 }
 
@@ -179,11 +190,29 @@ fn tell_desk(answered: Answer) -> Told
     }
 }
 
+fn to_open() -> Ask
+    ensures { λ r. ⌜ r ≡ Open ⌝ }
+{
+    Ask::Open
+}
+
+fn to_request(time: u32, budget: u32, deadline: u32) -> Ask
+    ensures { λ r. ⌜ r ≡ Request (record { time = time; budget = budget; deadline = deadline }) ⌝ }
+{
+    Ask::Request(Asked {
+        time: time,
+        budget: budget,
+        deadline: deadline,
+    })
+}
+
 #[no_mangle]
 pub extern "C" fn merkazobi_open(desk: &mut Desk, jobs: &mut [Job]) -> Told
-    ensures { λ r. ⌜ Tells (openOf (now (desk .entry) .clock) (now (desk .entry) .count) (now (jobs .entry))) r (now (desk .exit)) (now (jobs .exit)) ⌝ }
+    ensures { λ r. ⌜ Tells (openOf (now (desk .entry) .clock) (now (desk .entry) .count) (now (jobs .entry)))
+        r (now (desk .exit)) (now (jobs .exit)) ⌝ }
 {
-    let answered = desk_lent::open(desk, jobs);
+    let ask = to_open();
+    let answered = desk_lent::call(desk, jobs, ask);
     tell_desk(answered)
 }
 
@@ -195,8 +224,10 @@ pub extern "C" fn merkazobi_request(
     c: u32,
     d: u32,
 ) -> Told
-    ensures { λ r. ⌜ Tells (requestOf (now (desk .entry) .clock) (now (desk .entry) .count) (now (jobs .entry)) t c d) r (now (desk .exit)) (now (jobs .exit)) ⌝ }
+    ensures { λ r. ⌜ Tells (requestOf (now (desk .entry) .clock) (now (desk .entry) .count) (now (jobs .entry)) t c d)
+        r (now (desk .exit)) (now (jobs .exit)) ⌝ }
 {
-    let answered = desk_lent::request(desk, jobs, t, c, d);
+    let ask = to_request(t, c, d);
+    let answered = desk_lent::call(desk, jobs, ask);
     tell_desk(answered)
 }

@@ -1,18 +1,20 @@
 -- Every worked example, by computation. Assumes nothing.
 use mathlib.Core.Path.{refl}
-use Rattle.rules.specs.Walk.{only, first, sum, count, smallest, largest, walk, gathered, roundUp}
-use Rattle.rules.specs.Table.{wants, countedIn, frameGood, goodShare, goodTimes, badPart, badTask, badTick}
-use Rattle.theory.specs.Plan.{owner, ownsFrom, owned, least}
-use Rattle.theory.specs.Harmonic.{pairs, frame, share, load, sooner, rank, ranked, give, turn, idle, planned, ticks}
-use Rattle.theory.specs.Task.{rival, asked, demand, multiple, point, fits, pointFits, firstPoint}
-use Rattle.plan_service.specs.Check.{shortAt, shortIn, scanOf, planOf, checkOf}
-use Rattle.plan_build.specs.Build.{clash, clashes, unharmonic, buildOf}
-use Rattle.task_verdict.specs.Verdict.{taskOf, inside, placeOf, verdictOf}
+use Rattle.rules.specs.Walk.{only, fails, first, sum, count, smallest, largest, walk, gathered, roundUp}
+use Rattle.rules.specs.Table.{wants, goodShare, goodTimes}
+use Rattle.rules.specs.Tables.{countedIn, withinLimits, tablesOf}
+use Rattle.theory.specs.Plan.{owner, owned, least}
+use Rattle.theory.specs.Harmonic.{pairs, frame, allWanted, sooner, rank, give, turn, planned, ticks}
+use Rattle.theory.specs.Load.{asked, demand, multiple, point, pointFits, firstPoint}
+use Rattle.theory.specs.Task.{rival, taskLoad}
+use Rattle.plan_check.specs.Check.{shortAt, scanOf, planCheckOf, checkOf}
+use Rattle.plan_build.specs.Build.{unharmonic, laidOf, buildOf}
+use Rattle.task_verdict.specs.Verdict.{taskOf, placeOf, verdictOf}
 use Rattle.file_codec.specs.Bytes.{numsOf}
-use Rattle.file_codec.specs.Runs.{runOwner, runLength, repeats, goodRun, badRun, judged}
-use Rattle.file_codec.specs.Reader.{withinLimits, offsetsRight, bodiesOf, contentsOf, readOf, sectionOf, tableOf}
+use Rattle.file_codec.specs.Runs.{runOwner, runLength, repeats, goodRun, runsJudged, fileTablesOf}
+use Rattle.file_read.specs.Reader.{tableBy, countsOf, contentsOf, readOf}
 use Rattle.file_runs.specs.Ticks.{ticksOf}
-use Rattle.file_lines.specs.Decimal.{digits, decimal}
+use Rattle.output.specs.Decimal.{digits, decimal}
 use Rattle.file_lines.specs.Lines.{frameLine, partitionLine, passLine}
 use Rattle.file_listing.specs.Listing.{partLine, taskLine, pageOf, tablesLines, listingOf}
 use Rattle.desk.specs.Table.{openOf}
@@ -20,7 +22,7 @@ use Rattle.desk.specs.Request.{requestOf}
 use Rattle.demands.specs.Document01.{Document01}
 
 pub worked : Document01
-unfolding only first sum count smallest largest walk gathered roundUp wants countedIn frameGood goodShare goodTimes badPart badTask badTick owner ownsFrom owned least pairs frame share load sooner rank ranked give turn idle planned ticks rival asked demand multiple point fits pointFits firstPoint shortAt shortIn scanOf planOf checkOf clash clashes unharmonic buildOf taskOf inside placeOf verdictOf numsOf runOwner runLength repeats goodRun badRun judged withinLimits offsetsRight bodiesOf contentsOf readOf sectionOf tableOf ticksOf digits decimal frameLine partitionLine passLine partLine taskLine pageOf tablesLines listingOf openOf requestOf
+unfolding only fails first sum count smallest largest walk gathered roundUp wants countedIn withinLimits tablesOf goodShare goodTimes owner owned least pairs frame allWanted sooner rank give turn planned ticks rival taskLoad asked demand multiple point pointFits firstPoint shortAt scanOf planCheckOf checkOf unharmonic laidOf buildOf taskOf placeOf verdictOf numsOf runOwner runLength repeats goodRun runsJudged fileTablesOf tableBy countsOf contentsOf readOf ticksOf digits decimal frameLine partitionLine passLine partLine taskLine pageOf tablesLines listingOf openOf requestOf
 worked = record {
   p1-wants = (refl, refl, refl);
   p1 = (refl, refl);

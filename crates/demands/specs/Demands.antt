@@ -7,27 +7,32 @@ use mathlib.Core.List.{List, [], _∷_}
 use lib.Dec.{eqb}
 use Rattle.rules.specs.declared.Refusal.{Refusal}
 use Rattle.rules.specs.declared.Told.{Told}
+use Rattle.rules.specs.Filling.{leftBy}
+use Rattle.theory.specs.Harmonic.{harmonicPlan}
+use Rattle.output.specs.Theorems as output
 use Rattle.theory.specs.Theorems as theory
-use Rattle.plan_service.specs.Check.{checkOf}
-use Rattle.plan_service.specs.Theorems as service
-use Rattle.plan_build.specs.declared.Built.the-variants as built
+use Rattle.plan_check.specs.Check.{checkOf}
+use Rattle.plan_check.specs.Theorems as checker
+use Rattle.rules.specs.declared.Filling.the-variants as filling
 use Rattle.plan_build.specs.Build as builder
-use Rattle.plan_build.specs.Theorems as harmonic
+use Rattle.plan_build.specs.Theorems as built-plans
 use Rattle.task_verdict.specs.Verdict.{verdictOf}
 use Rattle.task_verdict.specs.Theorems as verdict
-use Rattle.file_codec.specs.Reader.{readOf}
-use Rattle.file_codec.specs.Writer.{writeOf}
-use Rattle.file_codec.specs.Theorems as planfile
-use Rattle.file_runs.specs.Theorems as ticks
+use Rattle.file_read.specs.Reader.{readOf}
+use Rattle.file_write.specs.Writer.{writeOf}
+use Rattle.file_read.specs.Theorems as reader
+use Rattle.file_write.specs.Theorems as writer
+use Rattle.file_runs.specs.Theorems as runs
 use Rattle.file_listing.specs.Listing.{listOf}
 use Rattle.file_listing.specs.Theorems as listing
 use Rattle.share_plan.specs.Theorems as planner
 use Rattle.desk.specs.declared.Job.{Job}
-use Rattle.desk.specs.Table.{said, openOf}
+use Rattle.desk.specs.Table.{openOf}
 use Rattle.desk.specs.Request.{requestOf}
+use Rattle.desk.specs.Call.{said}
 use Rattle.desk.specs.Theorems as desk
 use Rattle.desk_lent.specs.Theorems as lent
-use Rattle.api.specs.Answers.{toldChecked, toldBuilt, toldJudged, toldReading, toldWritten, toldListed}
+use Rattle.api.specs.Answers.{toldFinding, toldFilling, toldJudged, toldReading}
 
 -- a number is one of a list
 abbrev pub among : List ℕ → ℕ → Bool
@@ -42,24 +47,24 @@ Numbered ms t = among (0 ∷ ms) (t .number) ≡ true
 -- then holds what that document says." That each entry ends, for every input, is what the check of its contract proves: no entry has a `requires`.
 pub record Demand1 : Type 0 where
   -- "the builder 3, 6, 10, 11, 12"
-  pub build-numbers : (ps : List ℕ) (room : ℕ) → Numbered (3 ∷ 6 ∷ 10 ∷ 11 ∷ 12 ∷ []) (toldBuilt (builder.buildOf ps room))
+  pub build-numbers : (ps : List ℕ) (room : ℕ) → Numbered (3 ∷ 6 ∷ 10 ∷ 11 ∷ 12 ∷ []) (toldFilling (builder.buildOf ps room))
   -- "the checker 3, 6, 8, 9"
-  pub check-numbers : (plan ps : List ℕ) → Numbered (3 ∷ 6 ∷ 8 ∷ 9 ∷ []) (toldChecked (checkOf plan ps))
+  pub check-numbers : (plan ps : List ℕ) → Numbered (3 ∷ 6 ∷ 8 ∷ 9 ∷ []) (toldFinding (checkOf plan ps))
   -- "the verdict 3, 6, 7, 8, 9"
   pub verdict-numbers : (plan ps ts : List ℕ) (place : ℕ) → Numbered (3 ∷ 6 ∷ 7 ∷ 8 ∷ 9 ∷ []) (toldJudged (verdictOf plan ps ts place))
   -- "the reader uses 1 to 8"
   pub read-numbers : (b : List ℕ) → Numbered (1 ∷ 2 ∷ 3 ∷ 4 ∷ 5 ∷ 6 ∷ 7 ∷ 8 ∷ []) (toldReading (readOf b))
   -- "the writer 3, 6, 7, 8, 12"
-  pub write-numbers : (frame : ℕ) (ps ts rs : List ℕ) (room : ℕ) → Numbered (3 ∷ 6 ∷ 7 ∷ 8 ∷ 12 ∷ []) (toldWritten (writeOf frame ps ts rs room))
+  pub write-numbers : (frame : ℕ) (ps ts rs : List ℕ) (room : ℕ) → Numbered (3 ∷ 6 ∷ 7 ∷ 8 ∷ 12 ∷ []) (toldFilling (writeOf frame ps ts rs room))
   -- a listing is refused only for want of room
-  pub list-numbers : (b : List ℕ) (room : ℕ) → Numbered (12 ∷ []) (toldListed (listOf b room))
+  pub list-numbers : (b : List ℕ) (room : ℕ) → Numbered (12 ∷ []) (toldFilling (listOf b room))
   -- "opening 13"
   pub open-numbers : (clock n : ℕ) (l : List Job) → Numbered (13 ∷ []) (said (openOf clock n l .answer))
   -- "a request 13 to 19"
   pub request-numbers : (clock n : ℕ) (l : List Job) (t c d : ℕ) → Numbered (13 ∷ 14 ∷ 15 ∷ 16 ∷ 17 ∷ 18 ∷ 19 ∷ []) (said (requestOf clock n l t c d .answer))
   -- "refusals 1 to 12 change no output byte"
-  pub build-refused : (ps out : List ℕ) (r : Refusal) → builder.leftOf (built.Refused r) ps out ≡ out
-  pub write-refused : planfile.Untouched
+  pub build-refused : (ps out : List ℕ) (r : Refusal) → leftBy (filling.Refused r) (harmonicPlan ps) out ≡ out
+  pub write-refused : writer.Untouched
   -- "13, 14, 15 and 19 change nothing at the desk. 16, 17, 18 set the clock to t and drop finished jobs"
   pub open-refused : desk.OpenLeaves
   pub request-refused : desk.RequestLeaves
@@ -68,17 +73,19 @@ pub record Demand1 : Type 0 where
 -- after every call that tests the job table and doesn't refuse it, flexibilities are those worked out afresh." The entries' contracts and the records below.
 pub record Demand2 : Type 0 where
   pub of-rules : theory.Proved
-  pub of-checker : service.Proved
-  pub of-builder : harmonic.Proved
+  pub of-output : output.Proved
+  pub of-checker : checker.Proved
+  pub of-builder : built-plans.Proved
   pub of-verdicts : verdict.Proved
-  pub of-files : planfile.Proved
-  pub of-runs : ticks.Proved
+  pub of-reader : reader.Proved
+  pub of-writer : writer.Proved
+  pub of-runs : runs.Proved
   pub of-listings : listing.Proved
   pub of-planner : planner.Proved
   pub of-desk : desk.Proved
   pub of-lent-desk : lent.Proved
-  pub read-write : planfile.ReadWrite
-  pub write-read : planfile.WriteRead
+  pub read-write : writer.ReadWrite
+  pub write-read : writer.WriteRead
   pub open-afresh : desk.OpenAfresh
   pub request-afresh : desk.RequestAfresh
 
@@ -89,10 +96,10 @@ pub record Demand3 : Type 0 where
   pub ends-in-time-for-ever : verdict.EndsInTimeForEver
   pub runs-exist : theory.LegalExists
   pub runs-unique : theory.LegalOne
-  pub built-serves : harmonic.BuiltServes
-  pub want-exactly : harmonic.WantExactly
-  pub want-none : harmonic.WantNone
-  pub want-checked : harmonic.WantChecked
+  pub built-serves : built-plans.BuiltServes
+  pub want-exactly : built-plans.WantExactly
+  pub want-none : built-plans.WantNone
+  pub want-checked : built-plans.WantChecked
 
 -- all of it
 pub record Demands : Type 0 where

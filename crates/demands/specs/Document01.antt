@@ -4,16 +4,18 @@ use mathlib.Core.Path.{_≡_}
 use mathlib.Core.List.{List, [], _∷_, _++_}
 use Rattle.rules.specs.Table.{wanted}
 use Rattle.rules.specs.declared.Refusal.the-variants.{Shortfall, Unharmonic, Want, Busy, NoPlace}
+use Rattle.rules.specs.Filling.{leftBy}
+use Rattle.output.specs.Text.{bytes}
 use Rattle.theory.specs.Plan.{own, least}
-use Rattle.theory.specs.Harmonic.{frame, load}
-use Rattle.plan_service.specs.declared.Checked.the-variants as checked
-use Rattle.plan_service.specs.Check.{checkOf}
-use Rattle.plan_build.specs.declared.Built.the-variants as built
-use Rattle.plan_build.specs.Build.{buildOf, leftOf}
+use Rattle.theory.specs.Harmonic.{frame, allWanted, harmonicPlan}
+use Rattle.rules.specs.declared.Finding.the-variants as found
+use Rattle.plan_check.specs.Check.{checkOf}
+use Rattle.rules.specs.declared.Filling.the-variants as filling
+use Rattle.plan_build.specs.Build.{buildOf}
 use Rattle.task_verdict.specs.declared.Judged.the-variants as judged
 use Rattle.task_verdict.specs.Verdict.{verdictOf}
-use Rattle.file_codec.specs.declared.Reading.the-variants.{Contents}
-use Rattle.file_codec.specs.Reader.{readOf}
+use Rattle.file_read.specs.declared.Reading.the-variants.{Contents}
+use Rattle.file_read.specs.Reader.{readOf}
 use Rattle.file_listing.specs.Listing.{listingOf}
 use Rattle.desk.specs.declared.Job.{Job}
 use Rattle.desk.specs.declared.Answer.the-variants.{Opened, Taken, Refused}
@@ -55,35 +57,27 @@ opened = filled (job 10 3 20 6 ∷ job 15 5 24 4 ∷ job 30 2 40 8 ∷ [])
 abbrev pub file : List ℕ
 file = 0 ∷ 1 ∷ 0 ∷ 4 ∷ 0 ∷ 16 ∷ 0 ∷ 2 ∷ 0 ∷ 28 ∷ 0 ∷ 1 ∷ 0 ∷ 36 ∷ 0 ∷ 2 ∷ 0 ∷ 4 ∷ 0 ∷ 1 ∷ 0 ∷ 2 ∷ 0 ∷ 4 ∷ 0 ∷ 1 ∷ 0 ∷ 3 ∷ 0 ∷ 1 ∷ 0 ∷ 1 ∷ 0 ∷ 4 ∷ 0 ∷ 4 ∷ 0 ∷ 1 ∷ 0 ∷ 2 ∷ 0 ∷ 2 ∷ 0 ∷ 2 ∷ []
 
--- "frame 4"
-abbrev pub line1 : List ℕ
-line1 = 102 ∷ 114 ∷ 97 ∷ 109 ∷ 101 ∷ 32 ∷ 52 ∷ 10 ∷ []
-
--- "partition 1 wants 2 in 4 least 2"
-abbrev pub line2 : List ℕ
-line2 = 112 ∷ 97 ∷ 114 ∷ 116 ∷ 105 ∷ 116 ∷ 105 ∷ 111 ∷ 110 ∷ 32 ∷ 49 ∷ 32 ∷ 119 ∷ 97 ∷ 110 ∷ 116 ∷ 115 ∷ 32 ∷ 50 ∷ 32 ∷ 105 ∷ 110 ∷ 32 ∷ 52 ∷ 32 ∷ 108 ∷ 101 ∷ 97 ∷ 115 ∷ 116 ∷ 32 ∷ 50 ∷ 10 ∷ []
-
--- "partition 2 wants 2 in 4 least 2"
-abbrev pub line3 : List ℕ
-line3 = 112 ∷ 97 ∷ 114 ∷ 116 ∷ 105 ∷ 116 ∷ 105 ∷ 111 ∷ 110 ∷ 32 ∷ 50 ∷ 32 ∷ 119 ∷ 97 ∷ 110 ∷ 116 ∷ 115 ∷ 32 ∷ 50 ∷ 32 ∷ 105 ∷ 110 ∷ 32 ∷ 52 ∷ 32 ∷ 108 ∷ 101 ∷ 97 ∷ 115 ∷ 116 ∷ 32 ∷ 50 ∷ 10 ∷ []
-
--- "task 1 partition 1 pass 4"
-abbrev pub line4 : List ℕ
-line4 = 116 ∷ 97 ∷ 115 ∷ 107 ∷ 32 ∷ 49 ∷ 32 ∷ 112 ∷ 97 ∷ 114 ∷ 116 ∷ 105 ∷ 116 ∷ 105 ∷ 111 ∷ 110 ∷ 32 ∷ 49 ∷ 32 ∷ 112 ∷ 97 ∷ 115 ∷ 115 ∷ 32 ∷ 52 ∷ 10 ∷ []
+-- "Its listing"
+abbrev pub listing : List ℕ
+listing =
+    bytes "frame 4\n"
+    ++ bytes "partition 1 wants 2 in 4 least 2\n"
+    ++ bytes "partition 2 wants 2 in 4 least 2\n"
+    ++ bytes "task 1 partition 1 pass 4\n"
 
 pub record Document01 : Type 0 where
   -- "q = 1, 3, 1; plan 1 2 2 2 1 3 0 0"
   pub p1-wants : (wanted (three 1 100) 0 ≡ 1) × (wanted (three 1 100) 1 ≡ 3) × (wanted (three 1 100) 2 ≡ 1)
-  pub p1 : (buildOf (three 1 100) 8 ≡ built.Frame 8) × (leftOf (built.Frame 8) (three 1 100) eight ≡ plan1)
-  pub p1-serves : checkOf plan1 (three 1 100) ≡ checked.Serves
+  pub p1 : (buildOf (three 1 100) 8 ≡ filling.Fills 8) × (leftBy (filling.Fills 8) (harmonicPlan (three 1 100)) eight ≡ plan1)
+  pub p1-serves : checkOf plan1 (three 1 100) ≡ found.Good
   -- "Third share 3/8: plan 1 2 2 2 1 3 3 3, full."
-  pub p2 : (buildOf (three 3 8) 8 ≡ built.Frame 8) × (leftOf (built.Frame 8) (three 3 8) eight ≡ plan2)
+  pub p2 : (buildOf (three 3 8) 8 ≡ filling.Fills 8) × (leftBy (filling.Fills 8) (harmonicPlan (three 3 8)) eight ≡ plan2)
   -- "Third share 1/2: 2 + 3 + 4 = 9 > 8, refusal 11."
-  pub p3 : (load (three 1 2) (frame (three 1 2)) ≡ 9) × (buildOf (three 1 2) 8 ≡ built.Refused Want)
+  pub p3 : (allWanted (three 1 2) (frame (three 1 2)) ≡ 9) × (buildOf (three 1 2) 8 ≡ filling.Refused Want)
   -- "Cycles 4 and 6: refusal 10."
-  pub p4 : buildOf (4 ∷ 1 ∷ 2 ∷ 6 ∷ 1 ∷ 2 ∷ []) 8 ≡ built.Refused Unharmonic
+  pub p4 : buildOf (4 ∷ 1 ∷ 2 ∷ 6 ∷ 1 ∷ 2 ∷ []) 8 ≡ filling.Refused Unharmonic
   -- "One partition, cycle 4, share 1/2, plan 1 1 0 0 0 0 1 1: refusal 9 at start 1, which holds 1 and wants 2."
-  pub p5 : checkOf plan5 (4 ∷ 1 ∷ 2 ∷ []) ≡ checked.Refused (Shortfall 1 1 1 2)
+  pub p5 : checkOf plan5 (4 ∷ 1 ∷ 2 ∷ []) ≡ found.Refused (Shortfall 1 1 1 2)
   -- "In P1, partition 2 has least(5) = 0, least(8) = 3, least(13) = 3, least(14) = 4."
   pub s1 : (least own plan1 2 5 ≡ 0) × (least own plan1 2 8 ≡ 3) × (least own plan1 2 13 ≡ 3) × (least own plan1 2 14 ≡ 4)
   -- "first task .. passes at 8. Second .. with D 13 it fails (4 > 3), with D 14 it passes at 14."
@@ -106,4 +100,4 @@ pub record Document01 : Type 0 where
   pub d6 : requestOf 0 3 opened 25 4 29 ≡ outcome (filled (job 30 2 40 8 ∷ [])) 1 25 (Refused NoPlace)
   -- the whole example's contents, and "Its listing"
   pub w1-read : readOf file ≡ Contents 4 2 1 2
-  pub w1 : listingOf file ≡ line1 ++ (line2 ++ (line3 ++ line4))
+  pub w1 : listingOf file ≡ listing

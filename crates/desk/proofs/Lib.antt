@@ -1,15 +1,9 @@
-pub mod Walk
-pub mod Find
-pub mod Push
-pub mod Back
-pub mod Keep
-pub mod Served
 pub mod Check
 pub mod Afresh
 pub mod Chain
 pub mod Spot
 pub mod Rules
-pub mod Runs
+pub mod Entries
 pub mod Promise
 pub mod Still
 pub mod Proved

@@ -10,29 +10,23 @@ use lib.Seq.{getD-take}
 use Rattle.rules.specs.Walk.{pick}
 use Rattle.rules.specs.declared.Refusal.{Refusal}
 use Rattle.rules.specs.declared.Refusal.the-variants.{Rules, Numbers, Past, Busy, Full, NoPlace, TooFar}
+use Rattle.rules.specs.Limits.{places}
 use Rattle.desk.specs.declared.Job.{Job}
-use Rattle.desk.specs.declared.Place.{Place}
-use Rattle.desk.specs.declared.Place.the-variants.{At, Nowhere}
 use Rattle.desk.specs.declared.Answer.the-variants.{Opened, Taken, Refused}
-use Rattle.desk.specs.declared.Outcome.{Outcome}
-use Rattle.desk.specs.Table.{none, filled, outcome, flexes, tableOk, deskOk, openOf}
-use Rattle.desk.specs.Request.{kept, busy, find, tooFar, placed, numbersOk, drops, requestOf}
-use Rattle.desk.specs.Story.{Terms, terms, Run, run, blank, termsAt, runs, Story, begin}
+use Rattle.desk.specs.Table.{none, filled, outcome, flexes, tableOk, deskOk, openOf, Outcome}
+use Rattle.desk.specs.Request.{kept, busy, find, tooFar, dropping, taking, numbersOk, drops, requestOf, Place, At, Nowhere}
+use Rattle.desk.specs.Story.{Entry, entry, blank, lent, entries, Story, begin}
 use Rattle.desk.specs.Theorems.{OpenOne, RequestOne, OpenLeaves, NeverTooFar, Refuses, OpenTells, InEveryStory, Tells, Proved}
 use Rattle.desk.proofs.Rules.{Sound, request-sound, request-numbers, opened-table, open-is, open-sound, open-good, open-sound-unless, sound-unless, afresh}
-use Rattle.desk.proofs.Runs.{Follow}
+use Rattle.desk.proofs.Entries.{Follow}
 use Rattle.desk.proofs.Promise.{take-filled, table, Kept, kept-good, kept-many, kept-begin, promise}
-use Rattle.desk.proofs.Still.{refused-same, taken-joined, still, all-since-opening, still-ever, length-runs}
-
--- ONE OUTCOME
+use Rattle.desk.proofs.Still.{refused-same, taken-joined, still, all-since-opening, still-ever, length-entries}
 
 open-one : OpenOne
 open-one clock n l o p e f = e ∙ sym f
 
 request-one : RequestOne
 request-one clock n l t c d o p e f = e ∙ sym f
-
--- WHAT A REFUSAL LEAVES
 
 open-leaves : OpenLeaves
 unfolding openOf
@@ -46,7 +40,7 @@ module _ (clock n : ℕ) (l : List Job) (t c d : ℕ) where
   -- a call that leaves what its refusal says, and the time where it takes the job in
   record Right (o : Outcome) : Type 0 where
     refused : (r : Refusal) → o .answer ≡ Refused r
-        → o ≡ pick (drops r) (outcome (filled (kept t (take n l))) (length (kept t (take n l))) t (Refused r)) (outcome l n clock (Refused r))
+        → o ≡ pick (drops r) (dropping t (kept t (take n l)) r) (outcome l n clock (Refused r))
     taken : (i s : ℕ) → o .answer ≡ Taken i s → o .clock ≡ t
 
   same-refused : (q r : Refusal) → Refused q ≡ Refused r → q ≡ r
@@ -59,7 +53,7 @@ module _ (clock n : ℕ) (l : List Job) (t c d : ℕ) where
         taken = λ i s e. absurd (let z : _≡_ {A = ℕ} 0 1 = cc in omega arith);
       }
 
-  drops-all : (q : Refusal) → drops q ≡ true → Right (outcome (filled (kept t (take n l))) (length (kept t (take n l))) t (Refused q))
+  drops-all : (q : Refusal) → drops q ≡ true → Right (dropping t (kept t (take n l)) q)
   drops-all q h =
       record {
         refused = λ r e. let z = same-refused q r e in rw (← z, h);
@@ -70,7 +64,7 @@ module _ (clock n : ℕ) (l : List Job) (t c d : ℕ) where
   choose true o p h g = h
   choose false o p h g = g
 
-  right-placed : (p : Place) → Right (placed clock n l t c d (kept t (take n l)) p)
+  right-placed : (p : Place) → Right (taking (outcome l n clock (Refused TooFar)) t c d (kept t (take n l)) p)
   right-placed Nowhere = drops-all NoPlace refl
   right-placed (At i s) =
       choose (tooFar (s + c) (drop i (kept t (take n l)))) _ _ (stays TooFar refl)
@@ -83,33 +77,31 @@ module _ (clock n : ℕ) (l : List Job) (t c d : ℕ) where
       (choose (not (numbersOk t c d)) _ _ (stays Numbers refl)
       (choose (ltb t clock) _ _ (stays Past refl)
       (choose (busy t (kept t (take n l))) _ _ (drops-all Busy refl)
-      (choose (leb 64 (length (kept t (take n l)))) _ _ (drops-all Full refl) (right-placed (find t c d (kept t (take n l))))))))
+      (choose (leb places (length (kept t (take n l)))) _ _ (drops-all Full refl) (right-placed (find t c d (kept t (take n l))))))))
 
--- THE STORY
-
-runs-flexes : (js : List Job) → runs (termsAt js) (flexes js) ≡ runs (termsAt js) js
-runs-flexes [] = refl
-runs-flexes (j ∷ js) = ap (λ (rs : List Run). run (terms (j .a) (j .c) (j .d)) (j .a) ∷ rs) (runs-flexes js)
+entries-flexes : (js : List Job) → entries (lent js) (flexes js) ≡ lent js
+entries-flexes [] = refl
+entries-flexes (j ∷ js) = ap (λ (rs : List Entry). entry (j .start) (j .budget) (j .deadline) (j .start) ∷ rs) (entries-flexes js)
 
 open-tells : OpenTells
 open-tells clock n l e =
     let ok = opened-table clock n l e in
     let left : take (openOf clock n l .count) (openOf clock n l .jobs) ≡ flexes (take n l) =
     rw (open-is clock n l ok) (take-filled (flexes (take n l)) n (open-good clock n l ok .count)) in
-    rw left (runs-flexes (take n l))
+    rw left (entries-flexes (take n l))
 
 kept-story : InEveryStory (λ h. Kept h)
 kept-story clock n l e qs = kept-many qs (begin clock n l) (kept-begin clock n l (opened-table clock n l e))
 
-run-at : (gs : List Terms) (js : List Job) (k : ℕ) → Follow gs js → k < length js
-    → (getD (runs gs js) k blank .start ≡ getD js k none .a)
-    × (getD (runs gs js) k blank .terms .budget ≡ getD js k none .c)
-    × (getD (runs gs js) k blank .terms .deadline ≡ getD js k none .d)
-run-at [] [] k f h = absurd (omega arith)
-run-at [] (j ∷ js) k f h = absurd f
-run-at (g ∷ gs) [] k f h = absurd f
-run-at (g ∷ gs) (j ∷ js) zero f h = (refl, f .0 .budget, f .0 .due)
-run-at (g ∷ gs) (j ∷ js) (suc k) f h = run-at gs js k (f .1) (omega arith)
+entry-at : (gs : List Entry) (js : List Job) (k : ℕ) → Follow gs js → k < length js
+    → (getD (entries gs js) k blank .start ≡ getD js k none .start)
+    × (getD (entries gs js) k blank .budget ≡ getD js k none .budget)
+    × (getD (entries gs js) k blank .deadline ≡ getD js k none .deadline)
+entry-at [] [] k f h = absurd (omega arith)
+entry-at [] (j ∷ js) k f h = absurd f
+entry-at (g ∷ gs) [] k f h = absurd f
+entry-at (g ∷ gs) (j ∷ js) zero f h = (refl, f .0 .budget, f .0 .due)
+entry-at (g ∷ gs) (j ∷ js) (suc k) f h = entry-at gs js k (f .1) (omega arith)
 
 tells : (h : Story) → Kept h → Tells h
 tells h w =
@@ -117,10 +109,10 @@ tells h w =
     let at : (k : ℕ) → k < h .desk .count → getD (table h) k none ≡ getD (h .desk .jobs) k none =
     λ k g. getD-take (h .desk .count) (h .desk .jobs) k none g in
     record {
-      all = length-runs (h .listed) (table h) (w .follow) ∙ long;
-      start = λ k g. run-at (h .listed) (table h) k (w .follow) (omega (arith, long)) .0 ∙ ap (λ (j : Job). j .a) (at k g);
-      budget = λ k g. run-at (h .listed) (table h) k (w .follow) (omega (arith, long)) .1 ∙ ap (λ (j : Job). j .c) (at k g);
-      deadline = λ k g. run-at (h .listed) (table h) k (w .follow) (omega (arith, long)) .2 ∙ ap (λ (j : Job). j .d) (at k g);
+      all = length-entries (h .listed) (table h) (w .follow) ∙ long;
+      start = λ k g. entry-at (h .listed) (table h) k (w .follow) (omega (arith, long)) .0 ∙ ap (λ (j : Job). j .start) (at k g);
+      budget = λ k g. entry-at (h .listed) (table h) k (w .follow) (omega (arith, long)) .1 ∙ ap (λ (j : Job). j .budget) (at k g);
+      deadline = λ k g. entry-at (h .listed) (table h) k (w .follow) (omega (arith, long)) .2 ∙ ap (λ (j : Job). j .deadline) (at k g);
     }
 
 not-rules : (clock n : ℕ) (l : List Job) → Sound clock n l → (t c d : ℕ) → Refuses (requestOf clock n l t c d) Rules → ⊥

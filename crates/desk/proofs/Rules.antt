@@ -4,23 +4,23 @@ use mathlib.Core.Path.{_≡_, refl, sym, ap, subst, _∙_}
 use mathlib.Core.Bool.{Bool, true, false, not, true≢false}
 use mathlib.Core.List.{List, [], _∷_}
 use native.Mathlib.Omega.{arith}
-use lib.Dec.{leb, ltb}
+use lib.Dec.{leb, ltb, eqb}
 use lib.ListN.{length, take, drop, replicate, length-append, length-replicate}
 use lib.Seq.{take-append-seam, drop-append-seam, length-take-le}
 use borrow.Author.Tests.{leb-true, leb-false, le-leb, ltb-false, eqb-true, eq-eqb}
+use Rattle.rules.specs.Refusals.{told}
 use Rattle.rules.specs.declared.Refusal.{Refusal}
 use Rattle.rules.specs.declared.Refusal.the-variants.{Rules, Numbers, Past, Busy, Full, NoPlace, TooFar}
+use Rattle.rules.specs.Limits.{places, latest}
 use Rattle.desk.specs.declared.Job.{Job}
-use Rattle.desk.specs.declared.Place.{Place}
-use Rattle.desk.specs.declared.Place.the-variants.{At, Nowhere}
 use Rattle.desk.specs.declared.Answer.{Answer}
 use Rattle.desk.specs.declared.Answer.the-variants.{Opened, Taken, Refused}
-use Rattle.desk.specs.declared.Outcome.{Outcome}
 use Rattle.rules.specs.Walk.{pick}
-use Rattle.desk.specs.Table.{job, none, withX, filled, xOf, refit, flexes, ordered, allNone, rightX, tableOk, deskOk, outcome, openOf, said}
-use Rattle.desk.specs.Request.{kept, busy, find, tooFar, insertAt, placed, afterDrop, numbersOk, is, drops, requestOf}
+use Rattle.desk.specs.Table.{job, none, filled, xOf, refit, flexes, allZeros, rightX, tableOk, deskOk, outcome, openOf, ends, Outcome}
+use Rattle.desk.specs.Call.{said}
+use Rattle.desk.specs.Request.{kept, busy, find, tooFar, insertAt, dropping, taking, numbersOk, requestOf, Place, At, Nowhere}
 use Rattle.desk.proofs.Check.{both-left, both-right, numbers-small, listed-of, desk-table, desk-right}
-use Rattle.desk.proofs.Back.{length-refit}
+use Rattle.desk.proofs.Check.{length-refit}
 use Rattle.desk.proofs.Afresh.{insert-right, refit-right}
 use Rattle.desk.proofs.Chain.{Chain, chain-low, chain-of, chain-ok, chain-kept, right-kept}
 use Rattle.desk.proofs.Spot.{Spot, find-spot, spot-near, chain-insert, length-insert, right-tail}
@@ -35,7 +35,7 @@ SoundAfter o = Sound (o .clock) (o .count) (o .jobs)
 -- what that says of the listed jobs
 pub record Good (n : ℕ) (js : List Job) : Type 0 where
   pub count : length js ≡ n
-  pub few : n ≤ 64
+  pub few : n ≤ places
   pub order : Chain 0 js
   pub right : rightX js ≡ true
 
@@ -45,27 +45,27 @@ good-of clock n l s =
     record {
       count = length-take-le n l (omega (arith, t .whole, t .few));
       few = t .few;
-      order = chain-of (take n l) (t .order);
+      order = chain-of 0 (take n l) (t .order);
       right = desk-right clock n l (s .test);
     }
 
-none-all : (n : ℕ) → allNone (replicate n none) ≡ true
+none-all : (n : ℕ) → allZeros (replicate n none) ≡ true
 none-all zero = refl
 none-all (suc n) = none-all n
 
-pub sound-filled : (clock n : ℕ) (js : List Job) → clock ≤ 1000000 → Good n js → Sound clock n (filled js)
+pub sound-filled : (clock n : ℕ) (js : List Job) → clock ≤ latest → Good n js → Sound clock n (filled js)
 sound-filled clock n js h g =
-    let front : take n (filled js) ≡ js = rw (← g .count) (take-append-seam js (replicate (64 - length js) none)) in
-    let back : drop n (filled js) ≡ replicate (64 - length js) none = rw (← g .count) (drop-append-seam js (replicate (64 - length js) none)) in
-    let whole : length (filled js) ≡ 64 =
-    omega (arith, length-append js (replicate (64 - length js) none), length-replicate (64 - length js) none, g .count, g .few) in
+    let front : take n (filled js) ≡ js = rw (← g .count) (take-append-seam js (replicate (places - length js) none)) in
+    let back : drop n (filled js) ≡ replicate (places - length js) none = rw (← g .count) (drop-append-seam js (replicate (places - length js) none)) in
+    let whole : length (filled js) ≡ places =
+    omega (arith, length-append js (replicate (places - length js) none), length-replicate (places - length js) none, g .count, g .few) in
     record {
-      test = rw (le-leb clock 1000000 h, eq-eqb (length (filled js)) 64 whole, le-leb n 64 (g .few), front, back, chain-ok 0 js (g .order), none-all (64 - length js)) (g .right);
+      test = rw (le-leb clock latest h, eq-eqb (length (filled js)) places whole, le-leb n places (g .few), front, back, chain-ok 0 js (g .order), none-all (places - length js)) (g .right);
     }
 
 length-kept : (t : ℕ) (js : List Job) → length (kept t js) ≤ length js
 length-kept t [] = omega arith
-length-kept t (j ∷ js) = cases (leb (j .a + j .c) t) (length-kept t js) where
+length-kept t (j ∷ js) = cases (leb (ends j) t) (length-kept t js) where
   cases : (b : Bool) → length (kept t js) ≤ length js → length (pick b (kept t js) (j ∷ kept t js)) ≤ suc (length js)
   cases true h = omega arith
   cases false h = omega arith
@@ -83,25 +83,27 @@ pub not-busy : (t : ℕ) (js : List Job) → busy t js ≡ false → Chain 0 js 
 not-busy t [] h g = tt
 not-busy t (j ∷ js) h g = (ltb-false _ _ h, g .1, g .2)
 
--- a refusal that drops finished jobs, or doesn't, and is neither 13 nor 19
-pub record Named (r : Refusal) (b : Bool) : Type 0 where
-  pub drop : drops r ≡ b
-  pub table : is r Rules ≡ false
-  pub far : is r TooFar ≡ false
+-- neither 13 nor 19
+pub record Named (r : Refusal) : Type 0 where
+  pub table : eqb (told r .number) 13 ≡ false
+  pub far : eqb (told r .number) 19 ≡ false
 
 -- the ways that a request on a sound table goes
 pub data Way (clock n : ℕ) (l : List Job) (t c d : ℕ) : Outcome → Type 0 where
-  same : (r : Refusal) → Named r false → Way clock n l t c d (outcome l n clock (Refused r))
-  dropped : (r : Refusal) → Named r true → clock ≤ t → t ≤ 1000000
-      → Way clock n l t c d (outcome (filled (kept t (take n l))) (length (kept t (take n l))) t (Refused r))
-  taken : (i s : ℕ) → clock ≤ t → t ≤ 1000000 → 1 ≤ c → d ≤ 1000000 → length (kept t (take n l)) < 64 → Chain t (kept t (take n l))
+  same : (r : Refusal) → Named r → Way clock n l t c d (outcome l n clock (Refused r))
+  dropped : (r : Refusal) → Named r → clock ≤ t → t ≤ latest
+      → Way clock n l t c d (dropping t (kept t (take n l)) r)
+  taken : (i s : ℕ) → clock ≤ t → t ≤ latest → 1 ≤ c → d ≤ latest → length (kept t (take n l)) < places → Chain t (kept t (take n l))
       → Spot c d t i (kept t (take n l)) s
       → Way clock n l t c d (outcome (filled (insertAt i (job s c d 0) (kept t (take n l)))) (length (kept t (take n l)) + 1) t (Taken i s))
 
 module _ (clock n : ℕ) (l : List Job) (t c d : ℕ) (sound : Sound clock n l) where
-  way-placed : clock ≤ t → numbersOk t c d ≡ true → length (kept t (take n l)) < 64 → Chain t (kept t (take n l))
-      → (p : Place) → find t c d (kept t (take n l)) ≡ p → Way clock n l t c d (placed clock n l t c d (kept t (take n l)) p)
-  way-placed h nums few g Nowhere e = dropped NoPlace (record { drop = refl; table = refl; far = refl }) h (numbers-small t c d nums .0)
+  abbrev keep : Outcome
+  keep = outcome l n clock (Refused TooFar)
+
+  way-placed : clock ≤ t → numbersOk t c d ≡ true → length (kept t (take n l)) < places → Chain t (kept t (take n l))
+      → (p : Place) → find t c d (kept t (take n l)) ≡ p → Way clock n l t c d (taking keep t c d (kept t (take n l)) p)
+  way-placed h nums few g Nowhere e = dropped NoPlace (record { table = refl; far = refl }) h (numbers-small t c d nums .0)
   way-placed h nums few g (At i s) e =
       let js = kept t (take n l) in
       let f = find-spot 0 c d t js g i s e in
@@ -109,7 +111,7 @@ module _ (clock n : ℕ) (l : List Job) (t c d : ℕ) (sound : Sound clock n l) 
       let spot : Spot c d t i js s = subst (λ (k : ℕ). Spot c d t k js s) at (f .spot) in
       let r : rightX js ≡ true = good-kept t n (take n l) (good-of clock n l sound) .right in
       let one = both-right (leb 1 c) _ nums in
-      let two = both-right (leb c 1000000) _ one in
+      let two = both-right (leb c latest) _ one in
       rw (spot-near c d t i js s g r spot)
       (taken i s h (numbers-small t c d nums .0) (leb-true _ _ (both-left _ _ nums)) (leb-true _ _ (both-left _ _ two)) few g spot)
 
@@ -119,26 +121,28 @@ module _ (clock n : ℕ) (l : List Job) (t c d : ℕ) (sound : Sound clock n l) 
     good : Good (length (kept t (take n l))) (kept t (take n l))
     good = good-kept t n (take n l) (good-of clock n l sound)
 
-    by-full : (b : Bool) → leb 64 (length (kept t (take n l))) ≡ b → clock ≤ t → numbersOk t c d ≡ true → Chain t (kept t (take n l))
-        → Way clock n l t c d (pick b (outcome (filled (kept t (take n l))) (length (kept t (take n l))) t (Refused Full)) (placed clock n l t c d (kept t (take n l)) (find t c d (kept t (take n l)))))
-    by-full true e h nums g = dropped Full (record { drop = refl; table = refl; far = refl }) h (numbers-small t c d nums .0)
-    by-full false e h nums g = way-placed h nums (leb-false 64 _ e) g (find t c d (kept t (take n l))) refl
+    by-full : (b : Bool) → leb places (length (kept t (take n l))) ≡ b → clock ≤ t → numbersOk t c d ≡ true → Chain t (kept t (take n l))
+        → Way clock n l t c d (pick b (dropping t (kept t (take n l)) Full) (taking keep t c d (kept t (take n l)) (find t c d (kept t (take n l)))))
+    by-full true e h nums g = dropped Full (record { table = refl; far = refl }) h (numbers-small t c d nums .0)
+    by-full false e h nums g = way-placed h nums (leb-false places _ e) g (find t c d (kept t (take n l))) refl
 
     by-busy : (b : Bool) → busy t (kept t (take n l)) ≡ b → clock ≤ t → numbersOk t c d ≡ true
-        → Way clock n l t c d (pick b (outcome (filled (kept t (take n l))) (length (kept t (take n l))) t (Refused Busy))
-        (pick (leb 64 (length (kept t (take n l)))) (outcome (filled (kept t (take n l))) (length (kept t (take n l))) t (Refused Full)) (placed clock n l t c d (kept t (take n l)) (find t c d (kept t (take n l))))))
-    by-busy true e h nums = dropped Busy (record { drop = refl; table = refl; far = refl }) h (numbers-small t c d nums .0)
-    by-busy false e h nums = by-full (leb 64 (length (kept t (take n l)))) refl h nums (not-busy t (kept t (take n l)) e (good .order))
+        → Way clock n l t c d (pick b (dropping t (kept t (take n l)) Busy)
+        (pick (leb places (length (kept t (take n l)))) (dropping t (kept t (take n l)) Full) (taking keep t c d (kept t (take n l)) (find t c d (kept t (take n l))))))
+    by-busy true e h nums = dropped Busy (record { table = refl; far = refl }) h (numbers-small t c d nums .0)
+    by-busy false e h nums = by-full (leb places (length (kept t (take n l)))) refl h nums (not-busy t (kept t (take n l)) e (good .order))
 
     by-clock : (b : Bool) → ltb t clock ≡ b → numbersOk t c d ≡ true
-        → Way clock n l t c d (pick b (outcome l n clock (Refused Past)) (afterDrop clock n l t c d (kept t (take n l))))
-    by-clock true e nums = same Past (record { drop = refl; table = refl; far = refl })
+        → Way clock n l t c d (pick b (outcome l n clock (Refused Past)) (pick (busy t (kept t (take n l))) (dropping t (kept t (take n l)) Busy)
+        (pick (leb places (length (kept t (take n l)))) (dropping t (kept t (take n l)) Full) (taking keep t c d (kept t (take n l)) (find t c d (kept t (take n l)))))))
+    by-clock true e nums = same Past (record { table = refl; far = refl })
     by-clock false e nums = by-busy (busy t (kept t (take n l))) refl (ltb-false t clock e) nums
 
     by-numbers : (b : Bool) → numbersOk t c d ≡ b
-        → Way clock n l t c d (pick (not b) (outcome l n clock (Refused Numbers)) (pick (ltb t clock) (outcome l n clock (Refused Past)) (afterDrop clock n l t c d (kept t (take n l)))))
+        → Way clock n l t c d (pick (not b) (outcome l n clock (Refused Numbers)) (pick (ltb t clock) (outcome l n clock (Refused Past)) (pick (busy t (kept t (take n l))) (dropping t (kept t (take n l)) Busy)
+        (pick (leb places (length (kept t (take n l)))) (dropping t (kept t (take n l)) Full) (taking keep t c d (kept t (take n l)) (find t c d (kept t (take n l))))))))
     by-numbers true e = by-clock (ltb t clock) refl e
-    by-numbers false e = same Numbers (record { drop = refl; table = refl; far = refl })
+    by-numbers false e = same Numbers (record { table = refl; far = refl })
 
   pub sound-way : (o : Outcome) → Way clock n l t c d o → SoundAfter o
   sound-way o (same r h) = sound
@@ -168,20 +172,18 @@ module _ (clock n : ℕ) (l : List Job) (t c d : ℕ) (sound : Sound clock n l) 
   request-numbers = numbers-way (requestOf clock n l t c d) way
 
 -- the place that is found, on any table in order with right flexibilities, moves no job beyond its x
-pub room-never-far : (t c d : ℕ) (js : List Job) (i s : ℕ) → ordered js ≡ true → rightX js ≡ true → busy t js ≡ false
+pub room-never-far : (t c d : ℕ) (js : List Job) (i s : ℕ) → Chain 0 js → rightX js ≡ true → busy t js ≡ false
     → find t c d js ≡ At i s → tooFar (s + c) (drop i js) ≡ false
 room-never-far t c d js i s o r b e =
-    let g = not-busy t js b (chain-of js o) in
+    let g = not-busy t js b o in
     let f = find-spot 0 c d t js g i s e in
     let at : f .at ≡ i = omega (arith, f .is) in
     spot-near c d t i js s g r (subst (λ (k : ℕ). Spot c d t k js s) at (f .spot))
 
--- OPENING
-
 order-refit : (e : ℕ) (js : List Job) → Chain e js → Chain e (refit js [])
 order-refit e [] g = tt
 order-refit e (j ∷ js) g =
-    (g .0, record { some = g .1 .some; ends = g .1 .ends; due = g .1 .due }, order-refit (j .a + j .c) js (g .2))
+    (g .0, record { some = g .1 .some; in-time = g .1 .in-time; low = g .1 .low }, order-refit (ends j) js (g .2))
 
 module _ (clock n : ℕ) (l : List Job) (table : tableOk n l ≡ true) where
   pub open-good : Good n (flexes (take n l))
@@ -190,7 +192,7 @@ module _ (clock n : ℕ) (l : List Job) (table : tableOk n l ≡ true) where
       record {
         count = omega (arith, length-refit (take n l) [], length-take-le n l (omega (arith, w .whole, w .few)));
         few = w .few;
-        order = order-refit 0 (take n l) (chain-of (take n l) (w .order));
+        order = order-refit 0 (take n l) (chain-of 0 (take n l) (w .order));
         right = refit-right (take n l) [] refl;
       }
 
@@ -213,15 +215,14 @@ opened-table clock n l e = cases (tableOk n l) refl e where
   cases true z w = z
   cases false z w = absurd (let y : _≡_ {A = ℕ} 0 1 = cc in omega arith)
 
--- 3. AFRESH: right flexibilities are those worked out from nothing
-
-with-same : (j : Job) (v : ℕ) → j .x ≡ v → withX j v ≡ j
-with-same j v e = λ i. record { a = j .a; c = j .c; d = j .d; x = sym e i }
+-- 3. right flexibilities are those worked out from nothing
+with-same : (j : Job) (v : ℕ) → j .flex ≡ v → job (j .start) (j .budget) (j .deadline) v ≡ j
+with-same j v e = λ i. record { start = j .start; budget = j .budget; deadline = j .deadline; flex = sym e i }
 
 pub fresh : (js : List Job) → rightX js ≡ true → flexes js ≡ js
 fresh [] r = refl
 fresh (j ∷ js) r =
-    let x : j .x ≡ xOf j js = eqb-true _ _ (both-left _ (rightX js) r) in
+    let x : j .flex ≡ xOf j js = eqb-true _ _ (both-left _ (rightX js) r) in
     rw (fresh js (right-tail j js r)) (ap (λ (k : Job). k ∷ js) (with-same j (xOf j js) x))
 
 pub afresh : (o : Outcome) → SoundAfter o → flexes (take (o .count) (o .jobs)) ≡ take (o .count) (o .jobs)

@@ -7,21 +7,21 @@ use native.Mathlib.Omega.{arith}
 use lib.Dec.{leb, eqb}
 use lib.ListN.{length, take, drop, length-append, length-take, length-drop}
 use borrow.Author.Tests.{leb-true, leb-false, lt-leb}
+use Rattle.rules.specs.Limits.{latest}
 use Rattle.desk.specs.declared.Job.{Job}
-use Rattle.desk.specs.declared.Place.the-variants.{At, Nowhere}
 use Rattle.rules.specs.Walk.{pick}
-use Rattle.desk.specs.Table.{job, xOf, rightX}
-use Rattle.desk.specs.Request.{shift, tooFar, insertAt, early, room, findFrom}
+use Rattle.desk.specs.Table.{job, xOf, rightX, ends}
+use Rattle.desk.specs.Request.{shift, tooFar, insertAt, early, room, findFrom, At, Nowhere}
 use Rattle.desk.proofs.Check.{both-right}
-use Rattle.desk.proofs.Back.{length-refit}
-use Rattle.desk.proofs.Afresh.{Near, never-far}
-use Rattle.desk.proofs.Chain.{Chain, chain-low, chain-ok, chain-shift}
+use Rattle.desk.proofs.Check.{length-refit}
+use Rattle.desk.proofs.Afresh.{Near}
+use Rattle.desk.proofs.Chain.{Chain, chain-low, chain-shift, never-far}
 
 -- p is a place for c and d among js, with start s: the end of the job before it, or e in front of all
 abbrev pub Spot : ℕ → ℕ → ℕ → ℕ → List Job → ℕ → Type 0
 Spot c d e zero js s = (s ≡ e) × (s + c ≤ d) × Near (s + c) js
 Spot c d e (suc p) [] s = ⊥
-Spot c d e (suc p) (j ∷ js) s = Spot c d (j .a + j .c) p js s
+Spot c d e (suc p) (j ∷ js) s = Spot c d (ends j) p js s
 
 pub record Found (k c d e : ℕ) (js : List Job) (i s : ℕ) : Type 0 where
   pub at : ℕ
@@ -31,20 +31,20 @@ pub record Found (k c d e : ℕ) (js : List Job) (i s : ℕ) : Type 0 where
 pub early-late : (d e : ℕ) (js : List Job) → d < e → Chain e js → early d js ≡ 0
 early-late d e [] h g = refl
 early-late d e (j ∷ js) h g =
-    let late : d < j .a = omega (arith, g .0) in
-    rw (lt-leb (j .a) d late) (early-late d (j .a + j .c) js (omega arith) (g .2))
+    let late : d < j .start = omega (arith, g .0) in
+    rw (lt-leb (j .start) d late) (early-late d (ends j) js (omega arith) (g .2))
 
 -- a place with room is a spot: the step from room ≥ C to a first move within x
-pub room-spot : (c d e : ℕ) (j : Job) → e ≤ j .a → j .a ≤ d → c ≤ room e d j → (e + c ≤ d) × (e + c ≤ j .a + j .x)
+pub room-spot : (c d e : ℕ) (j : Job) → e ≤ j .start → j .start ≤ d → c ≤ room e d j → (e + c ≤ d) × (e + c ≤ j .start + j .flex)
 room-spot c d e j h g r = (omega arith, omega arith)
 
 pub find-spot : (k c d e : ℕ) (js : List Job) → Chain e js → (i s : ℕ) → findFrom k e c d (take (early d js) js) ≡ At i s
     → Found k c d e js i s
 find-spot k c d e [] g i s h = absurd (let z : _≡_ {A = ℕ} 0 1 = cc in omega arith)
-find-spot k c d e (j ∷ js) g i s h = by-early (leb (j .a) d) refl h (find-spot (k + 1) c d (j .a + j .c) js (g .2) i s) where
-  by-room : (b : Bool) → j .a ≤ d → leb c (room e d j) ≡ b
-      → pick b (At k e) (findFrom (k + 1) (j .a + j .c) c d (take (early d js) js)) ≡ At i s
-      → (findFrom (k + 1) (j .a + j .c) c d (take (early d js) js) ≡ At i s → Found (k + 1) c d (j .a + j .c) js i s)
+find-spot k c d e (j ∷ js) g i s h = by-early (leb (j .start) d) refl h (find-spot (k + 1) c d (ends j) js (g .2) i s) where
+  by-room : (b : Bool) → j .start ≤ d → leb c (room e d j) ≡ b
+      → pick b (At k e) (findFrom (k + 1) (ends j) c d (take (early d js) js)) ≡ At i s
+      → (findFrom (k + 1) (ends j) c d (take (early d js) js) ≡ At i s → Found (k + 1) c d (ends j) js i s)
       → Found k c d e (j ∷ js) i s
   by-room true low r q more =
       let z : s ≡ e = cc in
@@ -54,54 +54,54 @@ find-spot k c d e (j ∷ js) g i s h = by-early (leb (j .a) d) refl h (find-spot
   by-room false low r q more =
       let f = more q in record { at = suc (f .at); is = omega (arith, f .is); spot = f .spot }
 
-  by-early : (b : Bool) → leb (j .a) d ≡ b → findFrom k e c d (take (pick b (suc (early d js)) (early d js)) (j ∷ js)) ≡ At i s
-      → (findFrom (k + 1) (j .a + j .c) c d (take (early d js) js) ≡ At i s → Found (k + 1) c d (j .a + j .c) js i s)
+  by-early : (b : Bool) → leb (j .start) d ≡ b → findFrom k e c d (take (pick b (suc (early d js)) (early d js)) (j ∷ js)) ≡ At i s
+      → (findFrom (k + 1) (ends j) c d (take (early d js) js) ≡ At i s → Found (k + 1) c d (ends j) js i s)
       → Found k c d e (j ∷ js) i s
   by-early true low q more = by-room (leb c (room e d j)) (leb-true _ _ low) refl q more
   by-early false low q more =
-      let none = early-late d (j .a + j .c) js (omega (arith, leb-false (j .a) d low)) (g .2) in
+      let none = early-late d (ends j) js (omega (arith, leb-false (j .start) d low)) (g .2) in
       let no : Nowhere ≡ At i s = rw none at q in
       absurd (let z : _≡_ {A = ℕ} 0 1 = cc in omega arith)
 
 pub right-tail : (j : Job) (js : List Job) → rightX (j ∷ js) ≡ true → rightX js ≡ true
-right-tail j js r = both-right (eqb (j .x) (xOf j js)) _ r
+right-tail j js r = both-right (eqb (j .flex) (xOf j js)) _ r
 
 -- at a spot no move exceeds its job's x
 pub spot-near : (c d e p : ℕ) (js : List Job) (s : ℕ) → Chain e js → rightX js ≡ true → Spot c d e p js s → tooFar (s + c) (drop p js) ≡ false
-spot-near c d e zero js s g r h = never-far (s + c) js (chain-ok e js g) r (h .2)
+spot-near c d e zero js s g r h = never-far (s + c) e js g r (h .2)
 spot-near c d e (suc p) [] s g r h = absurd h
-spot-near c d e (suc p) (j ∷ js) s g r h = spot-near c d (j .a + j .c) p js s (g .2) (right-tail j js r) h
+spot-near c d e (suc p) (j ∷ js) s g r h = spot-near c d (ends j) p js s (g .2) (right-tail j js r) h
 
 pub spot-start : (c d e p : ℕ) (js : List Job) (s : ℕ) → Chain e js → Spot c d e p js s → e ≤ s
 spot-start c d e zero js s g h = omega (arith, h .0)
 spot-start c d e (suc p) [] s g h = absurd h
-spot-start c d e (suc p) (j ∷ js) s g h = omega (arith, spot-start c d (j .a + j .c) p js s (g .2) h, g .0)
+spot-start c d e (suc p) (j ∷ js) s g h = omega (arith, spot-start c d (ends j) p js s (g .2) h, g .0)
 
-pub chain-insert : (c d e p : ℕ) (js : List Job) (s : ℕ) → 1 ≤ c → d ≤ 1000000 → Chain e js → rightX js ≡ true → Spot c d e p js s
+pub chain-insert : (c d e p : ℕ) (js : List Job) (s : ℕ) → 1 ≤ c → d ≤ latest → Chain e js → rightX js ≡ true → Spot c d e p js s
     → Chain e (insertAt p (job s c d 0) js)
 chain-insert c d e zero js s hc hd g r h = (
   omega (arith, h .0),
-  record { some = hc; ends = h .1; due = hd },
+  record { some = hc; in-time = h .1; low = hd },
   chain-shift (s + c) js (chain-low e 0 js (omega arith) g) r (h .2),
 )
 chain-insert c d e (suc p) [] s hc hd g r h = absurd h
 chain-insert c d e (suc p) (j ∷ js) s hc hd g r h = (
   g .0,
-  record { some = g .1 .some; ends = g .1 .ends; due = g .1 .due },
-  chain-insert c d (j .a + j .c) p js s hc hd (g .2) (right-tail j js r) h,
+  record { some = g .1 .some; in-time = g .1 .in-time; low = g .1 .low },
+  chain-insert c d (ends j) p js s hc hd (g .2) (right-tail j js r) h,
 )
 
 pub length-shift : (e : ℕ) (js : List Job) → length (shift e js) ≡ length js
 length-shift e [] = refl
-length-shift e (j ∷ js) = ap suc (length-shift (max e (j .a) + j .c) js)
+length-shift e (j ∷ js) = ap suc (length-shift (max e (j .start) + j .budget) js)
 
 pub length-insert : (p : ℕ) (new : Job) (js : List Job) → length (insertAt p new js) ≡ length js + 1
 length-insert p new js =
     omega (
       arith,
-      length-refit (take p js ++ (new ∷ [])) (shift (new .a + new .c) (drop p js)),
+      length-refit (take p js ++ (new ∷ [])) (shift (ends new) (drop p js)),
       length-append (take p js) (new ∷ []),
-      length-shift (new .a + new .c) (drop p js),
+      length-shift (ends new) (drop p js),
       length-take p js,
       length-drop p js,
     )

@@ -1,5 +1,5 @@
 pub mod Table
 pub mod Request
-pub mod Facts
+pub mod Call
 pub mod Story
 pub mod Theorems

@@ -6,111 +6,79 @@ use lib.Dec.{leb}
 use lib.ListN.{length, take, drop, getD}
 use Rattle.rules.specs.Walk.{pick}
 use Rattle.desk.specs.declared.Job.{Job}
+use Rattle.desk.specs.declared.Asked.{Asked}
 use Rattle.desk.specs.declared.Answer.{Answer}
 use Rattle.desk.specs.declared.Answer.the-variants.{Opened, Taken, Refused}
-use Rattle.desk.specs.declared.Outcome.{Outcome}
-use Rattle.desk.specs.Table.{openOf}
-use Rattle.desk.specs.Request.{drops, requestOf}
+use Rattle.desk.specs.Table.{start, budget, deadline, Outcome, openOf}
+use Rattle.desk.specs.Request.{requestOf}
 
--- what a job came with: its opening start or its request time, its budget and its deadline
-pub record Terms : Type 0 where
+-- a job ever listed: its opening start or its request time, its budget, its deadline, and its start
+pub record Entry : Type 0 where
   pub since : ℕ
   pub budget : ℕ
   pub deadline : ℕ
-
-abbrev pub terms : ℕ → ℕ → ℕ → Terms
-terms s c d = record { since = s; budget = c; deadline = d }
-
--- a job ever listed, and its start
-pub record Run : Type 0 where
-  pub terms : Terms
   pub start : ℕ
 
-abbrev pub run : Terms → ℕ → Run
-run g s = record { terms = g; start = s }
+abbrev pub entry : ℕ → ℕ → ℕ → ℕ → Entry
+entry b c d s = record { since = b; budget = c; deadline = d; start = s }
 
-abbrev pub blank : Run
-blank = run (terms 0 0 0) 0
+abbrev pub blank : Entry
+blank = entry 0 0 0 0
 
-abbrev pub finish : Run → ℕ
-finish r = r .start + r .terms .budget
+abbrev pub finish : Entry → ℕ
+finish r = r .start + r .budget
 
--- the runs that end by t, and those that do not
-abbrev pub ended : ℕ → List Run → List Run
+-- the entries that end by t, and those that do not
+abbrev pub ended : ℕ → List Entry → List Entry
 ended t [] = []
 ended t (r ∷ rs) = pick (leb (finish r) t) (r ∷ ended t rs) (ended t rs)
 
-abbrev pub unended : ℕ → List Run → List Run
+abbrev pub unended : ℕ → List Entry → List Entry
 unended t [] = []
 unended t (r ∷ rs) = pick (leb (finish r) t) (unended t rs) (r ∷ unended t rs)
 
-abbrev pub termsOf : List Run → List Terms
-termsOf [] = []
-termsOf (r ∷ rs) = r .terms ∷ termsOf rs
+-- the jobs at opening
+abbrev pub lent : List Job → List Entry
+lent [] = []
+lent (j ∷ js) = entry (start j) (budget j) (deadline j) (start j) ∷ lent js
 
--- at opening
-abbrev pub termsAt : List Job → List Terms
-termsAt [] = []
-termsAt (j ∷ js) = terms (j .a) (j .c) (j .d) ∷ termsAt js
+-- the same jobs, in the table's order, at the starts that the table has
+abbrev pub entries : List Entry → List Job → List Entry
+entries [] js = []
+entries (r ∷ rs) [] = []
+entries (r ∷ rs) (j ∷ js) = entry (r .since) (r .budget) (r .deadline) (start j) ∷ entries rs js
 
--- jobs in the table's order, each with its terms, at the starts that the table has
-abbrev pub runs : List Terms → List Job → List Run
-runs [] js = []
-runs (g ∷ gs) [] = []
-runs (g ∷ gs) (j ∷ js) = run g (j .a) ∷ runs gs js
-
-abbrev pub put : ℕ → Terms → List Terms → List Terms
-put i g gs = take i gs ++ (g ∷ drop i gs)
-
--- desk: what the last call left; gone: the jobs dropped, at their last starts; listed: the terms of the listed jobs, in the table's order
+-- desk: what the last call left; gone: the jobs dropped, at their last starts; listed: those in the table, as they were before that call
 pub record Story : Type 0 where
   pub desk : Outcome
-  pub gone : List Run
-  pub listed : List Terms
+  pub gone : List Entry
+  pub listed : List Entry
 
-abbrev pub live : Story → List Run
-live h = runs (h .listed) (take (h .desk .count) (h .desk .jobs))
+abbrev pub live : Story → List Entry
+live h = entries (h .listed) (take (h .desk .count) (h .desk .jobs))
 
 -- every job ever listed: first those dropped, then those in the table
-abbrev pub ever : Story → List Run
+abbrev pub ever : Story → List Entry
 ever h = h .gone ++ live h
 
-pub record Asked : Type 0 where
-  pub time : ℕ
-  pub budget : ℕ
-  pub deadline : ℕ
-
--- the table after opening; starts are those that the caller lent
+-- the story at opening
 abbrev pub begin : ℕ → ℕ → List Job → Story
-begin clock n l = record { desk = openOf clock n l; gone = []; listed = termsAt (take n l) }
+begin clock n l = record { desk = openOf clock n l; gone = []; listed = lent (take n l) }
 
--- o is what the call left: by its answer, finished jobs are gone, and a job taken in has its terms at its place
-abbrev pub after : Story → Asked → Outcome → Answer → Story
-after h q o Opened = record { desk = o; gone = h .gone; listed = h .listed }
-after h q o (Taken i s) =
-    record {
-      desk = o;
-      gone = h .gone ++ ended (q .time) (live h);
-      listed = put i (terms (q .time) (q .budget) (q .deadline)) (termsOf (unended (q .time) (live h)));
-    }
-after h q o (Refused r) =
-    pick (drops r)
-    (record {
-      desk = o;
-      gone = h .gone ++ ended (q .time) (live h);
-      listed = termsOf (unended (q .time) (live h));
-    })
-    (record { desk = o; gone = h .gone; listed = h .listed })
+-- a job taken in is listed at its place
+abbrev pub withNew : Asked → Answer → List Entry → List Entry
+withNew q Opened rs = rs
+withNew q (Taken i s) rs = take i rs ++ (entry (q .time) (q .budget) (q .deadline) s ∷ drop i rs)
+withNew q (Refused r) rs = rs
 
-abbrev pub grown : Story → Asked → Outcome → Story
-grown h q o = after h q o (o .answer)
+-- a request that leaves o: the jobs that end by the desk's clock, which 13, 14, 15 and 19 leave as it was, are gone
+abbrev pub after : Story → Asked → Outcome → Story
+after h q o =
+    record { desk = o; gone = h .gone ++ ended (o .clock) (live h); listed = withNew q (o .answer) (unended (o .clock) (live h)) }
 
 -- one request, on just what the last call left
-abbrev pub reply : Story → Asked → Outcome
-reply h q = requestOf (h .desk .clock) (h .desk .count) (h .desk .jobs) (q .time) (q .budget) (q .deadline)
-
 abbrev pub next : Story → Asked → Story
-next h q = grown h q (reply h q)
+next h q = after h q (requestOf (h .desk .clock) (h .desk .count) (h .desk .jobs) (q .time) (q .budget) (q .deadline))
 
 abbrev pub many : List Asked → Story → Story
 many [] h = h
@@ -118,34 +86,25 @@ many (q ∷ qs) h = many qs (next h q)
 
 -- "no job starts before its opening start (a job taken in later: before its request time), no two overlap, each ends by its deadline":
 -- of any two the later in the list starts when the earlier has ended
-pub record Promise (rs : List Run) : Type 0 where
-  pub not-before : (k : ℕ) → k < length rs → getD rs k blank .terms .since ≤ getD rs k blank .start
-  pub in-time : (k : ℕ) → k < length rs → finish (getD rs k blank) ≤ getD rs k blank .terms .deadline
+pub record Promise (rs : List Entry) : Type 0 where
+  pub not-before : (k : ℕ) → k < length rs → getD rs k blank .since ≤ getD rs k blank .start
+  pub in-time : (k : ℕ) → k < length rs → finish (getD rs k blank) ≤ getD rs k blank .deadline
   pub apart : (i k : ℕ) → i < k → k < length rs → finish (getD rs i blank) ≤ getD rs k blank .start
 
--- WHAT ONE REQUEST DOES TO THE JOBS EVER LISTED
+-- the same job, not earlier
+abbrev pub Later : Entry → Entry → Type 0
+Later r u = (r .since ≡ u .since) × (r .budget ≡ u .budget) × (r .deadline ≡ u .deadline) × (r .start ≤ u .start)
 
--- the same jobs in the same order, none earlier than before
-abbrev pub Later : List Run → List Run → Type 0
-Later [] [] = Unit {0}
-Later [] (u ∷ us) = ⊥
-Later (r ∷ rs) [] = ⊥
-Later (r ∷ rs) (u ∷ us) = (r .terms ≡ u .terms) × (r .start ≤ u .start) × Later rs us
-
--- all but the one at place k
-abbrev pub without : ℕ → List Run → List Run
-without k us = take k us ++ drop (suc k) us
-
--- us is rs with a new run at place k: those before it are as they were, those after it are only delayed
-pub record Joined (rs us : List Run) (k : ℕ) (new : Run) : Type 0 where
+-- us is rs with a new entry at place k: those before it are as they were, those after it are only delayed
+pub record Joined (rs us : List Entry) (k : ℕ) (new : Entry) : Type 0 where
   pub one-more : length us ≡ suc (length rs)
   pub inside : k ≤ length rs
   pub there : getD us k blank ≡ new
   pub before : take k us ≡ take k rs
-  pub others : Later rs (without k us)
+  pub later : (m : ℕ) → k ≤ m → m < length rs → Later (getD rs m blank) (getD us (suc m) blank)
 
--- the runs that start before t are in us as they were
-abbrev pub Fixed : ℕ → List Run → List Run → Type 0
+-- the entries that start before t are in us as they were
+abbrev pub Fixed : ℕ → List Entry → List Entry → Type 0
 Fixed t rs us = (k : ℕ) → k < length rs → getD rs k blank .start < t → getD us k blank ≡ getD rs k blank
 
 -- how many of the requests are taken
@@ -156,4 +115,4 @@ countTaken (Refused r) n = n
 
 abbrev pub takens : List Asked → Story → ℕ
 takens [] h = 0
-takens (q ∷ qs) h = countTaken (reply h q .answer) (takens qs (next h q))
+takens (q ∷ qs) h = countTaken (next h q .desk .answer) (takens qs (next h q))

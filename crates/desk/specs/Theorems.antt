@@ -9,14 +9,14 @@ use Rattle.rules.specs.Refusals.{told}
 use Rattle.rules.specs.declared.Refusal.{Refusal}
 use Rattle.rules.specs.declared.Refusal.the-variants.{Rules, TooFar}
 use Rattle.desk.specs.declared.Job.{Job}
+use Rattle.desk.specs.declared.Asked.{Asked}
 use Rattle.desk.specs.declared.Answer.the-variants.{Opened, Taken, Refused}
-use Rattle.desk.specs.declared.Outcome.{Outcome}
-use Rattle.desk.specs.Table.{none, filled, outcome, said, flexes, deskOk, openOf}
-use Rattle.desk.specs.Request.{kept, drops, requestOf}
-use Rattle.desk.specs.Story.{run, terms, termsAt, runs, blank, Story, live, ever, Asked, begin, reply, next, many, Promise, Joined, Fixed, takens}
+use Rattle.desk.specs.Table.{start, budget, deadline, none, Outcome, outcome, flexes, deskOk, openOf}
+use Rattle.desk.specs.Request.{kept, drops, dropping, requestOf}
+use Rattle.desk.specs.Call.{said}
+use Rattle.desk.specs.Story.{entry, blank, lent, Story, live, ever, begin, next, many, Promise, Joined, Fixed, takens}
 
--- ONE OUTCOME: "The team shows that any two outcomes it permits are equal"
-
+-- "The team shows that any two outcomes it permits are equal"
 abbrev pub OpenOne : Type 0
 OpenOne = (clock n : ℕ) (l : List Job) (o p : Outcome) → o ≡ openOf clock n l → p ≡ openOf clock n l → o ≡ p
 
@@ -24,8 +24,6 @@ abbrev pub RequestOne : Type 0
 RequestOne =
     (clock n : ℕ) (l : List Job) (t c d : ℕ) (o p : Outcome)
     → o ≡ requestOf clock n l t c d → p ≡ requestOf clock n l t c d → o ≡ p
-
--- WHAT A REFUSAL LEAVES
 
 -- opening's refusal is 13, and "13, 14, 15 and 19 change nothing at the desk"
 abbrev pub OpenLeaves : Type 0
@@ -38,7 +36,7 @@ abbrev pub RequestLeaves : Type 0
 RequestLeaves =
     (clock n : ℕ) (l : List Job) (t c d : ℕ) (r : Refusal) → requestOf clock n l t c d .answer ≡ Refused r
     → requestOf clock n l t c d
-    ≡ pick (drops r) (outcome (filled (kept t (take n l))) (length (kept t (take n l))) t (Refused r)) (outcome l n clock (Refused r))
+    ≡ pick (drops r) (dropping t (kept t (take n l)) r) (outcome l n clock (Refused r))
 
 -- "A job taken in sets the clock too."
 abbrev pub TakenSetsClock : Type 0
@@ -49,8 +47,7 @@ TakenSetsClock =
 abbrev pub Refuses : Outcome → Refusal → Type 0
 Refuses o r = said (o .answer) .number ≡ told r .number
 
--- THE TABLE RULES SURVIVE: 13 is for a "job table, clock or count" that "breaks the rules", and no call makes one such
-
+-- 13 is for a "job table, clock or count" that "breaks the rules", and no call makes one such
 abbrev pub sound : Outcome → Bool
 sound o = deskOk (o .clock) (o .count) (o .jobs)
 
@@ -72,8 +69,7 @@ NotRulesAfterOpen = (clock n : ℕ) (l : List Job) → NotRulesAfter (openOf clo
 abbrev pub NotRulesAfterRequest : Type 0
 NotRulesAfterRequest = (clock n : ℕ) (l : List Job) (t c d : ℕ) → NotRulesAfter (requestOf clock n l t c d)
 
--- AFRESH: after every call that does not refuse the table, each x is the rule's own, worked out from nothing
-
+-- after every call that does not refuse the table, each x is the rule's own, worked out from nothing
 abbrev pub Afresh : Outcome → Type 0
 Afresh o = (Refuses o Rules → ⊥) → flexes (take (o .count) (o .jobs)) ≡ take (o .count) (o .jobs)
 
@@ -87,24 +83,22 @@ RequestAfresh = (clock n : ℕ) (l : List Job) (t c d : ℕ) → Afresh (request
 abbrev pub NeverTooFar : Type 0
 NeverTooFar = (clock n : ℕ) (l : List Job) (t c d : ℕ) → Refuses (requestOf clock n l t c d) TooFar → ⊥
 
--- THE STORY: "Over any requests after one opening, the caller changing nothing lent between them"
-
 -- at opening every listed job stands at the start that was lent
 abbrev pub OpenTells : Type 0
 OpenTells =
     (clock n : ℕ) (l : List Job) → openOf clock n l .answer ≡ Opened
-    → ever (begin clock n l) ≡ runs (termsAt (take n l)) (take n l)
+    → ever (begin clock n l) ≡ lent (take n l)
 
--- the story of any requests after one opening
+-- "Over any requests after one opening, the caller changing nothing lent between them"
 abbrev pub InEveryStory : (Story → Type 0) → Type 0
 InEveryStory P = (clock n : ℕ) (l : List Job) → openOf clock n l .answer ≡ Opened → (qs : List Asked) → P (many qs (begin clock n l))
 
--- its live runs are the listed jobs, one for one
+-- its live entries are the listed jobs, one for one
 pub record Tells (h : Story) : Type 0 where
   pub all : length (live h) ≡ h .desk .count
-  pub start : (k : ℕ) → k < h .desk .count → getD (live h) k blank .start ≡ getD (h .desk .jobs) k none .a
-  pub budget : (k : ℕ) → k < h .desk .count → getD (live h) k blank .terms .budget ≡ getD (h .desk .jobs) k none .c
-  pub deadline : (k : ℕ) → k < h .desk .count → getD (live h) k blank .terms .deadline ≡ getD (h .desk .jobs) k none .d
+  pub start : (k : ℕ) → k < h .desk .count → getD (live h) k blank .start ≡ start (getD (h .desk .jobs) k none)
+  pub budget : (k : ℕ) → k < h .desk .count → getD (live h) k blank .budget ≡ budget (getD (h .desk .jobs) k none)
+  pub deadline : (k : ℕ) → k < h .desk .count → getD (live h) k blank .deadline ≡ deadline (getD (h .desk .jobs) k none)
 
 abbrev pub StoryTells : Type 0
 StoryTells = InEveryStory (λ h. Tells h)
@@ -121,14 +115,14 @@ LosesNone =
 
 -- a refusal moves nothing
 abbrev pub RefusedMovesNone : Type 0
-RefusedMovesNone = InEveryStory (λ h. (q : Asked) (r : Refusal) → reply h q .answer ≡ Refused r → ever (next h q) ≡ ever h)
+RefusedMovesNone = InEveryStory (λ h. (q : Asked) (r : Refusal) → next h q .desk .answer ≡ Refused r → ever (next h q) ≡ ever h)
 
 -- a job taken in stands at the start that was answered, those before it stay, "Later jobs move"
 abbrev pub TakenJoins : Type 0
 TakenJoins =
     InEveryStory
-    (λ h. (q : Asked) (i s : ℕ) → reply h q .answer ≡ Taken i s
-    → Joined (ever h) (ever (next h q)) (length (next h q .gone) + i) (run (terms (q .time) (q .budget) (q .deadline)) s))
+    (λ h. (q : Asked) (i s : ℕ) → next h q .desk .answer ≡ Taken i s
+    → Joined (ever h) (ever (next h q)) (length (next h q .gone) + i) (entry (q .time) (q .budget) (q .deadline) s))
 
 -- nothing that has started by a request's time is moved by it
 abbrev pub StartedStays : Type 0

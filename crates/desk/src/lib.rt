@@ -1,34 +1,34 @@
-// The desk, its table an array of job records by value: opening and request.
-ghost use mathlib.Core.Path.{_≡_};
-ghost use Rattle.desk.specs.Table.{openOf};
-ghost use Rattle.desk.specs.Request.{requestOf};
-use numbers::numbers_ok;
-use passes::refit_front;
+// The desk's records: a job, what the caller keeps beside the table, what a call asks and what it answers.
+// The rules and what is proved of them are in specs/; there is no code here.
 use rules::Refusal;
-use serve::refused;
-use serve::served;
-use table::desk_ok;
-use table::table_ok;
 
-pub mod numbers; // numbers.rt: differences that stop at 0, and a request's limits
-pub mod records; // records.rt: the rules of one job record
-mod table; // table.rt: the table rules
-mod passes; // passes.rt: drop, find, move, and work the flexibilities out
-mod serve; // serve.rt: a request on a sound table
-
-// Start, budget, deadline, flexibility.
+// A job: document 01's a, C, d, x.
 #[repr(C)]
 pub struct Job {
-    pub a: u32,
-    pub c: u32,
-    pub d: u32,
-    pub x: u32,
+    pub start: u32,
+    pub budget: u32,
+    pub deadline: u32,
+    pub flex: u32,
 }
 
-// A place with room and the start there, or none.
-pub enum Place {
-    At(usize, u32),
-    Nowhere,
+// What the caller keeps beside the table.
+#[repr(C)]
+pub struct Desk {
+    pub clock: u32,
+    pub count: u32,
+}
+
+// A request: document 01's t, C, d.
+pub struct Asked {
+    pub time: u32,
+    pub budget: u32,
+    pub deadline: u32,
+}
+
+// What a call asks for.
+pub enum Ask {
+    Open,
+    Request(Asked),
 }
 
 // Taken: at this place, with this start.
@@ -36,44 +36,4 @@ pub enum Answer {
     Opened,
     Taken(usize, u32),
     Refused(Refusal),
-}
-
-// All that a call leaves, and its answer.
-pub struct Outcome {
-    pub jobs: [Job; 64],
-    pub count: usize,
-    pub clock: u32,
-    pub answer: Answer,
-}
-
-// The desk opened on any table and any clock.
-pub fn open(jobs: [Job; 64], n: usize, clock: u32) -> Outcome
-    ensures { λ r. ⌜ r ≡ openOf clock n jobs ⌝ }
-{
-    if table_ok(jobs, n) {
-        let out = refit_front(jobs, n, n);
-        return Outcome {
-            jobs: out,
-            count: n,
-            clock: 0,
-            answer: Answer::Opened,
-        };
-    }
-    refused(jobs, n, clock, Refusal::Rules)
-}
-
-// A request at time t, of budget c and deadline d.
-pub fn request(jobs: [Job; 64], n: usize, clock: u32, t: u32, c: u32, d: u32) -> Outcome
-    ensures { λ r. ⌜ r ≡ requestOf clock n jobs t c d ⌝ }
-{
-    if desk_ok(jobs, n, clock) {
-        if numbers_ok(t, c, d) {
-            if t < clock {
-                return refused(jobs, n, clock, Refusal::Past);
-            }
-            return served(jobs, n, clock, t, c, d);
-        }
-        return refused(jobs, n, clock, Refusal::Numbers);
-    }
-    refused(jobs, n, clock, Refusal::Rules)
 }

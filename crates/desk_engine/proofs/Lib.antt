@@ -1,4 +1,8 @@
-pub mod Up
-pub mod Passes
-pub mod Tied
+pub mod Counts
+pub mod Fitted
+pub mod Shifted
+pub mod Dropped
 pub mod Tables
+pub mod Checked
+pub mod Searched
+pub mod Whole

@@ -1,2 +1,2 @@
-pub mod Pass
-pub mod Steps
+pub mod Scanning
+pub mod Deciding

@@ -1,39 +1,23 @@
 -- Each statement of specs/Theorems.antt, proved. Assumes nothing.
-use mathlib.Core.Path.{_≡_, refl, sym, ap, _∙_}
-use mathlib.Core.Bool.{Bool, true, false}
+use mathlib.Core.Path.{_≡_, sym, ap, _∙_}
 use mathlib.Core.List.{List, [], _∷_}
-use Rattle.rules.specs.Walk.{pick}
 use Rattle.desk.specs.declared.Job.{Job}
-use Rattle.desk.specs.declared.Answer.{Answer}
-use Rattle.desk.specs.declared.Answer.the-variants.{Opened, Taken, Refused}
-use Rattle.desk.specs.declared.Outcome.{Outcome}
-use Rattle.desk.specs.Request.{drops, requestOf}
-use Rattle.desk.specs.Story.{Story, Asked, begin, after, reply, next, many}
-use Rattle.desk_lent.specs.declared.Desk.{Desk}
-use Rattle.desk_lent.specs.Lent.{deskOf}
+use Rattle.desk.specs.declared.Asked.{Asked}
+use Rattle.desk.specs.Table.{Outcome}
+use Rattle.desk.specs.Request.{requestOf}
+use Rattle.desk.specs.Story.{Story, begin, next, many}
+use Rattle.desk.specs.declared.Desk.{Desk}
+use Rattle.desk.specs.Call.{deskOf}
 use Rattle.desk_lent.specs.Theorems.{LentOne, Asks, LentStory, Proved}
 
 lent-one : LentOne
 lent-one o r r₂ k k₂ l l₂ h g = (h .0 ∙ sym (g .0), h .1 ∙ sym (g .1), h .2 ∙ sym (g .2))
 
--- a story keeps what the call left
-pick-desk : (b : Bool) (o : Outcome) (x y : Story) → x .desk ≡ o → y .desk ≡ o → pick b x y .desk ≡ o
-pick-desk true o x y e f = e
-pick-desk false o x y e f = f
-
-after-desk : (h : Story) (q : Asked) (o : Outcome) (r : Answer) → after h q o r .desk ≡ o
-after-desk h q o Opened = refl
-after-desk h q o (Taken i s) = refl
-after-desk h q o (Refused r) = pick-desk (drops r) o _ _ refl refl
-
-next-desk : (h : Story) (q : Asked) → next h q .desk ≡ reply h q
-next-desk h q = after-desk h q (reply h q) (reply h q .answer)
-
 on : (qs : List Asked) (h : Story) (k : Desk) (l : List Job) → k ≡ deskOf (h .desk) → l ≡ h .desk .jobs
     → (k₂ : Desk) (l₂ : List Job) → Asks qs k l k₂ l₂ → (k₂ ≡ deskOf (many qs h .desk)) × (l₂ ≡ many qs h .desk .jobs)
 on [] h k l ek el k₂ l₂ a = (a .0 ∙ ek, a .1 ∙ el)
 on (q ∷ qs) h k l ek el k₂ l₂ a =
-    let same : requestOf (k .clock) (k .count) l (q .time) (q .budget) (q .deadline) ≡ next h q .desk = rw (ek, el) (sym (next-desk h q)) in
+    let same : requestOf (k .clock) (k .count) l (q .time) (q .budget) (q .deadline) ≡ next h q .desk = rw (ek, el) in
     on qs (next h q) (a .1) (a .2) (a .3 .1 ∙ ap deskOf same) (a .3 .2 ∙ ap (λ (o : Outcome). o .jobs) same) k₂ l₂ (a .4)
 
 lent-story : LentStory

@@ -1,4 +1,1 @@
-pub mod Scan
-pub mod Plan
-pub mod Lent
 pub mod Theorems

@@ -2,13 +2,13 @@
 use mathlib.Core.Path.{_≡_}
 use mathlib.Core.List.{List, [], _∷_}
 use Rattle.desk.specs.declared.Job.{Job}
+use Rattle.desk.specs.declared.Asked.{Asked}
 use Rattle.desk.specs.declared.Answer.{Answer}
-use Rattle.desk.specs.declared.Outcome.{Outcome}
-use Rattle.desk.specs.Table.{openOf}
+use Rattle.desk.specs.Table.{Outcome, openOf}
 use Rattle.desk.specs.Request.{requestOf}
-use Rattle.desk.specs.Story.{Asked, begin, many}
-use Rattle.desk_lent.specs.declared.Desk.{Desk}
-use Rattle.desk_lent.specs.Lent.{deskOf, Leaves}
+use Rattle.desk.specs.Story.{begin, many}
+use Rattle.desk.specs.declared.Desk.{Desk}
+use Rattle.desk.specs.Call.{deskOf, Leaves}
 
 -- "any two outcomes it permits are equal"
 abbrev pub LentOne : Type 0

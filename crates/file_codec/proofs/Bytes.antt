@@ -7,7 +7,8 @@ use native.Mathlib.Numerals.{add-one}
 use native.Mathlib.Omega.{arith}
 use lib.ListN.{length, getD, set, take, drop, length-drop, drop-of-length-le}
 use lib.Seq.{take-suc, drop-cons, set-at, length-take-le, take-all, take-at, drop-at, drop-drop}
-use Rattle.file_codec.specs.Bytes.{numsOf, bytesOf, Bytes, over}
+use Rattle.file_codec.specs.Bytes.{numsOf, bytesOf, Bytes}
+use Rattle.file_codec.specs.Contracts.{over}
 
 double : (k : ℕ) → 2 * suc k ≡ suc (suc (2 * k))
 double k = omega arith
@@ -50,7 +51,7 @@ unfolding bytesOf
 bytesOf-append [] ns = refl
 bytesOf-append (m ∷ ms) ns = rw (bytesOf-append ms ns)
 
--- THERE AND BACK
+-- ---- there and back
 
 pub nums-bytes : (ns : List ℕ) → numsOf (bytesOf ns) ≡ ns
 unfolding numsOf bytesOf

@@ -1,6 +1,6 @@
 -- "Numbers of two bytes, high byte first." Assumes nothing.
 use Prim.Native.Nat.{ℕ, _+_, _-_, _*_, _/_, _%_, _<_}
-use mathlib.Core.List.{List, [], _∷_, _++_}
+use mathlib.Core.List.{List, [], _∷_}
 use lib.ListN.{length, getD, take, drop}
 
 -- the numbers that bytes hold; an odd last byte is no number
@@ -21,7 +21,3 @@ Bytes b = (k : ℕ) → k < length b → getD b k 0 < 256
 -- the part from byte a up to, not including, byte e
 abbrev pub part : List ℕ → ℕ → ℕ → List ℕ
 part b a e = take (e - a) (drop a b)
-
--- a list with the first n elements of s at its start
-abbrev pub over : List ℕ → ℕ → List ℕ → List ℕ
-over s n d = take n s ++ drop n d

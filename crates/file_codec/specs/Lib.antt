@@ -1,5 +1,4 @@
 pub mod Bytes
 pub mod Runs
-pub mod Reader
-pub mod Writer
-pub mod Theorems
+pub mod Contents
+pub mod Contracts

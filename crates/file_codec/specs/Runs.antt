@@ -1,23 +1,23 @@
--- Runs, and the refusals 6, 7 and 8 of three tables. Places count from 0 here, and from 1 in a refusal. Assumes nothing.
-use Prim.Native.Nat.{ℕ, _+_, _-_, _*_, _/_}
+-- Runs, and what tells against the three tables of a file. Places count from 0 here, and from 1 in a refusal. Assumes nothing.
+use Prim.Native.Nat.{ℕ, _+_, _-_, _/_}
 use mathlib.Core.List.{List}
 use mathlib.Core.Bool.{Bool, _&&_, _||_, not}
-use lib.ListN.{length, getD}
+use lib.ListN.{length}
 use lib.Dec.{ltb, leb, eqb}
-use Rattle.rules.specs.Walk.{pick, first, sum}
-use Rattle.rules.specs.Table.{partitions, tasks, firstBadPart, firstBadTask}
-use Rattle.rules.specs.declared.Refusal.{Refusal}
-use Rattle.rules.specs.declared.Refusal.the-variants.{Partition, Task, Tick}
-use Rattle.rules.specs.Limits.{runWidth}
+use Rattle.rules.specs.Limits.{longest, runWidth}
+use Rattle.rules.specs.Walk.{pick, sum}
+use Rattle.rules.specs.Table.{fieldAt, partitions}
+use Rattle.rules.specs.Tables.{countedIn, lowest, unless, tablesOf}
+use Rattle.rules.specs.declared.Refusal.the-variants.{Limits, Tick}
+use Rattle.rules.specs.declared.Finding.{Finding}
+use Rattle.rules.specs.declared.Finding.the-variants.{Refused}
 
-abbrev pub runField : List ℕ → ℕ → ℕ → ℕ
-runField rs k field = getD rs (runWidth * k + field) 0
-
+-- "Run: owner, length."
 unfoldable pub runOwner : List ℕ → ℕ → ℕ
-runOwner rs k = runField rs k 0
+runOwner rs k = fieldAt runWidth rs k 0
 
 unfoldable pub runLength : List ℕ → ℕ → ℕ
-runLength rs k = runField rs k 1
+runLength rs k = fieldAt runWidth rs k 1
 
 abbrev pub runs : List ℕ → ℕ
 runs rs = length rs / runWidth
@@ -26,23 +26,22 @@ runs rs = length rs / runWidth
 unfoldable pub repeats : List ℕ → ℕ → Bool
 repeats rs k = ltb 0 k && eqb (runOwner rs k) (runOwner rs (k - 1))
 
--- "owner, length ≥ 1; neighbours differ; lengths add up to the frame": a run with its owner and length, whether it repeats the owner before it,
--- whether it is the last, and the lengths so far with its own
-unfoldable pub goodRun : ℕ → ℕ → Bool → Bool → ℕ → ℕ → ℕ → Bool
-goodRun parts frame again last owner long total = leb owner parts && leb 1 long && not again && leb total frame && (not last || leb frame total)
+-- the lengths, up to and with that of the run at k
+abbrev pub reached : List ℕ → ℕ → ℕ
+reached rs k = sum (runLength rs) (k + 1)
 
--- "the run at which the lengths pass the frame, or the last one if they stay under; of equal neighbours it is the later"
-unfoldable pub badRun : ℕ → ℕ → List ℕ → ℕ → Bool
-badRun parts frame rs k = not (goodRun parts frame (repeats rs k) (eqb (k + 1) (runs rs)) (runOwner rs k) (runLength rs k) (sum (runLength rs) (k + 1)))
+-- "owner, length ≥ 1; neighbours differ; lengths add up to the frame": bad is "the run at which the lengths pass the frame, or the last one if they stay
+-- under; of equal neighbours it is the later"
+unfoldable pub goodRun : ℕ → ℕ → List ℕ → ℕ → Bool
+goodRun parts frame rs k =
+    leb (runOwner rs k) parts && leb 1 (runLength rs k) && not (repeats rs k)
+    && leb (reached rs k) frame && (ltb (k + 1) (runs rs) || leb frame (reached rs k))
 
--- "lowest place": the first bad run, or how many there are
-abbrev pub firstBadRun : ℕ → ℕ → List ℕ → ℕ
-firstBadRun parts frame rs = first (badRun parts frame rs) (runs rs)
+-- 8
+unfoldable pub runsJudged : ℕ → ℕ → List ℕ → Finding
+runsJudged parts frame rs = lowest Tick (goodRun parts frame rs) (runs rs)
 
--- "6, 7, 8: bad partition, task, run record; its place from 1", lowest number first; or else good. "A partition whose cycle is longer than F is a bad record"
-unfoldable pub judged : {A : Type 0} → (Refusal → A) → A → ℕ → List ℕ → List ℕ → List ℕ → A
-judged refused good frame ps ts rs =
-    pick (ltb (firstBadPart frame ps) (partitions ps)) (refused (Partition (firstBadPart frame ps + 1)))
-    (pick (ltb (firstBadTask (partitions ps) ts) (tasks ts)) (refused (Task (firstBadTask (partitions ps) ts + 1)))
-    (pick (ltb (firstBadRun (partitions ps) frame rs) (runs rs)) (refused (Tick (firstBadRun (partitions ps) frame rs + 1)))
-    good))
+-- 3, with "runs 1 to 4,096", then 6, 7 and 8 of a frame and three tables
+unfoldable pub fileTablesOf : ℕ → List ℕ → List ℕ → List ℕ → Finding
+fileTablesOf frame ps ts rs =
+    pick (countedIn 1 longest runWidth (length rs)) (unless Refused (tablesOf frame ps ts) (runsJudged (partitions ps) frame rs)) (Refused Limits)

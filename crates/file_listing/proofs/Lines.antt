@@ -2,8 +2,8 @@
 use Prim.Native.Nat.{ℕ, _+_}
 use mathlib.Core.Path.{_≡_}
 use mathlib.Core.List.{List}
-use Rattle.file_runs.specs.Put.{Put}
-use Rattle.file_runs.proofs.Put.{put-none, and-then}
+use Rattle.output.specs.Put.{Put}
+use Rattle.output.proofs.Put.{put-none, and-then}
 use Rattle.rules.specs.Table.{cycle, wanted}
 use Rattle.theory.specs.Plan.{own, least}
 use Rattle.file_lines.specs.Lines.{partitionLine}

@@ -1,59 +1,122 @@
 -- The tables that the code holds of an accepted file, and the text that it hands over. Assumes nothing.
-use Prim.Native.Nat.{ℕ, _+_, _*_, _/_, _≤_, _<_, min}
-use mathlib.Core.Path.{_≡_, refl, ap, _∙_}
-use mathlib.Core.List.{List, _++_}
+use Prim.Native.Nat.{ℕ, _+_, _*_, _≤_, _<_}
+use mathlib.Core.Path.{_≡_, refl, sym, ap, _∙_}
+use mathlib.Core.List.{List, [], _++_}
 use native.Mathlib.Omega.{arith}
-use lib.ListN.{length, take, drop}
-use lib.Seq.{take-at, take-all}
+use lib.ListN.{length, take, drop, replicate, length-replicate}
+use lib.Seq.{take-at}
 use lib.Dec.{ltb}
 use borrow.Author.Tests.{lt-ltb, le-ltb, ltb-false}
+use Rattle.rules.specs.Limits.{longest, mostPartitions, mostTasks, partWidth, taskWidth, runWidth}
+use Rattle.rules.specs.Walk.{Every}
+use Rattle.rules.specs.Table.{partitions, tasks, goodTick}
+use Rattle.rules.specs.Tables.{GoodTables}
+use Rattle.rules.specs.declared.Refusal.the-variants.{Tick, Output}
 use Rattle.rules.proofs.Tests.{pick-second}
-use Rattle.rules.specs.declared.Refusal.the-variants.{Output}
-use Rattle.file_codec.specs.declared.Reading.the-variants.{Contents}
-use Rattle.file_codec.specs.declared.Body.the-variants.{Partitions, Tasks, Runs}
-use Rattle.file_codec.specs.Bytes.{numsOf, over}
-use Rattle.file_codec.specs.Reader.{readOf, sectionOf, tableOf}
-use Rattle.file_codec.proofs.Bytes.{numsOf-length}
-use Rattle.file_codec.proofs.Limits.{Within, within}
-use Rattle.file_codec.proofs.Reader.{accepted}
-use Rattle.file_codec.proofs.Proved as planfile
-use Rattle.file_runs.specs.Put.{Put}
+use Rattle.rules.proofs.Chain.{good-lowest, without-tasks, unless-good}
+use Rattle.rules.specs.declared.Finding.the-variants as found
+use Rattle.plan_check.specs.Check.{scanOf, planCheckOf, checkOf}
+use Rattle.file_codec.proofs.Chain.{sizes}
+use Rattle.file_read.specs.declared.Reading.{Reading}
+use Rattle.file_read.specs.declared.Reading.the-variants.{Contents}
+use Rattle.file_read.specs.declared.Body.the-variants.{Partitions, Tasks, Runs}
+use Rattle.file_read.specs.Reader.{tableBy, contentsOf, readOf, tableOf}
+use Rattle.file_read.specs.Contracts.{front}
+use Rattle.file_read.proofs.Reader.{contained, accepted, parts-are, tasks-are, runs-are, loaded-front}
+use Rattle.output.specs.Put.{Put}
+use Rattle.output.proofs.Put.{put-front}
 use Rattle.file_runs.specs.Ticks.{ticksOf, ticksPut}
-use Rattle.file_runs.proofs.Put.{put-front}
-use Rattle.file_runs.proofs.Proved as ticks
-use Rattle.file_listing.specs.declared.Listed.the-variants.{Text, Refused}
-use Rattle.file_listing.specs.Listing.{tablesLines, listingOf, listOf, leftOf}
+use Rattle.file_runs.proofs.Ticks.{ticks-some}
+use Rattle.file_runs.proofs.Proved as runs
+use Rattle.rules.specs.declared.Filling.the-variants.{Fills, Refused}
+use Rattle.file_listing.specs.Listing.{tablesLines, readLines, listingOf, listOf, listedLeft}
+use Rattle.file_listing.specs.Contracts.{Listable}
 
 -- ---- the tables
 
--- a body of n numbers, loaded: the table's first n are the body's
-loaded : (body t o : List ℕ) (n : ℕ) → length body ≡ 2 * n → n ≤ length t → o ≡ over (numsOf body) (min (length t) (length body / 2)) t → take n o ≡ numsOf body
-loaded body t o n l h e =
-    let m : min (length t) (length body / 2) ≡ n = omega arith in
-    let k : length (numsOf body) ≡ n = numsOf-length body ∙ omega arith in
-    rw (e, m, take-all n (numsOf body) (omega arith), take-at (numsOf body) (drop n t) n k)
+-- the ticks that the code holds
+pub ticks-held : (frame : ℕ) (ps ts rs t o : List ℕ) (r : ℕ) → Listable frame ps ts rs → length t ≡ longest → Put t 0 (ticksPut rs) r o → take frame o ≡ ticksOf rs
+ticks-held frame ps ts rs t o r a l p =
+    let q : Put t 0 (ticksOf rs) r o = rw (ticks-some rs (a .few)) at p in
+    rw (put-front q (omega (arith, a .ticks, a .in-frame))) (take-at (ticksOf rs) (drop (length (ticksOf rs)) t) frame (a .ticks))
+
+-- what the checker and the verdict ask of an accepted file's tables
+pub record Fit (b : List ℕ) (frame np nt : ℕ) : Type 0 where
+  pub ticks : length (ticksOf (tableOf b Runs)) ≡ frame
+  pub parts : partitions (tableOf b Partitions) ≡ np
+  pub listed : tasks (tableOf b Tasks) ≡ nt
+  pub good : GoodTables frame (tableOf b Partitions) (tableOf b Tasks)
+  pub owned : Every (goodTick np (ticksOf (tableOf b Runs))) frame
 
 module _ (b : List ℕ) (frame np nt nr : ℕ) (e : readOf b ≡ Contents frame np nt nr) where
-  pub limits : Within frame (3 * np) (4 * nt) (2 * nr)
-  limits = within frame (3 * np) (4 * nt) (2 * nr) (accepted b frame np nt nr e .limits)
+  pub fit : Fit b frame np nt
+  fit =
+      let a = accepted b frame np nt nr e in
+      let l = contained b frame np nt nr (a .contents) .long in
+      let t = runs.proved .file-ticks b frame np nt nr e in
+      record {
+        ticks = t .0;
+        parts = rw e (omega (arith, parts-are b frame np nt nr l));
+        listed = rw e (omega (arith, tasks-are b frame np nt nr l));
+        good = rw e (a .good .tables);
+        owned = t .1;
+      }
 
-  pub parts-loaded : (body t o : List ℕ) → body ≡ sectionOf b Partitions → 3 * np ≤ length t → o ≡ over (numsOf body) (min (length t) (length body / 2)) t → take (3 * np) o ≡ tableOf b Partitions
-  unfolding tableOf
-  parts-loaded body t o s h q = loaded body t o (3 * np) (ap length s ∙ planfile.proved .section-exact b frame np nt nr e .1) h q ∙ ap numsOf s
+  -- of the plan of a file that was read only 9 is left
+  pub scanned : checkOf (ticksOf (tableOf b Runs)) (tableOf b Partitions) ≡ scanOf (ticksOf (tableOf b Runs)) (tableOf b Partitions)
+  unfolding checkOf planCheckOf
+  scanned =
+      let f = fit in
+      let plan : List ℕ = ticksOf (tableOf b Runs) in
+      let ps : List ℕ = tableOf b Partitions in
+      let g : GoodTables (length plan) ps [] = rw (f .ticks) (without-tasks frame ps (tableOf b Tasks) (f .good)) in
+      let t : Every (goodTick (partitions ps) plan) (length plan) = rw (f .parts, f .ticks) (f .owned) in
+      unless-good (length plan) ps [] found.Refused (planCheckOf plan ps) g ∙ rw (good-lowest Tick (goodTick (partitions ps) plan) (length plan) t)
 
-  pub tasks-loaded : (body t o : List ℕ) → body ≡ sectionOf b Tasks → 4 * nt ≤ length t → o ≡ over (numsOf body) (min (length t) (length body / 2)) t → take (4 * nt) o ≡ tableOf b Tasks
-  unfolding tableOf
-  tasks-loaded body t o s h q = loaded body t o (4 * nt) (ap length s ∙ planfile.proved .section-exact b frame np nt nr e .2) h q ∙ ap numsOf s
+  pub listable : Listable frame (tableOf b Partitions) (tableOf b Tasks) (tableOf b Runs)
+  listable =
+      let a = accepted b frame np nt nr e in
+      let c : Reading = Contents frame np nt nr in
+      let s = sizes frame (tableBy c b Partitions) (tableBy c b Tasks) (tableBy c b Runs) (a .good) in
+      record {
+        short = (rw e (s .parts-high), rw e (s .tasks-high));
+        few = rw e (omega (arith, s .runs-whole, s .runs-high));
+        in-frame = s .frame-high;
+        ticks = fit .ticks;
+        judged = scanned;
+      }
 
-  pub ticks-put : (body t o : List ℕ) (r : ℕ) → body ≡ sectionOf b Runs → frame ≤ length t → Put t 0 (ticksPut (numsOf body)) r o → take frame o ≡ ticksOf (tableOf b Runs)
-  unfolding tableOf
-  ticks-put body t o r s h p =
-      let q : Put t 0 (ticksPut (tableOf b Runs)) r o = rw s at p in
-      rw (ticks.proved .ticks-left b frame np nt nr t o r e h q .1) (take-at (ticksOf (tableOf b Runs)) (drop frame t) frame (ticks.proved .file-ticks b frame np nt nr e .0))
+  module _ (o : List ℕ) where
+    pub parts-held : o ≡ front (tableBy (contentsOf b) b Partitions) (replicate (partWidth * mostPartitions) 0) → take (partWidth * np) o ≡ tableOf b Partitions
+    parts-held h =
+        let a = accepted b frame np nt nr e in
+        let l = contained b frame np nt nr (a .contents) .long in
+        let s = sizes frame (tableBy (Contents frame np nt nr) b Partitions) (tableBy (Contents frame np nt nr) b Tasks) (tableBy (Contents frame np nt nr) b Runs) (a .good) in
+        let n = parts-are b frame np nt nr l in
+        rw e (loaded-front (tableBy (Contents frame np nt nr) b Partitions) (replicate (partWidth * mostPartitions) 0) o (partWidth * np) n
+        (omega (arith, length-replicate {A = ℕ} (partWidth * mostPartitions) 0, s .parts-high, n)) (rw (a .contents) at h))
+
+    pub tasks-held : o ≡ front (tableBy (contentsOf b) b Tasks) (replicate (taskWidth * mostTasks) 0) → take (taskWidth * nt) o ≡ tableOf b Tasks
+    tasks-held h =
+        let a = accepted b frame np nt nr e in
+        let l = contained b frame np nt nr (a .contents) .long in
+        let s = sizes frame (tableBy (Contents frame np nt nr) b Partitions) (tableBy (Contents frame np nt nr) b Tasks) (tableBy (Contents frame np nt nr) b Runs) (a .good) in
+        let n = tasks-are b frame np nt nr l in
+        rw e (loaded-front (tableBy (Contents frame np nt nr) b Tasks) (replicate (taskWidth * mostTasks) 0) o (taskWidth * nt) n
+        (omega (arith, length-replicate {A = ℕ} (taskWidth * mostTasks) 0, s .tasks-high, n)) (rw (a .contents) at h))
+
+    pub runs-held : o ≡ front (tableBy (contentsOf b) b Runs) (replicate (runWidth * longest) 0) → take (runWidth * nr) o ≡ tableOf b Runs
+    runs-held h =
+        let a = accepted b frame np nt nr e in
+        let l = contained b frame np nt nr (a .contents) .long in
+        let s = sizes frame (tableBy (Contents frame np nt nr) b Partitions) (tableBy (Contents frame np nt nr) b Tasks) (tableBy (Contents frame np nt nr) b Runs) (a .good) in
+        let n = runs-are b frame np nt nr l in
+        rw e (loaded-front (tableBy (Contents frame np nt nr) b Runs) (replicate (runWidth * longest) 0) o (runWidth * nr) n
+        (omega (arith, length-replicate {A = ℕ} (runWidth * longest) 0, s .runs-high, n)) (rw (a .contents) at h))
 
   pub tables-listed : tablesLines frame (ticksOf (tableOf b Runs)) (tableOf b Partitions) (tableOf b Tasks) ≡ listingOf b
   unfolding listingOf
-  tables-listed = rw e
+  tables-listed = sym (ap (λ (c : Reading). readLines c b) e)
 
 -- ---- the text
 
@@ -61,11 +124,11 @@ module _ (b page0 page out : List ℕ) (n : ℕ) (p : Put page0 0 (listingOf b) 
   long : length (listingOf b) ≡ n
   long = omega (arith, p .place)
 
-  pub listed-short : length out < n → (Refused Output ≡ listOf b (length out)) × (out ≡ leftOf b out)
+  pub listed-short : length out < n → (Refused Output ≡ listOf b (length out)) × (out ≡ listedLeft b out)
   unfolding listOf
   listed-short h = rw (long, lt-ltb (length out) n h) (refl, refl)
 
-  pub listed-text : n ≤ length page0 → n ≤ length out → (o : List ℕ) (r : ℕ) → Put out 0 (take n page) r o → (Text n ≡ listOf b (length out)) × (o ≡ leftOf b out)
+  pub listed-text : n ≤ length page0 → n ≤ length out → (o : List ℕ) (r : ℕ) → Put out 0 (take n page) r o → (Fills n ≡ listOf b (length out)) × (o ≡ listedLeft b out)
   unfolding listOf
   listed-text hp ho o r q =
       let f : page ≡ listingOf b ++ drop n page0 = rw long at (put-front p (omega (arith, long))) in
@@ -75,9 +138,9 @@ module _ (b page0 page out : List ℕ) (n : ℕ) (p : Put page0 0 (listingOf b) 
       rw (long, le-ltb (length out) n ho) (refl, z)
 
 -- a text is handed over where it fits
-pub text-fits : (b : List ℕ) (room n : ℕ) → listOf b room ≡ Text n → n ≤ room
+pub text-fits : (b : List ℕ) (room n : ℕ) → listOf b room ≡ Fills n → n ≤ room
 unfolding listOf
 text-fits b room n e =
-    let a = pick-second (ltb room (length (listingOf b))) (Refused Output) (Text (length (listingOf b))) (Text n) (λ q. let z : _≡_ {A = ℕ} 0 1 = cc in absurd (omega arith)) e in
+    let a = pick-second (ltb room (length (listingOf b))) (Refused Output) (Fills (length (listingOf b))) (Fills n) (λ q. let z : _≡_ {A = ℕ} 0 1 = cc in absurd (omega arith)) e in
     let l : length (listingOf b) ≡ n = cc (a .1) in
     omega (arith, ltb-false room (length (listingOf b)) (a .0), l)

@@ -1,4 +1,4 @@
--- What is promised of the listing beyond its contract. `listOf` and `leftOf` are what the contract says that it answers and leaves. Each statement's
+-- What is promised of the listing beyond its contract. `listOf` and `listedLeft` are what the contract says that it answers and leaves. Each statement's
 -- proof is a field of `Proved`. Assumes nothing.
 use Prim.Native.Nat.{ℕ, _+_, _<_}
 use mathlib.Core.Path.{_≡_}
@@ -7,16 +7,16 @@ use lib.ListN.{length}
 use Rattle.rules.specs.Table.{partitions, tasks}
 use Rattle.rules.specs.Refusals.{told}
 use Rattle.rules.specs.declared.Refusal.{Refusal}
-use Rattle.plan_service.specs.declared.Checked.the-variants as checked
-use Rattle.plan_service.specs.Check.{checkOf}
+use Rattle.rules.specs.declared.Finding.the-variants as found
+use Rattle.plan_check.specs.Check.{checkOf}
 use Rattle.task_verdict.specs.declared.Judged.the-variants as judged
 use Rattle.task_verdict.specs.Verdict.{taskOf, verdictOf}
-use Rattle.file_codec.specs.declared.Reading.the-variants.{Contents}
-use Rattle.file_codec.specs.declared.Body.the-variants.{Partitions, Tasks, Runs}
-use Rattle.file_codec.specs.Reader.{readOf, tableOf}
+use Rattle.file_read.specs.declared.Reading.the-variants.{Contents}
+use Rattle.file_read.specs.declared.Body.the-variants.{Partitions, Tasks, Runs}
+use Rattle.file_read.specs.Reader.{readOf, tableOf}
 use Rattle.file_runs.specs.Ticks.{ticksOf}
-use Rattle.file_listing.specs.declared.Listed.{Listed}
-use Rattle.file_listing.specs.Listing.{listOf, leftOf}
+use Rattle.rules.specs.declared.Filling.{Filling}
+use Rattle.file_listing.specs.Listing.{listOf, listedLeft}
 
 -- the plan of a file, as ticks
 abbrev pub planIn : List ℕ → List ℕ
@@ -31,20 +31,20 @@ ListingCounts =
 -- in a file whose plan serves, each task's line is that of its verdict, and that is no refusal
 abbrev pub ListingVerdicts : Type 0
 ListingVerdicts =
-    (b : List ℕ) (frame np nt nr j : ℕ) → readOf b ≡ Contents frame np nt nr → checkOf (planIn b) (tableOf b Partitions) ≡ checked.Serves → j < nt
+    (b : List ℕ) (frame np nt nr j : ℕ) → readOf b ≡ Contents frame np nt nr → checkOf (planIn b) (tableOf b Partitions) ≡ found.Good → j < nt
     → (taskOf (planIn b) (tableOf b Tasks) j ≡ verdictOf (planIn b) (tableOf b Partitions) (tableOf b Tasks) (j + 1))
     × ((r : Refusal) → ¬ (verdictOf (planIn b) (tableOf b Partitions) (tableOf b Tasks) (j + 1) ≡ judged.Refused r))
 
 -- after a good read only 9 can follow
 abbrev pub OnlyNine : Type 0
 OnlyNine =
-    (b : List ℕ) (frame np nt nr : ℕ) (r : Refusal) → readOf b ≡ Contents frame np nt nr → checkOf (planIn b) (tableOf b Partitions) ≡ checked.Refused r
+    (b : List ℕ) (frame np nt nr : ℕ) (r : Refusal) → readOf b ≡ Contents frame np nt nr → checkOf (planIn b) (tableOf b Partitions) ≡ found.Refused r
     → told r .number ≡ 9
 
 -- "any two outcomes it permits are equal"
 abbrev pub ListingOne : Type 0
 ListingOne =
-    (b out : List ℕ) (r s : Listed) (m o : List ℕ) → (r ≡ listOf b (length out)) × (m ≡ leftOf b out) → (s ≡ listOf b (length out)) × (o ≡ leftOf b out)
+    (b out : List ℕ) (r s : Filling) (m o : List ℕ) → (r ≡ listOf b (length out)) × (m ≡ listedLeft b out) → (s ≡ listOf b (length out)) × (o ≡ listedLeft b out)
     → (r ≡ s) × (m ≡ o)
 
 pub record Proved : Type 0 where

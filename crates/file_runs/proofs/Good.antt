@@ -5,14 +5,16 @@ use mathlib.Core.Bool.{Bool, true, false, _&&_, _||_, not}
 use mathlib.Core.List.{List, [], _∷_, _++_, append-nil}
 use native.Mathlib.Omega.{arith}
 use lib.ListN.{length, getD, take, replicate, length-append, length-replicate}
-use lib.Dec.{leb, eqb}
-use borrow.Author.Tests.{le-leb, leb-true, eq-eqb, eqb-true, eqb-false, ne-eqb, lt-ltb, not-false, not-true}
-use Rattle.rules.specs.Walk.{pick, sum}
-use Rattle.rules.specs.Table.{countedIn, badTick, firstBadTick}
-use Rattle.rules.proofs.First.{first-all, first-none, first-past}
+use lib.Dec.{leb, ltb, eqb}
+use borrow.Author.Tests.{le-leb, leb-true, eq-eqb, eqb-false, ne-eqb, lt-ltb, le-ltb, ltb-false, not-true}
+use Rattle.rules.specs.Limits.{longest, runWidth}
+use Rattle.rules.specs.Walk.{pick, sum, Every}
+use Rattle.rules.specs.Table.{goodTick}
+use Rattle.rules.specs.Tables.{countedIn}
+use Rattle.rules.proofs.Tests.{and-parts}
 use Rattle.rules.proofs.Sum.{sum-mono}
-use Rattle.file_codec.specs.Runs.{runOwner, runLength, runs, repeats, goodRun, badRun, firstBadRun}
-use Rattle.file_codec.proofs.Limits.{and-true}
+use Rattle.file_codec.specs.Runs.{runOwner, runLength, runs, repeats, reached, goodRun}
+use Rattle.file_codec.specs.Contracts.{runsCounted}
 use Rattle.file_runs.specs.Ticks.{ticksOf, joined, runsOf}
 use Rattle.file_runs.proofs.Ticks.{ticks-more, ticks-all, begins, runs-ended, runs-last, ticks-back}
 
@@ -27,7 +29,7 @@ Chain np [] = Unit {0}
 Chain np (o ∷ []) = ⊥
 Chain np (o ∷ l ∷ rs) = (o ≤ np) × (1 ≤ l) × Other o rs × Chain np rs
 
--- FROM A CHAIN TO ITS TICKS
+-- ---- from a chain to its ticks
 
 pub runs-back : (np : ℕ) (rs : List ℕ) → Chain np rs → runsOf (ticksOf rs) ≡ rs
 unfolding Chain ticksOf runsOf
@@ -50,9 +52,8 @@ ticks-small np [] g k = omega arith
 ticks-small np (o ∷ []) g k = absurd g
 ticks-small np (o ∷ l ∷ rs) g k = small-append np o l (ticksOf rs) (g .0) (ticks-small np rs (g .3)) k
 
-pub ticks-good : (np : ℕ) (rs : List ℕ) → Chain np rs → firstBadTick np (ticksOf rs) ≡ length (ticksOf rs)
-unfolding badTick
-ticks-good np rs g = first-none (badTick np (ticksOf rs)) (length (ticksOf rs)) (λ k l. rw (le-leb (getD (ticksOf rs) k 0) np (ticks-small np rs g k)))
+pub ticks-good : (np : ℕ) (rs : List ℕ) → Chain np rs → (n : ℕ) → Every (goodTick np (ticksOf rs)) n
+ticks-good np rs g n k l = le-leb (getD (ticksOf rs) k 0) np (ticks-small np rs g k)
 
 -- the ticks of the first i runs are as many as their lengths add up to
 ticks-sum : (rs : List ℕ) (i : ℕ) → 2 * i ≤ length rs → length (ticksOf (take (2 * i) rs)) ≡ sum (runLength rs) i
@@ -65,7 +66,7 @@ ticks-sum rs (suc i) h =
 pub ticks-length : (rs : List ℕ) → length (ticksOf rs) ≡ sum (runLength rs) (runs rs)
 ticks-length rs = ap length (sym (ticks-all rs (runs rs) refl)) ∙ ticks-sum rs (runs rs) (omega arith)
 
--- RUNS THAT ARE NOT REFUSED
+-- ---- runs that are not refused
 
 shift : (i f : ℕ) → 2 * suc i + f ≡ suc (suc (2 * i + f))
 shift i f = omega arith
@@ -96,23 +97,22 @@ pub record GoodRun (parts frame : ℕ) (rs : List ℕ) (k : ℕ) : Type 0 where
   pub inside : sum (runLength rs) (k + 1) ≤ frame
   pub full : k + 1 ≡ runs rs → frame ≤ sum (runLength rs) (k + 1)
 
-good-run : (parts frame : ℕ) (rs : List ℕ) (k : ℕ) → badRun parts frame rs k ≡ false → GoodRun parts frame rs k
-unfolding badRun goodRun
+good-run : (parts frame : ℕ) (rs : List ℕ) (k : ℕ) → goodRun parts frame rs k ≡ true → GoodRun parts frame rs k
+unfolding goodRun
 good-run parts frame rs k e =
     let o : ℕ = runOwner rs k in
     let l : ℕ = runLength rs k in
-    let s : ℕ = sum (runLength rs) (k + 1) in
-    let last : Bool = eqb (k + 1) (runs rs) in
-    let e4 = and-true (leb o parts && leb 1 l && not (repeats rs k) && leb s frame) (not last || leb frame s) (not-false _ e) in
-    let e3 = and-true (leb o parts && leb 1 l && not (repeats rs k)) (leb s frame) (e4 .0) in
-    let e2 = and-true (leb o parts && leb 1 l) (not (repeats rs k)) (e3 .0) in
-    let e1 = and-true (leb o parts) (leb 1 l) (e2 .0) in
+    let s : ℕ = reached rs k in
+    let e4 = and-parts (leb o parts && leb 1 l && not (repeats rs k) && leb s frame) (ltb (k + 1) (runs rs) || leb frame s) e in
+    let e3 = and-parts (leb o parts && leb 1 l && not (repeats rs k)) (leb s frame) (e4 .0) in
+    let e2 = and-parts (leb o parts && leb 1 l) (not (repeats rs k)) (e3 .0) in
+    let e1 = and-parts (leb o parts) (leb 1 l) (e2 .0) in
     record {
       owner-in = leb-true _ _ (e1 .0);
       long = leb-true _ _ (e1 .1);
       other = not-true _ (e2 .1);
       inside = leb-true _ _ (e3 .1);
-      full = λ q. leb-true frame s (rw (eq-eqb (k + 1) (runs rs) q) at (e4 .1));
+      full = λ q. leb-true frame s (rw (le-ltb (k + 1) (runs rs) (omega arith)) at (e4 .1));
     }
 
 -- neighbours with one owner repeat
@@ -124,11 +124,11 @@ pub record Accepted (np frame : ℕ) (rs : List ℕ) : Type 0 where
   pub chain : Chain np rs
   pub fills : length (ticksOf rs) ≡ frame
 
-pub runs-accepted : (np frame nr : ℕ) (rs : List ℕ) → length rs ≡ 2 * nr → 1 ≤ nr → runs rs ≤ firstBadRun np frame rs → Accepted np frame rs
+pub runs-accepted : (np frame nr : ℕ) (rs : List ℕ) → length rs ≡ 2 * nr → 1 ≤ nr → Every (goodRun np frame rs) (runs rs) → Accepted np frame rs
 unfolding runOwner runLength
 runs-accepted np frame nr rs lr pos h =
     let n : runs rs ≡ nr = omega arith in
-    let at : (k : ℕ) → k < nr → GoodRun np frame rs k = λ k l. good-run np frame rs k (first-past (badRun np frame rs) (runs rs) h k (omega arith)) in
+    let at : (k : ℕ) → k < nr → GoodRun np frame rs k = λ k l. good-run np frame rs k (h k (omega arith)) in
     let last = at (nr - 1) (omega arith) in
     let q : nr - 1 + 1 ≡ runs rs = omega arith in
     let f : sum (runLength rs) (runs rs) ≡ frame = rw (← q) (omega (arith, last .inside, last .full q)) in
@@ -140,7 +140,7 @@ runs-accepted np frame nr rs lr pos h =
     clash : (rs : List ℕ) (i : ℕ) → repeats rs (suc i) ≡ false → runOwner rs (suc i) ≡ runOwner rs i → ⊥
     clash rs i e q = let z : _≡_ {A = Bool} true false = sym (again rs i q) ∙ e in let y : _≡_ {A = ℕ} 0 1 = cc in omega arith
 
--- THE RUNS OF A GOOD PLAN
+-- ---- the runs of a good plan
 
 chain-joined : (np t : ℕ) (rs : List ℕ) → t ≤ np → Chain np rs → Chain np (joined t rs)
 unfolding Chain joined
@@ -191,37 +191,32 @@ repeats-not np rs g (suc k) l =
     let z : suc k - 1 ≡ k = omega arith in
     rw (lt-ltb 0 (suc k) (omega arith), z) (ne-eqb _ _ (chain-other np rs g k l))
 
-run-kept : (np frame : ℕ) (rs : List ℕ) (k : ℕ) → runOwner rs k ≤ np → 1 ≤ runLength rs k → repeats rs k ≡ false → sum (runLength rs) (k + 1) ≤ frame
-    → (k + 1 ≡ runs rs → frame ≤ sum (runLength rs) (k + 1)) → badRun np frame rs k ≡ false
-unfolding badRun goodRun
-run-kept np frame rs k ho hl hr hi hf = rw (le-leb _ _ ho, le-leb _ _ hl, hr, le-leb _ _ hi) (last (eqb (k + 1) (runs rs)) refl)
+run-kept : (np frame : ℕ) (rs : List ℕ) (k : ℕ) → runOwner rs k ≤ np → 1 ≤ runLength rs k → repeats rs k ≡ false → reached rs k ≤ frame
+    → (runs rs ≤ k + 1 → frame ≤ reached rs k) → goodRun np frame rs k ≡ true
+unfolding goodRun
+run-kept np frame rs k ho hl hr hi hf = rw (le-leb _ _ ho, le-leb _ _ hl, hr, le-leb _ _ hi) (last (ltb (k + 1) (runs rs)) refl)
   where
-    last : (b : Bool) → eqb (k + 1) (runs rs) ≡ b → not (not b || leb frame (sum (runLength rs) (k + 1))) ≡ false
-    last true e = rw (le-leb _ _ (hf (eqb-true _ _ e)))
-    last false e = refl
+    last : (b : Bool) → ltb (k + 1) (runs rs) ≡ b → b || leb frame (reached rs k) ≡ true
+    last true e = refl
+    last false e = le-leb _ _ (hf (ltb-false _ _ e))
 
 -- a chain that fills the frame is not refused
-pub chain-good : (np frame : ℕ) (rs : List ℕ) → Chain np rs → length (ticksOf rs) ≡ frame → firstBadRun np frame rs ≡ runs rs
+pub chain-good : (np frame : ℕ) (rs : List ℕ) → Chain np rs → length (ticksOf rs) ≡ frame → Every (goodRun np frame rs) (runs rs)
 unfolding runOwner runLength
-chain-good np frame rs g f = first-none (badRun np frame rs) (runs rs) here
-  where
-    total : sum (runLength rs) (runs rs) ≡ frame
-    total = sym (ticks-length rs) ∙ f
+chain-good np frame rs g f k l =
+    let total : sum (runLength rs) (runs rs) ≡ frame = sym (ticks-length rs) ∙ f in
+    let c = chain-at np rs g k l in
+    run-kept np frame rs k (c .0) (c .1) (repeats-not np rs g k l) (omega (arith, total, sum-mono (runLength rs) {a = k + 1} {b = runs rs} (omega arith)))
+    (λ h. let q : k + 1 ≡ runs rs = omega arith in rw q (omega (arith, total)))
 
-    here : (k : ℕ) → k < runs rs → badRun np frame rs k ≡ false
-    here k l =
-        let c = chain-at np rs g k l in
-        run-kept np frame rs k (c .0) (c .1) (repeats-not np rs g k l) (omega (arith, total, sum-mono (runLength rs) {a = k + 1} {b = runs rs} (omega arith))) (λ q. rw q (omega (arith, total)))
-
-pub runs-good : (np : ℕ) (plan : List ℕ) → 1 ≤ length plan → length plan ≤ 4096 → firstBadTick np plan ≡ length plan
-    → (countedIn 1 4096 2 (length (runsOf plan)) ≡ true) × (firstBadRun np (length plan) (runsOf plan) ≡ runs (runsOf plan))
-unfolding countedIn badTick runsOf
+pub runs-good : (np : ℕ) (plan : List ℕ) → 1 ≤ length plan → length plan ≤ longest → Every (goodTick np plan) (length plan)
+    → (runsCounted (length (runsOf plan)) ≡ true) × Every (goodRun np (length plan) (runsOf plan)) (runs (runsOf plan))
+unfolding countedIn runsOf
 runs-good np plan pos h e =
-    let small : (k : ℕ) → k < length plan → getD plan k 0 ≤ np = λ k l. leb-true _ _ (not-false _ (first-all (badTick np plan) (length plan) e k l)) in
-    let g = chain-plan np plan small in
+    let g = chain-plan np plan (λ k l. leb-true _ _ (e k l)) in
     let b = ticks-back plan in
     let n : length (runsOf plan) / 2 ≤ length plan = rw b at (chain-few np (runsOf plan) g) in (
-      rw (eq-eqb (length (runsOf plan) % 2) 0 (chain-even np (runsOf plan) g), le-leb 1 (length (runsOf plan) / 2) (some plan pos), le-leb (length (runsOf plan) / 2) 4096 (omega arith)),
+      rw (eq-eqb (length (runsOf plan) % 2) 0 (chain-even np (runsOf plan) g), le-leb 1 (length (runsOf plan) / 2) (some plan pos), le-leb (length (runsOf plan) / 2) longest (omega arith)),
       chain-good np (length plan) (runsOf plan) g (ap length b),
     )
   where

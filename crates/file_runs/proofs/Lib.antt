@@ -1,4 +1,3 @@
-pub mod Put
 pub mod Ticks
 pub mod Good
 pub mod Proved

@@ -4,41 +4,41 @@ use mathlib.Core.Path.{_≡_, sym, _∙_}
 use mathlib.Core.List.{List}
 use native.Mathlib.Omega.{arith}
 use lib.ListN.{length}
-use lib.Dec.{leb}
-use borrow.Author.Tests.{leb-true}
-use Rattle.rules.specs.Limits.{longest}
-use Rattle.rules.specs.Table.{frameGood}
-use Rattle.file_codec.specs.declared.Reading.the-variants.{Contents}
-use Rattle.file_codec.specs.declared.Body.the-variants.{Runs}
-use Rattle.file_codec.specs.Reader.{runsAt, sizeOf, runsIn, readOf, sectionOf, tableOf}
-use Rattle.file_codec.specs.Runs.{runs, firstBadRun}
-use Rattle.file_codec.proofs.Limits.{and-true, within}
-use Rattle.file_codec.proofs.Reader.{accepted, parts-are, part-nums}
-use Rattle.file_runs.specs.Put.{Put}
+use Rattle.rules.specs.Limits.{longest, runWidth}
+use Rattle.rules.specs.Walk.{Every}
+use Rattle.rules.specs.Table.{partitions}
+use Rattle.file_codec.specs.Runs.{runs, goodRun}
+use Rattle.file_codec.proofs.Chain.{sizes}
+use Rattle.file_read.specs.declared.Reading.{Reading}
+use Rattle.file_read.specs.declared.Reading.the-variants.{Contents}
+use Rattle.file_read.specs.declared.Body.the-variants.{Partitions, Tasks, Runs}
+use Rattle.file_read.specs.Reader.{tableBy, readOf, tableOf}
+use Rattle.file_read.proofs.Reader.{contained, accepted, parts-are, runs-are}
+use Rattle.output.specs.Put.{Put}
+use Rattle.output.proofs.Proved as output
 use Rattle.file_runs.specs.Ticks.{ticksOf}
 use Rattle.file_runs.specs.Theorems.{RunsBack, FileTicks, TicksLeft, RunsGood, Proved}
-use Rattle.file_runs.proofs.Put.{put-front}
+use Rattle.output.proofs.Put.{put-front}
 use Rattle.file_runs.proofs.Ticks.{ticks-some, ticks-back}
 use Rattle.file_runs.proofs.Good as good
 
 -- the runs of an accepted file: so many numbers, a chain, as many ticks as the frame has
 record FileRuns (b : List ℕ) (frame np : ℕ) : Type 0 where
-  short : length (tableOf b Runs) ≤ 8192
+  short : length (tableOf b Runs) ≤ runWidth * longest
   kept : good.Accepted np frame (tableOf b Runs)
 
 file-runs : (b : List ℕ) (frame np nt nr : ℕ) → readOf b ≡ Contents frame np nt nr → FileRuns b frame np
-unfolding tableOf sectionOf
 file-runs b frame np nt nr e =
     let a = accepted b frame np nt nr e in
-    let l = a .long in
-    let w = within _ _ _ _ (a .limits) in
-    let n : length (runsIn b (3 * np) (4 * nt) (2 * nr)) ≡ 2 * nr = part-nums b (runsAt (3 * np) (4 * nt)) (2 * nr) (sizeOf (3 * np) (4 * nt) (2 * nr)) (omega arith) (omega arith) in
-    let p = parts-are b np nt nr l in
-    let g : runs (runsIn b (3 * np) (4 * nt) (2 * nr)) ≤ firstBadRun np frame (runsIn b (3 * np) (4 * nt) (2 * nr)) = rw p at (a .good .runs-good) in
-    let t : tableOf b Runs ≡ runsIn b (3 * np) (4 * nt) (2 * nr) = rw e in
+    let l = contained b frame np nt nr (a .contents) .long in
+    let c : Reading = Contents frame np nt nr in
+    let s = sizes frame (tableBy c b Partitions) (tableBy c b Tasks) (tableBy c b Runs) (a .good) in
+    let n = runs-are b frame np nt nr l in
+    let p : partitions (tableBy c b Partitions) ≡ np = omega (arith, parts-are b frame np nt nr l) in
+    let g : Every (goodRun np frame (tableBy c b Runs)) (runs (tableBy c b Runs)) = rw p at (a .good .runs) in
     record {
-      short = rw t (omega (arith, w .runs-high));
-      kept = rw t (good.runs-accepted np frame nr (runsIn b (3 * np) (4 * nt) (2 * nr)) n (omega (arith, w .runs-low)) g);
+      short = rw e (omega (arith, s .runs-whole, s .runs-high));
+      kept = rw e (good.runs-accepted np frame nr (tableBy c b Runs) n (omega (arith, s .runs-low, s .runs-whole, n)) g);
     }
 
 runs-back : RunsBack
@@ -47,7 +47,7 @@ runs-back b frame np nt nr e = good.runs-back np (tableOf b Runs) (file-runs b f
 file-ticks : FileTicks
 file-ticks b frame np nt nr e =
     let k = file-runs b frame np nt nr e .kept in
-    (k .fills, good.ticks-good np (tableOf b Runs) (k .chain) ∙ k .fills)
+    (k .fills, good.ticks-good np (tableOf b Runs) (k .chain) frame)
 
 ticks-left : TicksLeft
 ticks-left b frame np nt nr out o r e h p =
@@ -56,10 +56,7 @@ ticks-left b frame np nt nr out o r e h p =
     (omega (arith, q .place, f .kept .fills), rw (f .kept .fills) at (put-front q (omega (arith, f .kept .fills))))
 
 runs-good : RunsGood
-unfolding frameGood
-runs-good np plan f e =
-    let b = and-true (leb 1 (length plan)) (leb (length plan) longest) f in
-    good.runs-good np plan (leb-true _ _ (b .0)) (leb-true _ _ (b .1)) e
+runs-good = good.runs-good
 
 pub proved : Proved
 proved = record {
@@ -68,5 +65,5 @@ proved = record {
   file-ticks = file-ticks;
   ticks-left = ticks-left;
   runs-good = runs-good;
-  one-put = λ l s m o i p r a b. (a .place ∙ sym (b .place), a .bytes ∙ sym (b .bytes));
+  one-put = output.proved .one-put;
 }

@@ -10,11 +10,11 @@ use lib.Seq.{drop-cons, drop-length}
 use lib.Dec.{eqb}
 use borrow.Author.Tests.{le-leb, lt-leb, eqb-true, eqb-false, eq-eqb, ne-eqb}
 use Rattle.rules.specs.Walk.{pick}
-use Rattle.file_runs.specs.Put.{Put}
+use Rattle.output.specs.Put.{Put}
 use Rattle.file_runs.specs.Ticks.{ticksOf, joined, runsOf, ticksPut, runsPut}
-use Rattle.file_runs.proofs.Put.{Rest, rest-more, rest-none}
+use Rattle.output.proofs.Put.{Rest, rest-more, rest-none}
 
--- FROM RUNS TO TICKS
+-- ---- from runs to ticks
 
 pub rep-more : (k x : ℕ) → replicate k x ++ (x ∷ []) ≡ replicate (k + 1) x
 rep-more k x = replicate-append-replicate k 1 x
@@ -53,7 +53,7 @@ pub ticks-some : (rs : List ℕ) → length rs ≤ 8192 → ticksPut rs ≡ tick
 unfolding ticksPut
 ticks-some rs h = rw (le-leb (length rs) 8192 h)
 
--- FROM TICKS TO RUNS
+-- ---- from ticks to runs
 
 -- runs with t in front begin with a run of t
 pub begins : (t : ℕ) (rs : List ℕ) → (l : ℕ) × (xs : List ℕ) × (joined t rs ≡ t ∷ l ∷ xs)
@@ -137,7 +137,7 @@ pub runs-start : (plan : List ℕ) → 1 ≤ length plan → replicate 1 (getD p
 runs-start [] h = absurd (omega arith)
 runs-start (t ∷ plan) h = refl
 
--- THERE AND BACK
+-- ---- there and back
 
 ticks-joined : (t : ℕ) (rs : List ℕ) → ticksOf (joined t rs) ≡ t ∷ ticksOf rs
 unfolding ticksOf joined

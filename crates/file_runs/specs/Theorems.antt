@@ -5,12 +5,15 @@ use mathlib.Core.Bool.{true}
 use mathlib.Core.List.{List, _++_}
 use lib.ListN.{length, drop}
 use Rattle.rules.specs.Limits.{longest, runWidth}
-use Rattle.rules.specs.Table.{countedIn, frameGood, firstBadTick}
-use Rattle.file_codec.specs.declared.Reading.the-variants.{Contents}
-use Rattle.file_codec.specs.declared.Body.the-variants.{Runs}
-use Rattle.file_codec.specs.Runs.{runs, firstBadRun}
-use Rattle.file_codec.specs.Reader.{readOf, tableOf}
-use Rattle.file_runs.specs.Put.{Put}
+use Rattle.rules.specs.Walk.{Every}
+use Rattle.rules.specs.Table.{goodTick}
+use Rattle.rules.specs.Tables.{countedIn}
+use Rattle.file_codec.specs.Runs.{runs, goodRun}
+use Rattle.file_read.specs.declared.Reading.the-variants.{Contents}
+use Rattle.file_read.specs.declared.Body.the-variants.{Runs}
+use Rattle.file_read.specs.Reader.{readOf, tableOf}
+use Rattle.output.specs.Put.{Put}
+use Rattle.output.specs.Theorems.{OnePut}
 use Rattle.file_runs.specs.Ticks.{ticksOf, runsOf, ticksPut}
 
 -- the ticks of the runs of a plan are the plan
@@ -25,23 +28,20 @@ RunsBack = (b : List ℕ) (frame np nt nr : ℕ) → readOf b ≡ Contents frame
 abbrev pub FileTicks : Type 0
 FileTicks =
     (b : List ℕ) (frame np nt nr : ℕ) → readOf b ≡ Contents frame np nt nr
-    → (length (ticksOf (tableOf b Runs)) ≡ frame) × (firstBadTick np (ticksOf (tableOf b Runs)) ≡ frame)
+    → (length (ticksOf (tableOf b Runs)) ≡ frame) × Every (goodTick np (ticksOf (tableOf b Runs))) frame
 
 -- what `ticks_of` leaves in an output long enough: the ticks, and the rest as it was
 abbrev pub TicksLeft : Type 0
 TicksLeft =
-    (b : List ℕ) (frame np nt nr : ℕ) (out o : List ℕ) (r : ℕ) → readOf b ≡ Contents frame np nt nr → frame ≤ length out → Put out 0 (ticksPut (tableOf b Runs)) r o
+    (b : List ℕ) (frame np nt nr : ℕ) (out o : List ℕ) (r : ℕ) → readOf b ≡ Contents frame np nt nr → frame ≤ length out
+    → Put out 0 (ticksPut (tableOf b Runs)) r o
     → (r ≡ frame) × (o ≡ ticksOf (tableOf b Runs) ++ drop frame out)
 
 -- the runs of a good plan are good runs: the writer does not refuse them
 abbrev pub RunsGood : Type 0
 RunsGood =
-    (np : ℕ) (plan : List ℕ) → frameGood (length plan) ≡ true → firstBadTick np plan ≡ length plan
-    → (countedIn 1 longest runWidth (length (runsOf plan)) ≡ true) × (firstBadRun np (length plan) (runsOf plan) ≡ runs (runsOf plan))
-
--- "any two outcomes it permits are equal"
-abbrev pub OnePut : Type 0
-OnePut = (l s m o : List ℕ) (i p r : ℕ) → Put l i s p m → Put l i s r o → (p ≡ r) × (m ≡ o)
+    (np : ℕ) (plan : List ℕ) → 1 ≤ length plan → length plan ≤ longest → Every (goodTick np plan) (length plan)
+    → (countedIn 1 longest runWidth (length (runsOf plan)) ≡ true) × Every (goodRun np (length plan) (runsOf plan)) (runs (runsOf plan))
 
 pub record Proved : Type 0 where
   pub ticks-back : TicksBack
@@ -49,4 +49,5 @@ pub record Proved : Type 0 where
   pub file-ticks : FileTicks
   pub ticks-left : TicksLeft
   pub runs-good : RunsGood
+  -- "any two outcomes it permits are equal"
   pub one-put : OnePut

@@ -1,25 +1,15 @@
 // A plan as runs and as ticks.
+use rules::limits::LONGEST;
+use rules::limits::RUN_NUMBERS;
+use rules::limits::RUN_WIDTH;
 ghost use mathlib.Core.Path.{_≡_};
 ghost use mathlib.Core.List.{[], _∷_};
 ghost use Prim.Native.Nat.{_+_, _≤_, _<_, _^_};
-ghost use lib.ListN.{set, replicate};
+ghost use lib.ListN.{replicate};
 ghost use lib.Dec.{eqb};
 ghost use Rattle.rules.specs.Walk.{pick};
-ghost use Rattle.file_codec.specs.Bytes.{numsOf};
-ghost use Rattle.file_runs.specs.Put.{Put};
+ghost use Rattle.output.specs.Put.{Put};
 ghost use Rattle.file_runs.specs.Ticks.{ticksPut, runsPut};
-
-// One number, where there is room for it; and the next place.
-pub fn put_one(out: &mut [u16], at: usize, x: u16) -> usize
-    requires { ⌜ at < 2 ^ 62 ⌝ }
-    ensures { λ r. ⌜ (r ≡ at + 1) × (now (out .exit) ≡ set (now (out .entry)) at x) ⌝ }
-{
-    if at < out.len() {
-        out[at] = x;
-        return at + 1;
-    }
-    at + 1
-}
 
 // The ticks of one run.
 fn put_ticks(out: &mut [u16], at: usize, owner: u16, n: usize) -> usize
@@ -28,28 +18,28 @@ fn put_ticks(out: &mut [u16], at: usize, owner: u16, n: usize) -> usize
 {
     let mut k = 0;
     while k < n {
-        put_one(out, at + k, owner);
+        output::put_number(out, at + k, owner);
         k += 1;
     }
     at + n
 }
 
-// The ticks of a runs body, as far as there is room. The answer is how many there are.
-pub fn ticks_of(body: &[u8], out: &mut [u16]) -> usize
-    ensures { λ r. ⌜ Put (now (out .entry)) 0 (ticksPut (numsOf (now (body .entry)))) r (now (out .exit)) ⌝ }
+// The ticks of a table of runs, as far as there is room. The answer is how many there are.
+pub fn ticks_of(runs: &[u16], out: &mut [u16]) -> usize
+    ensures { λ r. ⌜ Put (now (out .entry)) 0 (ticksPut (now (runs .entry))) r (now (out .exit)) ⌝ }
 {
-    if 8192 < body.len() / 2 {
+    if RUN_NUMBERS < runs.len() {
         return 0;
     }
-    let n = body.len() / 2 / 2;
+    let n = runs.len() / RUN_WIDTH;
     let mut at = 0;
     let mut k = 0;
     while k < n {
         at = put_ticks(
             out,
             at,
-            file_codec::number(body, 2 * k),
-            rules::wide(file_codec::number(body, 2 * k + 1)),
+            rules::records::entry(runs, RUN_WIDTH * k),
+            rules::numbers::wide(rules::records::entry(runs, RUN_WIDTH * k + 1)),
         );
         k += 1;
     }
@@ -71,14 +61,15 @@ fn put_run(out: &mut [u16], at: usize, owner: u16, long: u16) -> usize
     requires { ⌜ at < 2 ^ 40 ⌝ }
     ensures { λ r. ⌜ Put (now (out .entry)) at (owner ∷ long ∷ []) r (now (out .exit)) × (r ≡ at + 2) ⌝ }
 {
-    let next = put_one(out, at, owner);
-    put_one(out, next, long)
+    let next = output::put_number(out, at, owner);
+    output::put_number(out, next, long)
 }
 
 // The run that the tick t ends, if it ends one.
 fn put_ended(out: &mut [u16], at: usize, owner: u16, long: u16, t: u16) -> usize
     requires { ⌜ at < 2 ^ 40 ⌝ }
-    ensures { λ r. ⌜ Put (now (out .entry)) at (pick (eqb t owner) [] (owner ∷ long ∷ [])) r (now (out .exit)) × (r ≤ at + 2) ⌝ }
+    ensures { λ r. ⌜ Put (now (out .entry)) at (pick (eqb t owner) [] (owner ∷ long ∷ [])) r (now (out .exit))
+        × (r ≤ at + 2) ⌝ }
 {
     if t == owner {
         return at;
@@ -91,18 +82,18 @@ pub fn runs_of(plan: &[u16], out: &mut [u16]) -> usize
     ensures { λ r. ⌜ Put (now (out .entry)) 0 (runsPut (now (plan .entry))) r (now (out .exit)) ⌝ }
 {
     let n = plan.len();
-    if 4096 < n {
+    if LONGEST < n {
         return 0;
     }
     if n < 1 {
         return 0;
     }
     let mut at = 0;
-    let mut owner = rules::entry(plan, 0);
+    let mut owner = rules::records::entry(plan, 0);
     let mut long = 1u16;
     let mut k = 1;
     while k < n {
-        let t = rules::entry(plan, k);
+        let t = rules::records::entry(plan, k);
         at = put_ended(out, at, owner, long, t);
         long = next_long(owner, long, t);
         owner = t;

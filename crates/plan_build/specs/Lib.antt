@@ -1,3 +1,3 @@
 pub mod Build
-pub mod Written
+pub mod Contracts
 pub mod Theorems

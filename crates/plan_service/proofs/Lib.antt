@@ -1,3 +1,1 @@
 pub mod Turns
-pub mod Orders
-pub mod Answers

@@ -9,7 +9,7 @@ use lib.Dec.{eqb}
 use lib.ListN.{length, getD, List·getD-eq-default}
 use Rattle.rules.specs.Walk.{only, sum, count}
 use Rattle.rules.proofs.Sum.{only-add, only-eq, only-ne, only-self}
-use Rattle.theory.specs.Plan.{own, owner, ownsFrom, owned, held}
+use Rattle.theory.specs.Plan.{own, owner, owned, held}
 use Rattle.theory.proofs.Plan.{held-zero, held-more}
 
 pub held-none : (plan : List ℕ) (p s : ℕ) → 0 ≡ held own plan p 0 s
@@ -17,7 +17,7 @@ held-none plan p s = sym (held-zero (owner plan) p s)
 
 -- one tick more, at its place in the frame
 pub held-turn : (plan : List ℕ) (p s k at h b : ℕ) → at ≡ (s + k) % length plan → h ≡ held own plan p k s → b ≡ only (eqb (getD plan at 0) p) 1 → h + b ≡ held own plan p (k + 1) s
-unfolding ownsFrom owner
+unfolding owner
 held-turn plan p s k at h b ea eh eb = rw (held-more (owner plan) p k s, eb, eh, ea)
 
 -- the place in the frame one tick later
@@ -26,7 +26,7 @@ place-turn f s k at r ea er = let e : s + k + 1 ≡ s + (k + 1) = omega arith in
 
 -- of an empty plan every tick is idle
 held-empty : (plan : List ℕ) (p s n : ℕ) → length plan ≡ 0 → held own plan p n s ≡ only (eqb 0 p) n
-unfolding owned ownsFrom owner count sum only
+unfolding owned owner count sum only
 held-empty plan p s zero e = omega (arith, only-self (eqb 0 p) 0)
 held-empty plan p s (suc n) e =
     let o : getD plan ((s + n) % length plan) 0 ≡ 0 = List·getD-eq-default plan 0 (omega arith) in

@@ -9,8 +9,8 @@ use native.Mathlib.Numerals.{add-one}
 use native.Mathlib.Decide.{le-ind}
 use native.Mathlib.Omega.{arith}
 use lib.Dec.{ltb}
-use borrow.Author.Tests.{lt-ltb, le-ltb, ltb-true, ltb-false}
-use Rattle.rules.specs.Walk.{pick, first, some, walk, gathered}
+use borrow.Author.Tests.{lt-ltb, le-ltb, ltb-true, ltb-false, not-false}
+use Rattle.rules.specs.Walk.{pick, first, some, fails, Every, walk, gathered}
 
 pub walk-zero : {A : Type 0} (f : ℕ → A → A) (x : A) → walk f x 0 ≡ x
 unfolding walk
@@ -117,3 +117,12 @@ module _ (p : ℕ → Bool) where
   -- a loop that looks for one ran to its end
   pub some-done : (n i : ℕ) → i ≤ n → n ≤ i → first p i ≡ i → some p n ≡ false
   some-done n i h l e = rw (first-done n i h l e) (le-ltb n n (omega arith))
+
+-- every i < n passes exactly where the first that fails is past the end
+pub every-first : (p : ℕ → Bool) (n : ℕ) → Every p n → first (fails p) n ≡ n
+unfolding fails
+every-first p n g = first-none (fails p) n (λ k l. rw (g k l))
+
+pub first-every : (p : ℕ → Bool) (n : ℕ) → n ≤ first (fails p) n → Every p n
+unfolding fails
+first-every p n h k l = not-false _ (first-past (fails p) n h k l)

@@ -8,29 +8,26 @@ use Rattle.rules.specs.declared.Told.{Told}
 abbrev pub telling : ℕ → ℕ → ℕ → ℕ → ℕ → Told
 telling n a b c d = record { number = n; first = a; second = b; third = c; fourth = d }
 
-abbrev pub numbered : ℕ → Told
-numbered n = telling n 0 0 0 0
-
 abbrev pub placed : ℕ → ℕ → Told
 placed n place = telling n place 0 0 0
 
 abbrev pub told : Refusal → Told
-told Short = numbered 1
-told Edition = numbered 2
-told Limits = numbered 3
-told Offset = numbered 4
-told Length = numbered 5
+told Short = placed 1 0
+told Edition = placed 2 0
+told Limits = placed 3 0
+told Offset = placed 4 0
+told Length = placed 5 0
 told (Partition place) = placed 6 place
 told (Task place) = placed 7 place
 told (Tick place) = placed 8 place
 told (Shortfall p s h w) = telling 9 p s h w
-told Unharmonic = numbered 10
-told Want = numbered 11
-told Output = numbered 12
-told Rules = numbered 13
-told Numbers = numbered 14
-told Past = numbered 15
-told Busy = numbered 16
-told Full = numbered 17
-told NoPlace = numbered 18
-told TooFar = numbered 19
+told Unharmonic = placed 10 0
+told Want = placed 11 0
+told Output = placed 12 0
+told Rules = placed 13 0
+told Numbers = placed 14 0
+told Past = placed 15 0
+told Busy = placed 16 0
+told Full = placed 17 0
+told NoPlace = placed 18 0
+told TooFar = placed 19 0

@@ -1,7 +1,7 @@
 -- The walks over i < n that every rule is made of. The number that a walk goes over stands last. Assumes nothing.
 use Prim.Native.Nat.{ℕ, zero, suc, _+_, _-_, _/_, _<_, min, max}
 use mathlib.Core.Path.{_≡_}
-use mathlib.Core.Bool.{Bool, true, false}
+use mathlib.Core.Bool.{Bool, true, false, not}
 use mathlib.Core.List.{List, [], _++_}
 use lib.Dec.{ltb}
 
@@ -19,6 +19,10 @@ only false x = 0
 unfoldable pub first : (ℕ → Bool) → ℕ → ℕ
 first p zero = zero
 first p (suc n) = let r = first p n in pick (ltb r n) r (pick (p n) n (suc n))
+
+-- i fails the test
+unfoldable pub fails : (ℕ → Bool) → ℕ → Bool
+fails p i = not (p i)
 
 -- whether any i < n passes
 abbrev pub some : (ℕ → Bool) → ℕ → Bool

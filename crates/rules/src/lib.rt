@@ -1,12 +1,11 @@
-// The rules that every call shares: what a share wants, which record of a table is bad, and why a call refuses.
+// The rules that every call shares: limits, tables behind accessors, what tells against them, and why a call refuses.
 ghost use mathlib.Core.Path.{_≡_};
-ghost use Prim.Native.Nat.{_+_, _%_, _≤_, _<_, min, max};
-ghost use Rattle.rules.specs.Walk.{only};
-ghost use lib.ListN.{getD};
-ghost use Rattle.rules.specs.Table.{partField, cycle, num, den, partitions, taskField, partition, budget, deadline, period, tasks, wants, wanted, countedIn, partsCounted, tasksCounted, frameGood, goodShare, goodTimes, badPart, badTask, badTick, firstBadPart, firstBadTask, firstBadTick};
 ghost use Rattle.rules.specs.Refusals.{told, placed};
 
+pub mod judge; // judge.rt: limits, good records, the chain of table refusals
 pub mod limits; // limits.rt: every limit and width by name
+pub mod numbers; // numbers.rt: what numbers need everywhere
+pub mod records; // records.rt: the tables behind accessors, and ticks wanted
 
 // Why a call refuses: document 01's table, from 1 to 19.
 pub enum Refusal {
@@ -44,6 +43,18 @@ pub struct Told {
     pub second: usize,
     pub third: usize,
     pub fourth: usize,
+}
+
+// What is found of a call's tables or its plan: nothing tells against them, or a refusal.
+pub enum Finding {
+    Good,
+    Refused(Refusal),
+}
+
+// How many of a lent output's elements a call fills from its start on, or why it refuses.
+pub enum Filling {
+    Fills(usize),
+    Refused(Refusal),
 }
 
 pub fn tell(r: Refusal) -> Told
@@ -93,282 +104,4 @@ fn numbered(number: usize, place: usize) -> Told
         third: 0,
         fourth: 0,
     }
-}
-
-// What stands at a place of a table, or 0 past its end.
-pub fn entry(table: &[u16], k: usize) -> u16
-    ensures { λ r. ⌜ r ≡ getD (now (table .entry)) k 0 ⌝ }
-{
-    if k < table.len() { table[k] } else { 0 }
-}
-
-// THE TABLES: only these functions know how many numbers a record has.
-
-pub fn partitions(parts: &[u16]) -> usize
-    ensures { λ r. ⌜ r ≡ partitions (now (parts .entry)) ⌝ }
-{
-    parts.len() / 3
-}
-
-fn part_field(parts: &[u16], k: usize, field: u8) -> u16
-    requires { ⌜ field < 3 ⌝ }
-    ensures { λ r. ⌜ r ≡ partField (now (parts .entry)) k field ⌝ }
-{
-    if parts.len() <= k {
-        return 0;
-    }
-    entry(parts, 3 * k + (field as usize))
-}
-
-pub fn cycle(parts: &[u16], k: usize) -> u16
-    ensures { λ r. ⌜ r ≡ cycle (now (parts .entry)) k ⌝ }
-{
-    part_field(parts, k, 0)
-}
-
-pub fn num(parts: &[u16], k: usize) -> u16
-    ensures { λ r. ⌜ r ≡ num (now (parts .entry)) k ⌝ }
-{
-    part_field(parts, k, 1)
-}
-
-pub fn den(parts: &[u16], k: usize) -> u16
-    ensures { λ r. ⌜ r ≡ den (now (parts .entry)) k ⌝ }
-{
-    part_field(parts, k, 2)
-}
-
-pub fn tasks(table: &[u16]) -> usize
-    ensures { λ r. ⌜ r ≡ tasks (now (table .entry)) ⌝ }
-{
-    table.len() / 4
-}
-
-fn task_field(table: &[u16], j: usize, field: u8) -> u16
-    requires { ⌜ field < 4 ⌝ }
-    ensures { λ r. ⌜ r ≡ taskField (now (table .entry)) j field ⌝ }
-{
-    if table.len() <= j {
-        return 0;
-    }
-    entry(table, 4 * j + (field as usize))
-}
-
-pub fn partition(table: &[u16], j: usize) -> u16
-    ensures { λ r. ⌜ r ≡ partition (now (table .entry)) j ⌝ }
-{
-    task_field(table, j, 0)
-}
-
-pub fn budget(table: &[u16], j: usize) -> u16
-    ensures { λ r. ⌜ r ≡ budget (now (table .entry)) j ⌝ }
-{
-    task_field(table, j, 1)
-}
-
-pub fn deadline(table: &[u16], j: usize) -> u16
-    ensures { λ r. ⌜ r ≡ deadline (now (table .entry)) j ⌝ }
-{
-    task_field(table, j, 2)
-}
-
-pub fn period(table: &[u16], j: usize) -> u16
-    ensures { λ r. ⌜ r ≡ period (now (table .entry)) j ⌝ }
-{
-    task_field(table, j, 3)
-}
-
-// SHARES
-
-pub fn wide(x: u16) -> usize
-    ensures { λ r. ⌜ r ≡ x ⌝ }
-{
-    x as usize
-}
-
-// num·m/den, rounded up (0 where den is 0).
-pub fn wants(m: u16, num: u16, den: u16) -> usize
-    ensures { λ r. ⌜ r ≡ wants m num den ⌝ }
-{
-    if den == 0 {
-        return 0;
-    }
-    (wide(num) * wide(m) + (wide(den) - 1)) / wide(den)
-}
-
-// What the partition at place k wants.
-pub fn wanted(parts: &[u16], k: usize) -> usize
-    ensures { λ r. ⌜ r ≡ wanted (now (parts .entry)) k ⌝ }
-{
-    wants(cycle(parts, k), num(parts, k), den(parts, k))
-}
-
-// LIMITS AND GOOD RECORDS
-
-pub fn counted_in(low: usize, high: usize, width: usize, numbers: usize) -> bool
-    requires { ⌜ 0 < width ⌝ }
-    ensures { λ r. ⌜ r ≡ countedIn low high width numbers ⌝ }
-{
-    if numbers % width != 0 {
-        return false;
-    }
-    if numbers / width < low {
-        return false;
-    }
-    numbers / width <= high
-}
-
-pub fn parts_counted(parts: &[u16]) -> bool
-    ensures { λ r. ⌜ r ≡ partsCounted (now (parts .entry)) ⌝ }
-{
-    counted_in(1, 16, 3, parts.len())
-}
-
-pub fn tasks_counted(table: &[u16]) -> bool
-    ensures { λ r. ⌜ r ≡ tasksCounted (now (table .entry)) ⌝ }
-{
-    counted_in(0, 128, 4, table.len())
-}
-
-pub fn frame_good(f: usize) -> bool
-    ensures { λ r. ⌜ r ≡ frameGood f ⌝ }
-{
-    if f < 1 {
-        return false;
-    }
-    f <= 4096
-}
-
-pub fn good_share(limit: usize, m: u16, num: u16, den: u16) -> bool
-    ensures { λ r. ⌜ r ≡ goodShare limit m num den ⌝ }
-{
-    if m < 1 {
-        return false;
-    }
-    if limit < (m as usize) {
-        return false;
-    }
-    if num < 1 {
-        return false;
-    }
-    if den < num {
-        return false;
-    }
-    den <= 1000
-}
-
-pub fn good_times(parts: usize, p: u16, c: u16, d: u16, t: u16) -> bool
-    ensures { λ r. ⌜ r ≡ goodTimes parts p c d t ⌝ }
-{
-    if p < 1 {
-        return false;
-    }
-    if parts < (p as usize) {
-        return false;
-    }
-    if c < 1 {
-        return false;
-    }
-    if d < c {
-        return false;
-    }
-    if t < d {
-        return false;
-    }
-    t <= 4096
-}
-
-fn bad_part(parts: &[u16], limit: usize, k: usize) -> bool
-    ensures { λ r. ⌜ r ≡ badPart limit (now (parts .entry)) k ⌝ }
-{
-    !good_share(limit, cycle(parts, k), num(parts, k), den(parts, k))
-}
-
-fn bad_task(table: &[u16], parts: usize, j: usize) -> bool
-    ensures { λ r. ⌜ r ≡ badTask parts (now (table .entry)) j ⌝ }
-{
-    !good_times(
-        parts,
-        partition(table, j),
-        budget(table, j),
-        deadline(table, j),
-        period(table, j),
-    )
-}
-
-fn bad_tick(plan: &[u16], parts: usize, t: usize) -> bool
-    ensures { λ r. ⌜ r ≡ badTick parts (now (plan .entry)) t ⌝ }
-{
-    !(wide(entry(plan, t)) <= parts)
-}
-
-// The first bad record, counted from 0, or how many there are.
-pub fn first_bad_part(parts: &[u16], limit: usize) -> usize
-    ensures { λ r. ⌜ r ≡ firstBadPart limit (now (parts .entry)) ⌝ }
-{
-    let n = partitions(parts);
-    let mut k = 0;
-    while k < n {
-        if bad_part(parts, limit, k) {
-            return k;
-        }
-        k += 1;
-    }
-    n
-}
-
-pub fn first_bad_task(table: &[u16], parts: usize) -> usize
-    ensures { λ r. ⌜ r ≡ firstBadTask parts (now (table .entry)) ⌝ }
-{
-    let n = tasks(table);
-    let mut j = 0;
-    while j < n {
-        if bad_task(table, parts, j) {
-            return j;
-        }
-        j += 1;
-    }
-    n
-}
-
-pub fn first_bad_tick(plan: &[u16], parts: usize) -> usize
-    ensures { λ r. ⌜ r ≡ firstBadTick parts (now (plan .entry)) ⌝ }
-{
-    let n = plan.len();
-    let mut t = 0;
-    while t < n {
-        if bad_tick(plan, parts, t) {
-            return t;
-        }
-        t += 1;
-    }
-    n
-}
-
-pub fn smaller(a: usize, b: usize) -> usize
-    ensures { λ r. ⌜ r ≡ min a b ⌝ }
-{
-    if a < b { a } else { b }
-}
-
-pub fn larger(a: usize, b: usize) -> usize
-    ensures { λ r. ⌜ r ≡ max a b ⌝ }
-{
-    if a < b { b } else { a }
-}
-
-// 1 where the test holds, else 0.
-pub fn one_if(test: bool) -> usize
-    ensures { λ r. ⌜ (r ≤ 1) × (r ≡ only test 1) ⌝ }
-{
-    if test { 1 } else { 0 }
-}
-
-// The place after `at` in a round of f: the end is joined to the start.
-pub fn after(at: usize, f: usize) -> usize
-    requires { ⌜ at < f ⌝ }
-    ensures { λ r. ⌜ (r < f) × (r ≡ (at + 1) % f) ⌝ }
-{
-    let next = at + 1;
-    if next < f { next } else { 0 }
 }

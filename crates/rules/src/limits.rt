@@ -4,7 +4,9 @@ pub const MOST_PARTITIONS: usize = 16;
 
 pub const MOST_TASKS: usize = 128;
 
-pub const LONGEST: usize = 4096; // of a frame, a cycle, a period, and of runs
+pub const LONGEST: usize = 4096; // of a frame, a cycle, and of runs
+
+pub const LONGEST_PERIOD: u16 = LONGEST as u16;
 
 pub const FINEST_SHARE: u16 = 1000;
 
@@ -30,3 +32,8 @@ pub const RUN_NUMBERS: usize = RUN_WIDTH * LONGEST;
 
 pub const LONGEST_FILE: usize = HEAD_BYTES
     + NUMBER_BYTES * (PART_NUMBERS + TASK_NUMBERS + RUN_NUMBERS);
+
+// No line of a listing is longer, in bytes, and no listing: a line for the frame, each partition and each task.
+pub const LONGEST_LINE: usize = 128;
+
+pub const LONGEST_LISTING: usize = (1 + MOST_PARTITIONS + MOST_TASKS) * LONGEST_LINE;

@@ -1,44 +1,42 @@
 -- Laws of what the planner answers: what stands in the front of a lent table, and what an answer of bytes says. Assumes nothing.
-use Prim.Native.Nat.{ℕ, zero, suc, _+_, _*_, _≤_, _<_, max}
-use mathlib.Core.Path.{_≡_, refl, sym, ap, _∙_}
-use mathlib.Core.Bool.{Bool, true, false, not}
+use Prim.Native.Nat.{ℕ, _+_, _*_, _≤_, max}
+use mathlib.Core.Path.{_≡_, refl, sym, _∙_}
+use mathlib.Core.Bool.{Bool, true, false}
 use mathlib.Core.List.{List, [], _∷_, _++_}
 use native.Mathlib.Omega.{arith}
-use lib.ListN.{length, take, drop, length-append, length-drop}
+use lib.ListN.{length, take, drop, length-append}
 use lib.Seq.{sets, sets-eq, take-at}
-use lib.Dec.{ltb, eqb}
-use borrow.Author.Tests.{not-false}
+use lib.Dec.{eqb}
 use Rattle.rules.specs.Walk.{pick}
-use Rattle.rules.specs.Limits.{longest}
+use Rattle.rules.specs.Limits.{mostPartitions, mostTasks, longest, partWidth, taskWidth, runWidth}
+use Rattle.rules.specs.Tables.{GoodTables}
 use Rattle.rules.specs.declared.Refusal.{Refusal}
-use Rattle.theory.specs.Harmonic.{frame, planned, ticks, harmonicPlan}
+use Rattle.rules.specs.declared.Refusal.the-variants.{Limits, Partition, Task}
+use Rattle.rules.proofs.Chain.{unless-given}
+use Rattle.theory.specs.Harmonic.{frame, harmonicPlan}
 use Rattle.theory.proofs.Harmonic.{ticks-length}
-use Rattle.plan_build.specs.declared.Built.{Built}
-use Rattle.plan_build.specs.declared.Built.the-variants as built
+use Rattle.rules.specs.declared.Filling.{Filling}
+use Rattle.rules.specs.declared.Filling.the-variants as filling
 use Rattle.plan_build.specs.Build.{buildOf}
-use Rattle.plan_build.specs.Build as builder
 use Rattle.plan_build.proofs.Orders.{laid}
-use Rattle.file_codec.specs.declared.Written.{Written}
-use Rattle.file_codec.specs.declared.Written.the-variants.{Bytes, Refused}
-use Rattle.file_codec.specs.Writer.{fileOf, writeOf, leftBy, leftOf}
-use Rattle.file_codec.proofs.Writer.{fit}
-use Rattle.file_codec.proofs.Trip.{file-length}
-use Rattle.file_runs.specs.Put.{Put}
+use Rattle.rules.specs.declared.Filling.the-variants.{Fills, Refused}
+use Rattle.rules.specs.Filling.{leftBy}
+use Rattle.file_write.specs.Writer.{writeOf, writtenLeft}
+use Rattle.file_write.proofs.Writer.{fit}
+use Rattle.file_write.proofs.Trip.{file-length}
+use Rattle.output.specs.Put.{Put}
 use Rattle.file_runs.specs.Ticks.{joined, runsOf, runsPut}
-use Rattle.file_runs.proofs.Put.{put-front}
 use Rattle.file_runs.proofs.Ticks.{runs-some}
-use Rattle.rules.specs.Refusals.{told}
-use Rattle.file_lines.specs.Lines.{refusedLine}
-use Rattle.share_text.specs.declared.What.{What}
+use Rattle.rules.specs.Limits.{longestLine}
+use Rattle.output.specs.Refused.{refusedLine}
+use Rattle.share_line.specs.declared.What.{What}
 use Rattle.share_text.specs.declared.Kind.the-variants.{Partitions, Tasks}
-use Rattle.share_text.specs.declared.Table.{Table}
-use Rattle.share_text.specs.declared.Table.the-variants as table
+use Rattle.share_text.specs.declared.TableReading.{TableReading}
+use Rattle.share_text.specs.declared.TableReading.the-variants as table
 use Rattle.share_text.specs.Table.{tableOf, readOf}
 use Rattle.share_text.specs.Table as text
 use Rattle.share_text.proofs.Order.{fits}
-use Rattle.share_plan.specs.declared.Judged.{Judged}
-use Rattle.share_plan.specs.declared.Judged.the-variants as judged
-use Rattle.share_plan.specs.Answer.{judgedOf, planRuns, planFile, writtenBy, builtBy, unlessRefused, planOf, saidOf, expectedLine, answerOf}
+use Rattle.share_plan.specs.Answer.{planRuns, planFile, writtenBy, writeBuiltOf, writePlanOf, fileOrLine, expectedLine, answerOf}
 
 -- numbers at the start of a table that has room for them
 pub front : (s l o : List ℕ) (n : ℕ) → n ≡ length s → n ≤ length l → o ≡ sets l 0 s → (n ≤ length o) × (take n o ≡ s)
@@ -47,7 +45,7 @@ front s l o n en h eo =
     let e : o ≡ s ++ drop (length s) l = eo ∙ sets-eq s l 0 (omega arith) ∙ rw z in
     (rw (e, length-append s (drop (length s) l)) (omega arith), rw e (take-at s (drop (length s) l) n (sym en)))
 
--- RUNS
+-- ---- runs
 
 joined-length : (t : ℕ) (rs : List ℕ) → length (joined t rs) ≤ 2 + length rs
 unfolding joined
@@ -64,26 +62,26 @@ unfolding runsOf
 runs-length [] = omega arith
 runs-length (t ∷ plan) = omega (arith, joined-length t (runsOf plan), runs-length plan)
 
--- the runs of a plan, put into a table of 8,192 numbers
-pub runs-put : (plan l o : List ℕ) (n : ℕ) → length plan ≤ 4096 → length l ≡ 8192 → Put l 0 (runsPut plan) n o → (n ≤ length o) × (take n o ≡ runsOf plan)
+-- the runs of a plan, put into a table for as many as there may be
+pub runs-put : (plan l o : List ℕ) (n : ℕ) → length plan ≤ longest → length l ≡ runWidth * longest → Put l 0 (runsPut plan) n o → (n ≤ length o) × (take n o ≡ runsOf plan)
 runs-put plan l o n h e p =
     let q : Put l 0 (runsOf plan) n o = rw (runs-some plan h) at p in
     let m : n ≡ length (runsOf plan) = omega (arith, q .place) in
     front (runsOf plan) l o n m (omega (arith, runs-length plan)) (q .bytes)
 
--- THE BUILT PLAN
+-- ---- the built plan
 
--- a plan's ticks in the front of 4,096
+-- a plan's ticks in the front of a table
 pub record Front (ps o : List ℕ) (h : ℕ) : Type 0 where
-  pub is-built : buildOf ps longest ≡ built.Frame h
+  pub is-built : buildOf ps longest ≡ filling.Fills h
   pub is-frame : h ≡ frame ps
-  pub low : h ≤ 4096
+  pub low : h ≤ longest
   pub inside : h ≤ length o
   pub is-plan : take h o ≡ harmonicPlan ps
 
-pub built-front : (ps l o : List ℕ) (r : Built) (h : ℕ) → length l ≡ 4096 → r ≡ buildOf ps (length l) → o ≡ builder.leftOf r ps l → r ≡ built.Frame h → Front ps o h
+pub built-front : (ps l o : List ℕ) (r : Filling) (h : ℕ) → length l ≡ longest → r ≡ buildOf ps (length l) → o ≡ leftBy r (harmonicPlan ps) l → r ≡ filling.Fills h → Front ps o h
 built-front ps l o r h el er eo e =
-    let b : buildOf ps longest ≡ built.Frame h = rw el at (sym er ∙ e) in
+    let b : buildOf ps longest ≡ filling.Fills h = rw el at (sym er ∙ e) in
     let a = laid ps longest h b in
     let n : length (harmonicPlan ps) ≡ h = ticks-length _ _ ∙ sym (a .is-frame) in
     let f : o ≡ harmonicPlan ps ++ drop h l = rw e at eo in
@@ -96,82 +94,83 @@ built-front ps l o r h el er eo e =
     }
 
 -- what the writer of a built plan answers and leaves
-pub laid-out : {ps o : List ℕ} {h : ℕ} (ts out out′ : List ℕ) (w : Written) → Front ps o h → w ≡ writeOf h ps ts (runsOf (take h o)) (length out) → out′ ≡ leftOf h ps ts (runsOf (take h o)) out
-    → (w ≡ builtBy ps ts (length out)) × (out′ ≡ leftBy w (planFile ps ts) out)
-unfolding builtBy planFile
+pub laid-out : {ps o : List ℕ} {h : ℕ} (ts out out′ : List ℕ) (w : Filling) → Front ps o h → w ≡ writeOf h ps ts (runsOf (take h o)) (length out) → out′ ≡ writtenLeft h ps ts (runsOf (take h o)) out
+    → (w ≡ writeBuiltOf ps ts (length out)) × (out′ ≡ leftBy w (planFile ps ts) out)
+unfolding writeBuiltOf planFile
 laid-out {ps} {o} {h} ts out out′ w f ew eo = (rw (f .is-built, ← f .is-plan) ew, rw (ew, ← f .is-plan, ← f .is-frame) eo)
 
-pub not-laid : (ps ts : List ℕ) (room : ℕ) (x : Refusal) → buildOf ps longest ≡ built.Refused x → Refused x ≡ builtBy ps ts room
-unfolding builtBy
+pub not-laid : (ps ts : List ℕ) (room : ℕ) (x : Refusal) → buildOf ps longest ≡ filling.Refused x → Refused x ≡ writeBuiltOf ps ts room
+unfolding writeBuiltOf
 not-laid ps ts room x e = rw e
 
--- AN ANSWER OF BYTES
+-- ---- an answer of bytes
 
 -- the tables are good, the plan is built, the writer wrote it
 pub record Planned (ps ts : List ℕ) (room n : ℕ) : Type 0 where
-  pub good : judgedOf ps ts ≡ judged.Good
-  pub built : buildOf ps longest ≡ built.Frame (frame ps)
-  pub written : writeOf (frame ps) ps ts (planRuns ps) room ≡ Bytes n
+  pub good : GoodTables longest ps ts
+  pub built : buildOf ps longest ≡ filling.Fills (frame ps)
+  pub written : writeOf (frame ps) ps ts (planRuns ps) room ≡ Fills n
 
-pub planned-so : (ps ts : List ℕ) (room n : ℕ) → planOf ps ts room ≡ Bytes n → Planned ps ts room n
-unfolding planOf builtBy
-planned-so ps ts room n e = judging (judgedOf ps ts) refl e
+no-bytes : (n : ℕ) (x : Refusal) → ¬ (Refused x ≡ Fills n)
+no-bytes n x e = let z : _≡_ {A = ℕ} 0 1 = cc in absurd (omega arith)
+
+pub planned-so : (ps ts : List ℕ) (room n : ℕ) → writePlanOf ps ts room ≡ Fills n → Planned ps ts room n
+unfolding writePlanOf writeBuiltOf
+planned-so ps ts room n e =
+    let g = unless-given longest ps ts Refused (writtenBy (buildOf ps longest) ps ts room) (Fills n) (no-bytes n Limits) (λ k. no-bytes n (Partition k)) (λ j. no-bytes n (Task j)) e in
+    building (g .0) (buildOf ps longest) refl (g .1)
   where
-    building : judgedOf ps ts ≡ judged.Good → (b : Built) → buildOf ps longest ≡ b → writtenBy b ps ts room ≡ Bytes n → Planned ps ts room n
-    building g (built.Frame h) f w = let a = laid ps longest h f in record { good = g; built = rw (a .is-frame) at f; written = rw (a .is-frame) at w }
-    building g (built.Refused x) f w = let z : _≡_ {A = ℕ} 0 1 = cc in absurd (omega arith)
-
-    judging : (j : Judged) → judgedOf ps ts ≡ j → unlessRefused j (writtenBy (buildOf ps longest) ps ts room) ≡ Bytes n → Planned ps ts room n
-    judging judged.Good g w = building g (buildOf ps longest) refl w
-    judging (judged.Refused x) g w = let z : _≡_ {A = ℕ} 0 1 = cc in absurd (omega arith)
+    building : GoodTables longest ps ts → (b : Filling) → buildOf ps longest ≡ b → writtenBy b ps ts room ≡ Fills n → Planned ps ts room n
+    building g (filling.Fills h) f w = let a = laid ps longest h f in record { good = g; built = rw (a .is-frame) at f; written = rw (a .is-frame) at w }
+    building g (filling.Refused x) f w = absurd (no-bytes n x w)
 
 -- how long the file is
-pub file-fits : (ps ts : List ℕ) (room n : ℕ) → planOf ps ts room ≡ Bytes n → (n ≡ length (planFile ps ts)) × (n ≤ room)
+pub file-fits : (ps ts : List ℕ) (room n : ℕ) → writePlanOf ps ts room ≡ Fills n → (n ≡ length (planFile ps ts)) × (n ≤ room)
 unfolding planFile
 file-fits ps ts room n e =
     let w = fit n (frame ps) ps ts (planRuns ps) room (planned-so ps ts room n e .written) in
     (w .is-size ∙ sym (file-length (frame ps) ps ts (planRuns ps)), rw (w .is-size) (w .room-left))
 
 -- the file put into the output, and the line of a refusal
-pub said-file : (ps ts out o : List ℕ) (w : Written) (n : ℕ) → w ≡ planOf ps ts (length out) → o ≡ leftBy w (planFile ps ts) out → w ≡ Bytes n → Put out 0 (saidOf ps ts (length out)) n o × (n ≤ max 128 (length out))
-unfolding saidOf
-said-file ps ts out o w n ew eo e =
-    let q : planOf ps ts (length out) ≡ Bytes n = sym ew ∙ e in
+pub file-put : (ps ts out o : List ℕ) (w : Filling) (n : ℕ) → w ≡ writePlanOf ps ts (length out) → o ≡ leftBy w (planFile ps ts) out → w ≡ Fills n → Put out 0 (fileOrLine ps ts (length out)) n o × (n ≤ max longestLine (length out))
+unfolding fileOrLine
+file-put ps ts out o w n ew eo e =
+    let q : writePlanOf ps ts (length out) ≡ Fills n = sym ew ∙ e in
     let f = file-fits ps ts (length out) n q in
     let s = planFile ps ts in
     let z : 0 + length s ≡ length s = omega arith in
     let g : o ≡ s ++ drop n out = rw e at eo in
     (rw q (record { place = omega (arith, f .0); bytes = g ∙ rw (f .0) (sym (sets-eq s out 0 (omega arith) ∙ rw z)) }), omega arith)
 
-pub said-line : (ps ts out o : List ℕ) {m : List ℕ} {r : ℕ} (w : Written) (x : Refusal) → w ≡ planOf ps ts (length out) → o ≡ leftBy w (planFile ps ts) out → w ≡ Refused x
-    → Put o 0 (refusedLine (told x .number)) r m → Put out 0 (saidOf ps ts (length out)) r m
-unfolding saidOf
-said-line ps ts out o w x ew eo e p =
-    let q : planOf ps ts (length out) ≡ Refused x = sym ew ∙ e in
+pub line-put : (ps ts out o : List ℕ) {m : List ℕ} {r : ℕ} (w : Filling) (x : Refusal) → w ≡ writePlanOf ps ts (length out) → o ≡ leftBy w (planFile ps ts) out → w ≡ Refused x
+    → Put o 0 (refusedLine x) r m → Put out 0 (fileOrLine ps ts (length out)) r m
+unfolding fileOrLine
+line-put ps ts out o w x ew eo e p =
+    let q : writePlanOf ps ts (length out) ≡ Refused x = sym ew ∙ e in
     let z : o ≡ out = rw e at eo in
     rw (q, ← z) p
 
--- A TEXT'S TABLES
+-- ---- a text's tables
 
-pub parts-front : (t l o : List ℕ) (r : Table) (a b p q : ℕ) → length l ≡ a → r ≡ readOf t a b → o ≡ text.leftBy r (tableOf Partitions t) l → r ≡ table.Numbers p q
+pub parts-front : (t l o : List ℕ) (r : TableReading) (a b p q : ℕ) → length l ≡ a → r ≡ readOf t a b → o ≡ text.leftBy r (tableOf Partitions t) l → r ≡ table.Numbers p q
     → (p ≤ length o) × (take p o ≡ tableOf Partitions t)
 parts-front t l o r a b p q el er eo e = let f = fits t a b p q (sym er ∙ e) in front (tableOf Partitions t) l o p (f .parts-are) (rw el (f .parts-fit)) (rw e at eo)
 
-pub tasks-front : (t l o : List ℕ) (r : Table) (a b p q : ℕ) → length l ≡ b → r ≡ readOf t a b → o ≡ text.leftBy r (tableOf Tasks t) l → r ≡ table.Numbers p q
+pub tasks-front : (t l o : List ℕ) (r : TableReading) (a b p q : ℕ) → length l ≡ b → r ≡ readOf t a b → o ≡ text.leftBy r (tableOf Tasks t) l → r ≡ table.Numbers p q
     → (q ≤ length o) × (take q o ≡ tableOf Tasks t)
 tasks-front t l o r a b p q el er eo e = let f = fits t a b p q (sym er ∙ e) in front (tableOf Tasks t) l o q (f .tasks-are) (rw el (f .tasks-fit)) (rw e at eo)
 
-pub answer-said : (t ps ts out : List ℕ) {o : List ℕ} {n : ℕ} (r : Table) (p q : ℕ) → r ≡ readOf t 48 512 → r ≡ table.Numbers p q → ps ≡ tableOf Partitions t → ts ≡ tableOf Tasks t
-    → Put out 0 (saidOf ps ts (length out)) n o → Put out 0 (answerOf t (length out)) n o
+pub answer-tables : (t ps ts out : List ℕ) {o : List ℕ} {n : ℕ} (r : TableReading) (p q : ℕ) → r ≡ readOf t (partWidth * mostPartitions) (taskWidth * mostTasks) → r ≡ table.Numbers p q → ps ≡ tableOf Partitions t → ts ≡ tableOf Tasks t
+    → Put out 0 (fileOrLine ps ts (length out)) n o → Put out 0 (answerOf t (length out)) n o
 unfolding answerOf
-answer-said t ps ts out r p q er e ep et s = rw (sym er ∙ e, ← ep, ← et) s
+answer-tables t ps ts out r p q er e ep et s = rw (sym er ∙ e, ← ep, ← et) s
 
-pub answer-line : (t out : List ℕ) {o : List ℕ} {n : ℕ} (r : Table) (k : ℕ) (what : What) → r ≡ readOf t 48 512 → r ≡ table.Expected k what
+pub answer-line : (t out : List ℕ) {o : List ℕ} {n : ℕ} (r : TableReading) (k : ℕ) (what : What) → r ≡ readOf t (partWidth * mostPartitions) (taskWidth * mostTasks) → r ≡ table.Expected k what
     → Put out 0 (expectedLine k what) n o → Put out 0 (answerOf t (length out)) n o
 unfolding answerOf
 answer-line t out r k what er e s = rw (sym er ∙ e) s
 
-pub answer-refused : (t out : List ℕ) {o : List ℕ} {n : ℕ} (r : Table) (x : Refusal) → r ≡ readOf t 48 512 → r ≡ table.Refused x
-    → Put out 0 (refusedLine (told x .number)) n o → Put out 0 (answerOf t (length out)) n o
+pub answer-refused : (t out : List ℕ) {o : List ℕ} {n : ℕ} (r : TableReading) (x : Refusal) → r ≡ readOf t (partWidth * mostPartitions) (taskWidth * mostTasks) → r ≡ table.Refused x
+    → Put out 0 (refusedLine x) n o → Put out 0 (answerOf t (length out)) n o
 unfolding answerOf
 answer-refused t out r x er e s = rw (sym er ∙ e) s

@@ -2,43 +2,41 @@
 use Prim.Native.Nat.{ℕ, _≤_}
 use mathlib.Core.Path.{_≡_}
 use mathlib.Core.Logic.{_↔_}
-use mathlib.Core.Bool.{true}
 use mathlib.Core.List.{List}
 use lib.ListN.{length}
 use Rattle.rules.specs.Limits.{longest}
-use Rattle.rules.specs.Table.{partitions, tasks, tasksCounted, firstBadTask}
-use Rattle.theory.specs.Harmonic.{Harmonic, frame, load, harmonicPlan}
-use Rattle.plan_service.specs.declared.Checked.the-variants.{Serves}
-use Rattle.plan_service.specs.Check.{checkOf}
-use Rattle.plan_build.specs.Theorems.{GoodTable}
-use Rattle.file_codec.specs.declared.Written.the-variants.{Bytes}
-use Rattle.file_codec.specs.declared.Reading.the-variants.{Contents}
-use Rattle.file_codec.specs.declared.Body.the-variants as body
-use Rattle.file_codec.specs.Reader as file
+use Rattle.rules.specs.Table.{partitions, tasks}
+use Rattle.rules.specs.Tables.{GoodTables}
+use Rattle.theory.specs.Harmonic.{Harmonic, frame, allWanted, harmonicPlan}
+use Rattle.rules.specs.declared.Finding.the-variants.{Good}
+use Rattle.plan_check.specs.Check.{checkOf}
+use Rattle.rules.specs.declared.Filling.the-variants.{Fills}
+use Rattle.file_read.specs.declared.Reading.the-variants.{Contents}
+use Rattle.file_read.specs.declared.Body.the-variants as body
+use Rattle.file_read.specs.Reader as file
 use Rattle.file_codec.specs.Runs.{runs}
-use Rattle.file_codec.specs.Writer.{sizeFor}
-use Rattle.file_runs.specs.Put.{Put}
+use Rattle.file_write.specs.Writer.{sizeFor}
+use Rattle.output.specs.Put.{Put}
 use Rattle.file_runs.specs.Ticks.{ticksOf}
-use Rattle.share_plan.specs.Answer.{planRuns, planFile, planOf, answerOf}
+use Rattle.share_plan.specs.Answer.{planRuns, planFile, writePlanOf, answerOf}
 
 -- a file that comes out is accepted by the reader, with the table's records and the harmonic rule's plan; and "what the harmonic rule writes is always accepted" by the checker
 abbrev pub FileServes : Type 0
 FileServes =
-    (ps ts : List ℕ) (room n : ℕ) → planOf ps ts room ≡ Bytes n
+    (ps ts : List ℕ) (room n : ℕ) → writePlanOf ps ts room ≡ Fills n
     → (length (planFile ps ts) ≡ n)
     × (file.readOf (planFile ps ts) ≡ Contents (frame ps) (partitions ps) (tasks ts) (runs (planRuns ps)))
     × (file.tableOf (planFile ps ts) body.Partitions ≡ ps)
     × (file.tableOf (planFile ps ts) body.Tasks ≡ ts)
     × (ticksOf (file.tableOf (planFile ps ts) body.Runs) ≡ harmonicPlan ps)
-    × (checkOf (ticksOf (file.tableOf (planFile ps ts) body.Runs)) (file.tableOf (planFile ps ts) body.Partitions) ≡ Serves)
+    × (checkOf (ticksOf (file.tableOf (planFile ps ts) body.Runs)) (file.tableOf (planFile ps ts) body.Partitions) ≡ Good)
 
 -- a file comes out exactly when the records are good, the cycles harmonic, the ticks enough, and the output long enough: the writer refuses no plan of the builder
 abbrev pub FileExactly : Type 0
 FileExactly =
     (ps ts : List ℕ) (room n : ℕ)
-    → (planOf ps ts room ≡ Bytes n)
-    ↔ (GoodTable ps × (tasksCounted ts ≡ true) × (firstBadTask (partitions ps) ts ≡ tasks ts) × Harmonic ps × (load ps (frame ps) ≤ frame ps)
-    × (n ≡ sizeFor ps ts (planRuns ps)) × (n ≤ room))
+    → (writePlanOf ps ts room ≡ Fills n)
+    ↔ (GoodTables longest ps ts × Harmonic ps × (allWanted ps (frame ps) ≤ frame ps) × (n ≡ sizeFor ps ts (planRuns ps)) × (n ≤ room))
 
 -- "any two outcomes it permits are equal"
 abbrev pub OneAnswer : Type 0

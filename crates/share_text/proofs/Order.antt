@@ -1,34 +1,34 @@
 -- Laws of lines and of what is gathered from them. Assumes nothing.
 use Prim.Native.Nat.{ℕ, zero, suc, _+_, _-_, _≤_, _<_}
 use mathlib.Core.Path.{_≡_, refl, sym, ap, _∙_}
-use mathlib.Core.Bool.{Bool, true, false}
+use mathlib.Core.Bool.{Bool, false}
 use mathlib.Core.List.{List, [], _∷_, _++_, append-nil}
 use native.Mathlib.Numerals.{add-one}
 use native.Mathlib.Decide.{le-ind}
 use native.Mathlib.Omega.{arith}
 use lib.ListN.{length, take, drop}
 use lib.Seq.{drop-drop}
-use Rattle.share_text.proofs.Words.{tail}
+use Rattle.share_line.proofs.WordLaws.{tail}
 use lib.Dec.{ltb}
 use borrow.Author.Tests.{lt-ltb, le-ltb, ltb-false}
 use Rattle.rules.specs.declared.Refusal.the-variants.{Limits}
 use Rattle.rules.specs.Walk.{pick, first, gathered}
 use Rattle.rules.proofs.Tests.{pick-second}
-use Rattle.rules.proofs.First.{first-more, first-done, gathered-more}
-use Rattle.file_runs.specs.Put.{Put}
-use Rattle.file_runs.proofs.Put.{and-then}
-use Rattle.share_text.specs.declared.Mark.the-variants as mark
+use Rattle.rules.proofs.First.{first-more, gathered-more}
+use Rattle.output.specs.Put.{Put}
+use Rattle.output.proofs.Put.{and-then}
+use Rattle.share_line.specs.declared.Mark.the-variants as mark
 use Rattle.share_text.specs.declared.Seen.{Seen}
 use Rattle.share_text.specs.declared.Seen.the-variants.{Good, Line}
-use Rattle.share_text.specs.declared.What.{What}
+use Rattle.share_line.specs.declared.What.{What}
 use Rattle.share_text.specs.declared.Kind.{Kind}
 use Rattle.share_text.specs.declared.Kind.the-variants.{Partitions, Tasks}
-use Rattle.share_text.specs.declared.Row.{Row}
-use Rattle.share_text.specs.declared.Row.the-variants.{Nothing, Wrong}
-use Rattle.share_text.specs.declared.Table.{Table}
-use Rattle.share_text.specs.declared.Table.the-variants.{Numbers, Refused}
-use Rattle.share_text.specs.Words.{found, width, wordOf}
-use Rattle.share_text.specs.Rows.{recordOf, rowOf, isWrong, whatOf}
+use Rattle.share_line.specs.declared.Row.{Row}
+use Rattle.share_line.specs.declared.Row.the-variants.{Nothing, Wrong}
+use Rattle.share_text.specs.declared.TableReading.{TableReading}
+use Rattle.share_text.specs.declared.TableReading.the-variants.{Numbers, Refused}
+use Rattle.share_line.specs.Words.{found, width, wordOf}
+use Rattle.share_line.specs.Rows.{recordOf, rowOf, isWrong, whatOf}
 use Rattle.share_text.specs.Table.{lineOf, afterLine, fromLine, rowAt, wrongAt, firstWrong, numsIn, numsAt, tableOf, longestText, seenOf, sizedOf, readBy, readOf}
 
 pub drop-all : (n : ℕ) (l : List ℕ) → length l ≤ n → drop n l ≡ []
@@ -93,7 +93,7 @@ row-empty t k j h e = rw (left-empty t k j h e) empty-row
 past : {t : List ℕ} {at k : ℕ} → Reached t at k → length t ≤ at → fromLine t k ≡ []
 past {t} {at} a l = sym (a .from) ∙ drop-all at t l
 
--- WRONG LINES
+-- ---- wrong lines
 
 first-rest : (p : ℕ → Bool) (k n : ℕ) → k ≤ n → first p k ≡ k → ((j : ℕ) → k ≤ j → p j ≡ false) → first p n ≡ n
 first-rest p k n h e f = le-ind {n = k} (λ m. first p m ≡ m) e (λ m l i. sym (ap (first p) (add-one m)) ∙ first-more p m i (f m l) ∙ add-one m) n h
@@ -111,7 +111,7 @@ pub wrong-is : (t : List ℕ) (k : ℕ) {row : Row} {r b : Bool} → row ≡ row
 unfolding wrongAt
 wrong-is t k e f g = sym (ap isWrong e) ∙ sym f ∙ g
 
--- GATHERED
+-- ---- what is gathered
 
 pub nums-nothing : (kind : Kind) → numsIn kind Nothing ≡ []
 nums-nothing Partitions = refl
@@ -138,7 +138,7 @@ pub gather-end : (kind : Kind) {t : List ℕ} {at k : ℕ} → Reached t at k �
 unfolding tableOf numsAt
 gather-end kind {t} {at} {k} a h l = sym (gathered-rest (numsAt kind t) k (length t) (omega (arith, a .within)) (λ j m. ap (numsIn kind) (row-empty t k j m (past a l)) ∙ nums-nothing kind))
 
--- WHAT AN ANSWER OF NUMBERS SAYS
+-- ---- what an answer of numbers says
 
 -- the text is no longer than a text may be, and both tables fit
 pub record Fits (t : List ℕ) (parts tasks p q : ℕ) : Type 0 where
@@ -148,7 +148,7 @@ pub record Fits (t : List ℕ) (parts tasks p q : ℕ) : Type 0 where
   pub tasks-are : q ≡ length (tableOf Tasks t)
   pub tasks-fit : q ≤ tasks
 
-seen-good : (s : Seen) (x : Table) (p q : ℕ) → readBy s x ≡ Numbers p q → x ≡ Numbers p q
+seen-good : (s : Seen) (x : TableReading) (p q : ℕ) → readBy s x ≡ Numbers p q → x ≡ Numbers p q
 seen-good Good x p q e = e
 seen-good (Line number what) x p q e = let z : _≡_ {A = ℕ} 0 1 = cc in absurd (omega arith)
 
@@ -160,8 +160,8 @@ unfolding readOf sizedOf
 fits t parts tasks p q e =
     let n = length (tableOf Partitions t) in
     let m = length (tableOf Tasks t) in
-    let y2 : Table = pick (ltb tasks m) (Refused Limits) (Numbers n m) in
-    let y1 : Table = pick (ltb parts n) (Refused Limits) y2 in
+    let y2 : TableReading = pick (ltb tasks m) (Refused Limits) (Numbers n m) in
+    let y1 : TableReading = pick (ltb parts n) (Refused Limits) y2 in
     let e1 = pick-second (ltb longestText (length t)) (Refused Limits) (readBy (seenOf t) y1) (Numbers p q) (not-refused p q) e in
     let e2 = pick-second (ltb parts n) (Refused Limits) y2 (Numbers p q) (not-refused p q) (seen-good (seenOf t) y1 p q (e1 .1)) in
     let e3 = pick-second (ltb tasks m) (Refused Limits) (Numbers n m) (Numbers p q) (not-refused p q) (e2 .1) in

@@ -7,17 +7,17 @@ use lib.Seq.{sets}
 use lib.Dec.{ltb}
 use Rattle.rules.specs.Walk.{pick, first, gathered}
 use Rattle.rules.specs.declared.Refusal.the-variants.{Limits}
-use Rattle.share_text.specs.declared.Mark.the-variants as mark
+use Rattle.share_line.specs.declared.Mark.the-variants as mark
 use Rattle.share_text.specs.declared.Seen.{Seen}
 use Rattle.share_text.specs.declared.Seen.the-variants.{Good, Line}
 use Rattle.share_text.specs.declared.Kind.{Kind}
 use Rattle.share_text.specs.declared.Kind.the-variants.{Partitions, Tasks}
-use Rattle.share_text.specs.declared.Row.{Row}
-use Rattle.share_text.specs.declared.Row.the-variants.{Nothing, Partition, Task, Wrong}
-use Rattle.share_text.specs.declared.Table.{Table}
-use Rattle.share_text.specs.declared.Table.the-variants.{Numbers, Expected, Refused}
-use Rattle.share_text.specs.Words.{found}
-use Rattle.share_text.specs.Rows.{rowOf, isWrong, whatOf}
+use Rattle.share_line.specs.declared.Row.{Row}
+use Rattle.share_line.specs.declared.Row.the-variants.{Nothing, Partition, Task, Wrong}
+use Rattle.share_text.specs.declared.TableReading.{TableReading}
+use Rattle.share_text.specs.declared.TableReading.the-variants.{Numbers, Expected, Refused}
+use Rattle.share_line.specs.Words.{found}
+use Rattle.share_line.specs.Rows.{rowOf, isWrong, whatOf}
 
 -- the first line of a text, and the text behind its newline
 unfoldable pub lineOf : List ℕ → List ℕ
@@ -60,6 +60,7 @@ numsAt kind t k = numsIn kind (rowAt t k)
 unfoldable pub tableOf : Kind → List ℕ → List ℕ
 tableOf kind t = gathered (numsAt kind t) (length t)
 
+-- in bytes: a longer text is not read
 abbrev pub longestText : ℕ
 longestText = 65536
 
@@ -68,22 +69,22 @@ unfoldable pub seenOf : List ℕ → Seen
 seenOf t = pick (ltb (firstWrong t) (length t)) (Line (firstWrong t + 1) (whatOf (rowAt t (firstWrong t)))) Good
 
 -- how many numbers there are of each kind, where the lent tables have room for so many; "a count outside its limits" where they have not
-unfoldable pub sizedOf : List ℕ → ℕ → ℕ → Table
+unfoldable pub sizedOf : List ℕ → ℕ → ℕ → TableReading
 sizedOf t parts tasks =
     pick (ltb parts (length (tableOf Partitions t))) (Refused Limits)
     (pick (ltb tasks (length (tableOf Tasks t))) (Refused Limits)
     (Numbers (length (tableOf Partitions t)) (length (tableOf Tasks t))))
 
-abbrev pub readBy : Seen → Table → Table
+abbrev pub readBy : Seen → TableReading → TableReading
 readBy Good sized = sized
 readBy (Line number what) sized = Expected number what
 
 -- the answer: a text too long to be read, a wrong line, or the numbers
-unfoldable pub readOf : List ℕ → ℕ → ℕ → Table
+unfoldable pub readOf : List ℕ → ℕ → ℕ → TableReading
 readOf t parts tasks = pick (ltb longestText (length t)) (Refused Limits) (readBy (seenOf t) (sizedOf t parts tasks))
 
 -- what a lent table then holds: its kind's records in front, where all of them fit
-abbrev pub leftBy : Table → List ℕ → List ℕ → List ℕ
+abbrev pub leftBy : TableReading → List ℕ → List ℕ → List ℕ
 leftBy (Numbers p t) nums out = sets out 0 nums
 leftBy (Expected line what) nums out = out
 leftBy (Refused r) nums out = out

@@ -2,28 +2,31 @@
 use Prim.Native.Nat.{ℕ, _-_, _≤_, _<_}
 use mathlib.Core.Path.{_≡_, refl, sym, _∙_}
 use mathlib.Core.Bool.{Bool, true, false, _&&_}
-use mathlib.Core.List.{List}
+use mathlib.Core.List.{List, []}
 use native.Mathlib.Omega.{arith}
-use lib.Dec.{leb, ltb}
+use lib.Dec.{leb}
 use lib.ListN.{length}
-use borrow.Author.Tests.{le-ltb, le-leb, lt-leb, ltb-false, leb-true, leb-false, not-false}
+use borrow.Author.Tests.{le-leb, lt-leb, leb-true, leb-false}
 use Rattle.rules.specs.Walk.{pick}
-use Rattle.rules.specs.Table.{partitions, tasks, deadline, partsCounted, tasksCounted, frameGood, badTask, badPart, firstBadPart, firstBadTask}
+use Rattle.rules.specs.Table.{partitions, tasks, deadline}
+use Rattle.rules.specs.Tables.{unless, GoodTables}
 use Rattle.rules.specs.declared.Refusal.{Refusal}
-use Rattle.rules.specs.declared.Refusal.the-variants.{Limits}
-use Rattle.rules.proofs.First.{first-none, first-past}
+use Rattle.rules.specs.declared.Refusal.the-variants.{Limits, Partition, Task}
+use Rattle.rules.proofs.Chain.{without-tasks, unless-given, unless-good}
 use Rattle.rules.proofs.Tests.{pick-first, pick-second, and-parts}
 use Rattle.theory.specs.Plan.{own}
-use Rattle.theory.specs.Task.{Passes, firstPoint}
-use Rattle.theory.proofs.Tasks.{points-enough, point-smallest, point-passes, run-theorem, endless-theorem}
-use Rattle.plan_service.specs.declared.Checked.{Checked}
-use Rattle.plan_service.specs.declared.Checked.the-variants as checked
-use Rattle.plan_service.specs.Check.{planOf, checkOf}
-use Rattle.plan_service.proofs.Answers.{check-serves, frame-some}
+use Rattle.theory.specs.Task.{taskLoad, TaskPasses, taskPoint}
+use Rattle.theory.proofs.Points.{point-smallest}
+use Rattle.theory.proofs.Tasks.{task-last, points-enough, run-theorem, endless-theorem}
+use Rattle.rules.specs.declared.Finding.{Finding}
+use Rattle.rules.specs.declared.Finding.the-variants as found
+use Rattle.plan_check.specs.Check.{planCheckOf, checkOf}
+use Rattle.plan_check.proofs.Answers.{frame-some}
 use Rattle.task_verdict.specs.declared.Judged.{Judged}
 use Rattle.task_verdict.specs.declared.Judged.the-variants.{Pass, Fail, Refused}
-use Rattle.task_verdict.specs.Verdict.{taskOf, after, inside, placeOf, verdictOf}
+use Rattle.task_verdict.specs.Verdict.{taskOf, placeOf, verdictOf}
 use Rattle.task_verdict.specs.Theorems.{Answered, AnsweredExactly, PassExactly, FailExactly, PassPoint, EndsInTime, EndsInTimeForEver, VerdictOne, Proved}
+use Rattle.theory.specs.Contracts.{leastFor}
 
 -- no refusal
 abbrev Given : Judged → Type 0
@@ -35,69 +38,61 @@ pass-given t r e = let z : _≡_ {A = ℕ} 0 1 = cc in absurd (omega arith)
 fail-given : Given Fail
 fail-given r e = let z : _≡_ {A = ℕ} 0 1 = cc in absurd (omega arith)
 
-after-given : (c : Checked) (j z : Judged) → Given z → after c j ≡ z → (c ≡ checked.Serves) × (j ≡ z)
-after-given checked.Serves j z g e = (refl, e)
-after-given (checked.Refused r) j z g e = absurd (g r e)
+after-given : (c : Finding) (j z : Judged) → Given z → unless Refused c j ≡ z → (c ≡ found.Good) × (j ≡ z)
+after-given found.Good j z g e = (refl, e)
+after-given (found.Refused r) j z g e = absurd (g r e)
 
 module _ (plan ps ts : List ℕ) (place : ℕ) where
+  -- of good tables the checker has 8 and 9 to answer
+  checked-plan : GoodTables (length plan) ps ts → checkOf plan ps ≡ planCheckOf plan ps
+  unfolding checkOf
+  checked-plan g = unless-good (length plan) ps [] found.Refused (planCheckOf plan ps) (without-tasks (length plan) ps ts g)
+
   -- what a verdict that is given says of the input
   given : (z : Judged) → Given z → verdictOf plan ps ts place ≡ z → Answered plan ps ts place × (taskOf plan ts (place - 1) ≡ z)
-  unfolding verdictOf placeOf inside checkOf badTask
+  unfolding verdictOf placeOf
   given z g e =
-      let a = pick-first (frameGood (length plan) && partsCounted ps && tasksCounted ts) _ _ z (g Limits) e in
-      let l = and-parts (frameGood (length plan) && partsCounted ps) (tasksCounted ts) (a .0) in
-      let b = pick-second (ltb (firstBadPart (length plan) ps) (partitions ps)) _ _ z (g _) (a .1) in
-      let d = pick-second (ltb (firstBadTask (partitions ps) ts) (tasks ts)) _ _ z (g _) (b .1) in
-      let p = pick-first (leb 1 place && leb place (tasks ts)) _ _ z (g _) (d .1) in
+      let a = unless-given (length plan) ps ts Refused (placeOf plan ps ts place) z (g Limits) (λ k. g (Partition k)) (λ j. g (Task j)) e in
+      let p = pick-first (leb 1 place && leb place (tasks ts)) _ _ z (g _) (a .1) in
       let i = and-parts (leb 1 place) (leb place (tasks ts)) (p .0) in
-      let s = after-given (planOf plan ps) (taskOf plan ts (place - 1)) z g (p .1) in (
+      let s = after-given (planCheckOf plan ps) (taskOf plan ts (place - 1)) z g (p .1) in (
         record {
-          accepted = rw (l .0, b .0) (s .0);
-          counted = l .1;
-          good = λ j h. not-false _ (first-past (badTask (partitions ps) ts) (tasks ts) (ltb-false _ _ (d .0)) j h);
+          accepted = checked-plan (a .0) ∙ s .0;
+          good = a .0;
           from-1 = leb-true 1 place (i .0);
           listed = leb-true place (tasks ts) (i .1);
         },
         s .1,
       )
 
-  -- an accepted plan has neither 8 nor 9
-  served : checkOf plan ps ≡ checked.Serves → planOf plan ps ≡ checked.Serves
-  unfolding checkOf
-  served e =
-      let a = pick-first (frameGood (length plan) && partsCounted ps) _ _ checked.Serves (λ q. let z : _≡_ {A = ℕ} 0 1 = cc in absurd (omega arith)) e in
-      pick-second (ltb (firstBadPart (length plan) ps) (partitions ps)) _ _ checked.Serves (λ q. let z : _≡_ {A = ℕ} 0 1 = cc in absurd (omega arith)) (a .1) .1
-
   -- and from there the task's own answer is given
   pub answer : Answered plan ps ts place → verdictOf plan ps ts place ≡ taskOf plan ts (place - 1)
-  unfolding verdictOf placeOf inside badPart badTask
+  unfolding verdictOf placeOf
   answer a =
-      let g = check-serves plan ps .0 (a .accepted) .0 in
-      let p : firstBadPart (length plan) ps ≡ partitions ps = first-none (badPart (length plan) ps) (partitions ps) (λ k l. rw (g .parts k l)) in
-      let t : firstBadTask (partitions ps) ts ≡ tasks ts = first-none (badTask (partitions ps) ts) (tasks ts) (λ j l. rw (a .good j l)) in
-      rw (g .frame, g .counted, a .counted, p, le-ltb (partitions ps) (partitions ps) (omega arith), t, le-ltb (tasks ts) (tasks ts) (omega arith), le-leb 1 place (a .from-1), le-leb place (tasks ts) (a .listed), served (a .accepted))
+      unless-good (length plan) ps ts Refused (placeOf plan ps ts place) (a .good)
+      ∙ rw (le-leb 1 place (a .from-1), le-leb place (tasks ts) (a .listed), sym (checked-plan (a .good)) ∙ a .accepted)
 
 -- ---- the task's own answer
 
 module _ (plan ts : List ℕ) (i : ℕ) where
-  pass-at : (t : ℕ) → taskOf plan ts i ≡ Pass t → (t ≡ firstPoint own plan ts i) × (firstPoint own plan ts i ≤ deadline ts i)
+  pass-at : (t : ℕ) → taskOf plan ts i ≡ Pass t → (t ≡ taskPoint own plan ts i) × (taskPoint own plan ts i ≤ deadline ts i)
   unfolding taskOf
   pass-at t e =
-      let a = pick-first (leb (firstPoint own plan ts i) (deadline ts i)) _ _ (Pass t) (λ q. let z : _≡_ {A = ℕ} 0 1 = cc in absurd (omega arith)) e in
-      let f : t ≡ firstPoint own plan ts i = cc (a .1) in
+      let a = pick-first (leb (taskPoint own plan ts i) (deadline ts i)) _ _ (Pass t) (λ q. let z : _≡_ {A = ℕ} 0 1 = cc in absurd (omega arith)) e in
+      let f : t ≡ taskPoint own plan ts i = cc (a .1) in
       (f, leb-true _ _ (a .0))
 
-  is-pass : firstPoint own plan ts i ≤ deadline ts i → taskOf plan ts i ≡ Pass (firstPoint own plan ts i)
+  is-pass : taskPoint own plan ts i ≤ deadline ts i → taskOf plan ts i ≡ Pass (taskPoint own plan ts i)
   unfolding taskOf
   is-pass h = rw (le-leb _ _ h)
 
-  fail-at : taskOf plan ts i ≡ Fail → deadline ts i < firstPoint own plan ts i
+  fail-at : taskOf plan ts i ≡ Fail → deadline ts i < taskPoint own plan ts i
   unfolding taskOf
   fail-at e =
-      let a = pick-second (leb (firstPoint own plan ts i) (deadline ts i)) _ _ Fail (λ q. let z : _≡_ {A = ℕ} 0 1 = cc in absurd (omega arith)) e in
+      let a = pick-second (leb (taskPoint own plan ts i) (deadline ts i)) _ _ Fail (λ q. let z : _≡_ {A = ℕ} 0 1 = cc in absurd (omega arith)) e in
       leb-false _ _ (a .0)
 
-  is-fail : deadline ts i < firstPoint own plan ts i → taskOf plan ts i ≡ Fail
+  is-fail : deadline ts i < taskPoint own plan ts i → taskOf plan ts i ≡ Fail
   unfolding taskOf
   is-fail h = rw (lt-leb _ _ h)
 
@@ -109,32 +104,32 @@ module _ (plan ps ts : List ℕ) (place : ℕ) where
 
   not-task-refused : (r : Refusal) → ¬ (taskOf plan ts (place - 1) ≡ Refused r)
   unfolding taskOf
-  not-task-refused r = at (leb (firstPoint own plan ts (place - 1)) (deadline ts (place - 1)))
+  not-task-refused r = at (leb (taskPoint own plan ts (place - 1)) (deadline ts (place - 1)))
     where
-      at : (b : Bool) → ¬ (pick b (Pass (firstPoint own plan ts (place - 1))) Fail ≡ Refused r)
+      at : (b : Bool) → ¬ (pick b (Pass (taskPoint own plan ts (place - 1))) Fail ≡ Refused r)
       at true e = let z : _≡_ {A = ℕ} 0 1 = cc in absurd (omega arith)
       at false e = let z : _≡_ {A = ℕ} 0 1 = cc in absurd (omega arith)
 
-  passed : (t : ℕ) → verdictOf plan ps ts place ≡ Pass t → Answered plan ps ts place × Passes own plan ts (place - 1)
+  passed : (t : ℕ) → verdictOf plan ps ts place ≡ Pass t → Answered plan ps ts place × TaskPasses own plan ts (place - 1)
   passed t e =
       let w = given plan ps ts place (Pass t) (pass-given t) e in
-      (w .0, point-passes own plan ts (place - 1) (pass-at plan ts (place - 1) t (w .1) .1))
+      (w .0, points-enough own plan ts (partitions ps) (w .0 .good .tasks) (place - 1) (within (w .0)) .1 (pass-at plan ts (place - 1) t (w .1) .1))
 
-  passes : Answered plan ps ts place × Passes own plan ts (place - 1) → (t : ℕ) × (verdictOf plan ps ts place ≡ Pass t)
+  passes : Answered plan ps ts place × TaskPasses own plan ts (place - 1) → (t : ℕ) × (verdictOf plan ps ts place ≡ Pass t)
   passes (a, p) =
-      let h = points-enough own plan ts (partitions ps) (a .good) (place - 1) (within a) .0 p in
-      (firstPoint own plan ts (place - 1), answer plan ps ts place a ∙ is-pass plan ts (place - 1) h)
+      let h = points-enough own plan ts (partitions ps) (a .good .tasks) (place - 1) (within a) .0 p in
+      (taskPoint own plan ts (place - 1), answer plan ps ts place a ∙ is-pass plan ts (place - 1) h)
 
-  failed : verdictOf plan ps ts place ≡ Fail → Answered plan ps ts place × ¬ Passes own plan ts (place - 1)
+  failed : verdictOf plan ps ts place ≡ Fail → Answered plan ps ts place × ¬ TaskPasses own plan ts (place - 1)
   failed e =
       let w = given plan ps ts place Fail fail-given e in
-      (w .0, λ p. let h = points-enough own plan ts (partitions ps) (w .0 .good) (place - 1) (within (w .0)) .0 p in absurd (omega (arith, h, fail-at plan ts (place - 1) (w .1))))
+      (w .0, λ p. let h = points-enough own plan ts (partitions ps) (w .0 .good .tasks) (place - 1) (within (w .0)) .0 p in absurd (omega (arith, h, fail-at plan ts (place - 1) (w .1))))
 
-  fails : Answered plan ps ts place × ¬ Passes own plan ts (place - 1) → verdictOf plan ps ts place ≡ Fail
-  fails (a, n) = answer plan ps ts place a ∙ at (leb (firstPoint own plan ts (place - 1)) (deadline ts (place - 1))) refl
+  fails : Answered plan ps ts place × ¬ TaskPasses own plan ts (place - 1) → verdictOf plan ps ts place ≡ Fail
+  fails (a, n) = answer plan ps ts place a ∙ at (leb (taskPoint own plan ts (place - 1)) (deadline ts (place - 1))) refl
     where
-      at : (b : Bool) → leb (firstPoint own plan ts (place - 1)) (deadline ts (place - 1)) ≡ b → taskOf plan ts (place - 1) ≡ Fail
-      at true e = absurd (n (point-passes own plan ts (place - 1) (leb-true _ _ e)))
+      at : (b : Bool) → leb (taskPoint own plan ts (place - 1)) (deadline ts (place - 1)) ≡ b → taskOf plan ts (place - 1) ≡ Fail
+      at true e = absurd (n (points-enough own plan ts (partitions ps) (a .good .tasks) (place - 1) (within a) .1 (leb-true _ _ e)))
       at false e = is-fail plan ts (place - 1) (leb-false _ _ e)
 
 pub answered-exactly : AnsweredExactly
@@ -153,19 +148,17 @@ pub pass-point : PassPoint
 pass-point plan ps ts place t e =
     let w = given plan ps ts place (Pass t) (pass-given t) e in
     let p = pass-at plan ts (place - 1) t (w .1) in
-    rw (p .0) (point-smallest own plan ts (place - 1) (p .1))
+    rw (p .0) (point-smallest (taskLoad ts) (leastFor own plan ts (place - 1)) (place - 1) (omega (arith, p .1, task-last ts (place - 1))))
 
 pub ends-in-time : EndsInTime
 ends-in-time plan ps ts place t c v N start work ran legal r h =
     let w = passed plan ps ts place t v in
-    let g = check-serves plan ps .0 c .0 in
-    run-theorem own plan ts (partitions ps) (frame-some (length plan) (g .frame)) (w .0 .good) (place - 1) (within plan ps ts place (w .0)) (w .1) N start work ran legal r h
+    run-theorem own plan ts (partitions ps) (frame-some ps ts (w .0 .good)) (w .0 .good .tasks) (place - 1) (within plan ps ts place (w .0)) (w .1) N start work ran legal r h
 
 pub ends-in-time-for-ever : EndsInTimeForEver
 ends-in-time-for-ever plan ps ts place t c v start work ran legal r =
     let w = passed plan ps ts place t v in
-    let g = check-serves plan ps .0 c .0 in
-    endless-theorem own plan ts (partitions ps) (frame-some (length plan) (g .frame)) (w .0 .good) (place - 1) (within plan ps ts place (w .0)) (w .1) start work ran legal r
+    endless-theorem own plan ts (partitions ps) (frame-some ps ts (w .0 .good)) (w .0 .good .tasks) (place - 1) (within plan ps ts place (w .0)) (w .1) start work ran legal r
 
 pub verdict-one : VerdictOne
 verdict-one plan ps ts place r r′ e f = e ∙ sym f

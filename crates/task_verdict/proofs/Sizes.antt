@@ -12,7 +12,10 @@ use Rattle.rules.proofs.First.{first-found, first-done}
 use Rattle.rules.proofs.Round.{round-least}
 use Rattle.rules.proofs.Sum.{only-true, only-false}
 use Rattle.theory.specs.Plan.{own}
-use Rattle.theory.specs.Task.{rival, asked, multiple, pointFits, firstPoint}
+use Rattle.theory.specs.Load.{asked, multiple, pointFits}
+use Rattle.theory.specs.Task.{rival, taskLoad, taskPoint}
+use Rattle.theory.proofs.Tasks.{task-asked, task-multiple, task-first}
+use Rattle.theory.specs.Contracts.{leastFor}
 
 -- rounded up, t/T is no more than t
 pub times-small : (t p : ℕ) → 0 < p → roundUp t p ≤ t
@@ -31,31 +34,25 @@ asked-small c n h k =
     omega arith
 
 module _ (ts : List ℕ) (i t j : ℕ) where
-  pub asked-is : (c w p n : ℕ) → rival ts i j ≡ true → c ≡ budget ts j → w ≡ c → p ≡ period ts j → n ≡ roundUp t p → w * n ≡ asked ts i t j
-  unfolding asked
-  asked-is c w p n r ec ew ep en = rw (only-true (rival ts i j) (budget ts j * roundUp t (period ts j)) r, ← ep, ← en, ← ec, ew)
+  pub asked-is : (c w p n : ℕ) → rival ts i j ≡ true → c ≡ budget ts j → w ≡ c → p ≡ period ts j → n ≡ roundUp t p → w * n ≡ asked (taskLoad ts) i t j
+  asked-is c w p n r ec ew ep en = rw (task-asked ts i t j, only-true (rival ts i j) (budget ts j * roundUp t (period ts j)) r, ← ep, ← en, ← ec, ew)
 
-  pub asked-none : rival ts i j ≡ false → 0 ≡ asked ts i t j
-  unfolding asked
-  asked-none r = sym (only-false (rival ts i j) (budget ts j * roundUp t (period ts j)) r)
+  pub asked-none : rival ts i j ≡ false → 0 ≡ asked (taskLoad ts) i t j
+  asked-none r = rw (task-asked ts i t j, only-false (rival ts i j) (budget ts j * roundUp t (period ts j)) r)
 
-  pub multiple-is : (p : ℕ) (b : Bool) → rival ts i j ≡ true → p ≡ period ts j → b ≡ eqb (t % p) 0 → b ≡ multiple ts i t j
-  unfolding multiple
-  multiple-is p b r ep eb = rw (r, ← ep) eb
+  pub multiple-is : (p : ℕ) (b : Bool) → rival ts i j ≡ true → p ≡ period ts j → b ≡ eqb (t % p) 0 → b ≡ multiple (taskLoad ts) i t j
+  multiple-is p b r ep eb = rw (task-multiple ts i t j, r, ← ep) eb
 
-  pub multiple-none : rival ts i j ≡ false → false ≡ multiple ts i t j
-  unfolding multiple
-  multiple-none r = rw r
+  pub multiple-none : rival ts i j ≡ false → false ≡ multiple (taskLoad ts) i t j
+  multiple-none r = rw (task-multiple ts i t j, r)
 
 -- the search for a point, at the numbers that the code holds
 module _ (plan ts : List ℕ) (i d : ℕ) (e : d ≡ deadline ts i) where
   past : d + 1 ≡ suc (deadline ts i)
   past = omega arith
 
-  pub point-found : (t : ℕ) → t < d + 1 → first (pointFits own plan ts i) t ≡ t → pointFits own plan ts i t ≡ true → t ≡ firstPoint own plan ts i
-  unfolding firstPoint
-  point-found t l f h = sym (first-found (pointFits own plan ts i) (suc (deadline ts i)) t (omega (arith, past)) f h)
+  pub point-found : (t : ℕ) → t < d + 1 → first (pointFits (taskLoad ts) (leastFor own plan ts i) i) t ≡ t → pointFits (taskLoad ts) (leastFor own plan ts i) i t ≡ true → t ≡ taskPoint own plan ts i
+  point-found t l f h = rw (task-first ts i (leastFor own plan ts i)) (sym (first-found (pointFits (taskLoad ts) (leastFor own plan ts i) i) (suc (deadline ts i)) t (omega (arith, past)) f h))
 
-  pub point-done : (t : ℕ) → t ≤ d + 1 → d + 1 ≤ t → first (pointFits own plan ts i) t ≡ t → d + 1 ≡ firstPoint own plan ts i
-  unfolding firstPoint
-  point-done t l m f = past ∙ sym (first-done (pointFits own plan ts i) (suc (deadline ts i)) t (omega (arith, past)) (omega (arith, past)) f)
+  pub point-done : (t : ℕ) → t ≤ d + 1 → d + 1 ≤ t → first (pointFits (taskLoad ts) (leastFor own plan ts i) i) t ≡ t → d + 1 ≡ taskPoint own plan ts i
+  point-done t l m f = rw (task-first ts i (leastFor own plan ts i)) (past ∙ sym (first-done (pointFits (taskLoad ts) (leastFor own plan ts i) i) (suc (deadline ts i)) t (omega (arith, past)) (omega (arith, past)) f))

@@ -4,21 +4,23 @@ use mathlib.Core.Path.{_≡_}
 use mathlib.Core.Logic.{_↔_}
 use mathlib.Core.Bool.{true}
 use mathlib.Core.List.{List}
-use Rattle.rules.specs.Table.{partitions, tasks, deadline, tasksCounted}
-use Rattle.theory.specs.Plan.{own}
-use Rattle.theory.specs.Task.{GoodTasks, Passes, Fits, point}
+use lib.ListN.{length}
+use Rattle.rules.specs.Table.{partition, tasks, deadline}
+use Rattle.rules.specs.Tables.{GoodTables}
+use Rattle.theory.specs.Plan.{own, least}
 use Rattle.theory.specs.Run.{Ran, done, LegalTo, Legal}
-use Rattle.plan_service.specs.declared.Checked.the-variants as checked
-use Rattle.plan_service.specs.Check.{checkOf}
+use Rattle.theory.specs.Load.{demand, point}
+use Rattle.theory.specs.Task.{taskLoad, TaskPasses}
+use Rattle.rules.specs.declared.Finding.the-variants as found
+use Rattle.plan_check.specs.Check.{checkOf}
 use Rattle.task_verdict.specs.declared.Judged.{Judged}
 use Rattle.task_verdict.specs.declared.Judged.the-variants.{Pass, Fail, Refused}
 use Rattle.task_verdict.specs.Verdict.{verdictOf}
 
--- nothing is refused: the plan is accepted, the tasks' count and records are good, and the place is in the table
+-- nothing is refused: the plan is accepted, the tables are good, and the place is in the table
 pub record Answered (plan ps ts : List ℕ) (place : ℕ) : Type 0 where
-  pub accepted : checkOf plan ps ≡ checked.Serves
-  pub counted : tasksCounted ts ≡ true
-  pub good : GoodTasks (partitions ps) ts
+  pub accepted : checkOf plan ps ≡ found.Good
+  pub good : GoodTables (length plan) ps ts
   pub from-1 : 1 ≤ place
   pub listed : place ≤ tasks ts
 
@@ -30,31 +32,31 @@ AnsweredExactly = (plan ps ts : List ℕ) (place : ℕ) → ((r : _) → ¬ (ver
 abbrev pub PassExactly : Type 0
 PassExactly =
     (plan ps ts : List ℕ) (place : ℕ)
-    → ((t : ℕ) × (verdictOf plan ps ts place ≡ Pass t)) ↔ (Answered plan ps ts place × Passes own plan ts (place - 1))
+    → ((t : ℕ) × (verdictOf plan ps ts place ≡ Pass t)) ↔ (Answered plan ps ts place × TaskPasses own plan ts (place - 1))
 
 abbrev pub FailExactly : Type 0
 FailExactly =
     (plan ps ts : List ℕ) (place : ℕ)
-    → (verdictOf plan ps ts place ≡ Fail) ↔ (Answered plan ps ts place × ¬ Passes own plan ts (place - 1))
+    → (verdictOf plan ps ts place ≡ Fail) ↔ (Answered plan ps ts place × ¬ TaskPasses own plan ts (place - 1))
 
 -- "A pass reports the smallest scheduling point that holds."
 abbrev pub PassPoint : Type 0
 PassPoint =
     (plan ps ts : List ℕ) (place t : ℕ) → verdictOf plan ps ts place ≡ Pass t
-    → (point ts (place - 1) t ≡ true) × Fits own plan ts (place - 1) t
-    × ((u : ℕ) → point ts (place - 1) u ≡ true → Fits own plan ts (place - 1) u → t ≤ u)
+    → (point (taskLoad ts) (place - 1) t ≡ true) × (demand (taskLoad ts) (place - 1) t ≤ least own plan (partition ts (place - 1)) t)
+    × ((u : ℕ) → point (taskLoad ts) (place - 1) u ≡ true → demand (taskLoad ts) (place - 1) u ≤ least own plan (partition ts (place - 1)) u → t ≤ u)
 
 -- Demand 3, first half: "Plan accepted and task passes ⇒ every job of that task ends within D in every legal run, even if other tasks fail."
 abbrev pub EndsInTime : Type 0
 EndsInTime =
-    (plan ps ts : List ℕ) (place t : ℕ) → checkOf plan ps ≡ checked.Serves → verdictOf plan ps ts place ≡ Pass t
+    (plan ps ts : List ℕ) (place t : ℕ) → checkOf plan ps ≡ found.Good → verdictOf plan ps ts place ≡ Pass t
     → (N start : ℕ) (work : ℕ → ℕ → ℕ) (ran : ℕ → Ran) → LegalTo N own plan start ts work ran
     → (r : ℕ) → r + deadline ts (place - 1) ≤ N → done ran (place - 1) r (r + deadline ts (place - 1)) ≡ work (place - 1) r
 
 -- the same of runs without end
 abbrev pub EndsInTimeForEver : Type 0
 EndsInTimeForEver =
-    (plan ps ts : List ℕ) (place t : ℕ) → checkOf plan ps ≡ checked.Serves → verdictOf plan ps ts place ≡ Pass t
+    (plan ps ts : List ℕ) (place t : ℕ) → checkOf plan ps ≡ found.Good → verdictOf plan ps ts place ≡ Pass t
     → (start : ℕ) (work : ℕ → ℕ → ℕ) (ran : ℕ → Ran) → Legal own plan start ts work ran
     → (r : ℕ) → done ran (place - 1) r (r + deadline ts (place - 1)) ≡ work (place - 1) r
 

@@ -7,19 +7,19 @@ use native.Mathlib.Nat.{mul-mod-left}
 use native.Mathlib.Omega.{arith}
 use lib.ListN.{getD}
 use Rattle.rules.proofs.Tests.{good-share}
-use Rattle.rules.specs.Walk.{sum}
+use Rattle.rules.specs.Walk.{sum, Every}
 use Rattle.rules.specs.Limits.{longest}
-use Rattle.rules.specs.Table.{cycle, num, den, partitions, wanted}
+use Rattle.rules.specs.Table.{cycle, num, den, partitions, wanted, goodPart}
 use Rattle.rules.proofs.Sum.{le-or-lt}
 use Rattle.rules.proofs.Least.{largest-le, largest-is}
 use Rattle.theory.specs.Plan.{service, owned}
-use Rattle.theory.specs.Harmonic.{Harmonic, frame, share, load, rank, taken, turn, planned, harmonicPlan}
-use Rattle.theory.specs.Theorems.{GoodParts, HarmonicServes, HarmonicRefused, HarmonicPlanGood}
+use Rattle.theory.specs.Harmonic.{Harmonic, frame, allWanted, rank, taken, turn, planned, harmonicPlan}
+use Rattle.theory.specs.Theorems.{HarmonicServes, HarmonicRefused, HarmonicPlanGood}
 use Rattle.theory.proofs.Order.{Sooner, pairs-divide, rank-below, taken-rank, taken-below, taken-sooner, taken-sum}
 use Rattle.theory.proofs.Need.{needed}
 use Rattle.theory.proofs.Harmonic.{Divides, Chain, After, built, built-bound, after, ticks-length, ticks-at, ticks-past, ticks-held}
 
-module _ (ps : List ℕ) (some : 0 < partitions ps) (good : GoodParts ps) where
+module _ (ps : List ℕ) (some : 0 < partitions ps) (good : Every (goodPart longest ps) (partitions ps)) where
   abbrev n : ℕ
   n = partitions ps
 
@@ -110,13 +110,13 @@ module _ (ps : List ℕ) (some : 0 < partitions ps) (good : GoodParts ps) where
           subst (λ (x : ℕ). want x ≤ owned (turns n) (x + 1) (cycle ps x) a) (taken-rank ps k l) (all-after .served (rank ps k) a (rank-below ps k l))
 
 pub harmonic-serves : HarmonicServes
-unfolding load share planned turn
+unfolding allWanted planned turn
 harmonic-serves ps some good har h k s l =
     rw (ticks-held (planned ps (partitions ps)) (frame ps) (frame-pos ps some good) (all-after ps some good har (wanted ps) h .frames) (k + 1) (cycle ps k) s)
     (all-served ps some good har (wanted ps) h k s l)
 
 pub harmonic-refused : HarmonicRefused
-unfolding load share
+unfolding allWanted
 harmonic-refused ps some good har h rule plan s =
     omega (arith, needed (service rule plan) (wanted ps) (cycle ps) (partitions ps) (frame ps) (frame-whole ps some good har) s)
 

@@ -12,7 +12,7 @@ use Rattle.rules.specs.Table.{partition, tasks}
 use Rattle.rules.proofs.First.{first-at, first-upto, first-past, some-at}
 use Rattle.rules.proofs.Sum.{le-or-lt, sum-ext}
 use Rattle.theory.specs.Plan.{Rule, service}
-use Rattle.theory.specs.Run.{Ran, nothing, job, hit, done, Waiting, Before, Runs, Releases}
+use Rattle.theory.specs.Run.{Ran, nothing, job, hit, done, Waiting, atArrival, Before, Runs, Releases}
 use Rattle.theory.specs.Theorems.{LegalExists, LegalOne}
 use Rattle.rules.proofs.Tests.{and-parts, and-intro}
 
@@ -57,11 +57,11 @@ module _ (rule : Rule) (plan : List ℕ) (start : ℕ) (ts : List ℕ) (work : �
   Mine n j = partition ts j ≡ service rule plan (start + n)
 
   -- a waiting job is left, and makes its task ready
-  is-left : (n a b : ℕ) → Waiting work schedule n a b → left (state n) a b ≡ true
+  is-left : (n a b : ℕ) → Waiting atArrival work schedule n a b → left (state n) a b ≡ true
   unfolding left
   is-left n a b w = lt-ltb (state n a b) (work a b) (rw state-done at (w .1))
 
-  is-ready : (n a b : ℕ) → Mine n a → Waiting work schedule n a b → ready n (state n) a ≡ true
+  is-ready : (n a b : ℕ) → Mine n a → Waiting atArrival work schedule n a b → ready n (state n) a ≡ true
   unfolding ready
   is-ready n a b m w =
       and-intro (mine n a) (some (left (state n) a) (suc n)) (eq-eqb (partition ts a) (service rule plan (start + n)) m)
@@ -72,14 +72,14 @@ module _ (rule : Rule) (plan : List ℕ) (start : ℕ) (ts : List ℕ) (work : �
   unfolding ready
   ready-mine n j e = eqb-true (partition ts j) (service rule plan (start + n)) (and-parts (mine n j) (some (left (state n) j) (suc n)) e .0)
 
-  ready-waits : (n j : ℕ) → ready n (state n) j ≡ true → Waiting work schedule n j (oldest n (state n) j)
+  ready-waits : (n j : ℕ) → ready n (state n) j ≡ true → Waiting atArrival work schedule n j (oldest n (state n) j)
   unfolding ready left
   ready-waits n j e =
       let l : oldest n (state n) j < suc n = ltb-true (oldest n (state n) j) (suc n) (and-parts (mine n j) (some (left (state n) j) (suc n)) e .1) in
       (omega arith, rw state-done (ltb-true (state n j (oldest n (state n) j)) (work j (oldest n (state n) j)) (first-at (left (state n) j) (suc n) l)))
 
   module _ (R : Releases ts work) where
-    before : (n a b : ℕ) → Mine n a → Waiting work schedule n a b → Before (task n (state n)) (oldest n (state n) (task n (state n))) a b
+    before : (n a b : ℕ) → Mine n a → Waiting atArrival work schedule n a b → Before (task n (state n)) (oldest n (state n) (task n (state n))) a b
     before n a b m w = go (le-or-lt a (task n (state n)))
       where
         lowest : task n (state n) ≤ a
@@ -91,11 +91,11 @@ module _ (rule : Rule) (plan : List ℕ) (start : ℕ) (ts : List ℕ) (work : �
             let e : task n (state n) ≡ a = omega (arith, lowest) in
             inr (e, first-upto (left (state n) (task n (state n))) (suc n) b (rw e (is-left n a b w)))
 
-    scheduled : (n : ℕ) → Runs (Mine n) (Waiting work schedule n) (schedule n)
+    scheduled : (n : ℕ) → Runs (Mine n) (Waiting atArrival work schedule n) (schedule n)
     unfolding schedule choose
     scheduled n = go (ltb (task n (state n)) (tasks ts)) refl
       where
-        go : (b : Bool) → ltb (task n (state n)) (tasks ts) ≡ b → Runs (Mine n) (Waiting work schedule n) (pick b (job (task n (state n)) (oldest n (state n) (task n (state n)))) nothing)
+        go : (b : Bool) → ltb (task n (state n)) (tasks ts) ≡ b → Runs (Mine n) (Waiting atArrival work schedule n) (pick b (job (task n (state n)) (oldest n (state n) (task n (state n)))) nothing)
         go true e =
             let r = first-at (ready n (state n)) (tasks ts) (ltb-true (task n (state n)) (tasks ts) e) in
             (ready-mine n (task n (state n)) r, ready-waits n (task n (state n)) r, before n)
@@ -118,19 +118,19 @@ before-both j r a b (inr h) (inl k) = absurd (omega (arith, h .0))
 before-both j r a b (inr h) (inr k) = ap₂ job (h .0) (omega (arith, h .1, k .1))
 
 module _ (N : ℕ) (Mine : ℕ → ℕ → Type 0) (work : ℕ → ℕ → ℕ) (ran ran′ : ℕ → Ran)
-    (runs : (n : ℕ) → n < N → Runs (Mine n) (Waiting work ran n) (ran n))
-    (runs′ : (n : ℕ) → n < N → Runs (Mine n) (Waiting work ran′ n) (ran′ n)) where
+    (runs : (n : ℕ) → n < N → Runs (Mine n) (Waiting atArrival work ran n) (ran n))
+    (runs′ : (n : ℕ) → n < N → Runs (Mine n) (Waiting atArrival work ran′ n) (ran′ n)) where
   -- the same so far, the same now
   now : (n : ℕ) → n < N → ((k : ℕ) → k < n → ran k ≡ ran′ k) → ran n ≡ ran′ n
   now n u h = go (ran n) (ran′ n) (runs n u) (runs′ n u)
     where
-      to : (j r : ℕ) → Waiting work ran n j r → Waiting work ran′ n j r
+      to : (j r : ℕ) → Waiting atArrival work ran n j r → Waiting atArrival work ran′ n j r
       to j r w = (w .0, subst (λ (x : ℕ). x < work j r) (done-same ran ran′ n h j r) (w .1))
 
-      from : (j r : ℕ) → Waiting work ran′ n j r → Waiting work ran n j r
+      from : (j r : ℕ) → Waiting atArrival work ran′ n j r → Waiting atArrival work ran n j r
       from j r w = (w .0, subst (λ (x : ℕ). x < work j r) (sym (done-same ran ran′ n h j r)) (w .1))
 
-      go : (x y : Ran) → Runs (Mine n) (Waiting work ran n) x → Runs (Mine n) (Waiting work ran′ n) y → x ≡ y
+      go : (x y : Ran) → Runs (Mine n) (Waiting atArrival work ran n) x → Runs (Mine n) (Waiting atArrival work ran′ n) y → x ≡ y
       go nothing nothing s t = refl
       go nothing (job a b) s t = absurd (s a b (t .0) (from a b (t .1)))
       go (job j r) nothing s t = absurd (t j r (s .0) (to j r (s .1)))

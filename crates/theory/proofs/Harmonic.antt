@@ -12,9 +12,11 @@ use borrow.Author.Tests.{lt-ltb, le-ltb, eq-eqb, ne-eqb}
 use lib.ListN.{length, getD, List·getD-eq-default}
 use Rattle.rules.specs.Walk.{pick, only, sum, count, walk}
 use Rattle.rules.proofs.Sum.{le-or-lt, only-eq, only-ne, only-self, sum-le, sum-eq, sum-first, sum-mono, count-zero, count-more}
-use Rattle.theory.specs.Plan.{owner, own, ownsFrom, owned, held}
-use Rattle.theory.specs.Harmonic.{give, idle, ticks}
+use Rattle.theory.specs.Plan.{owner, own, owned, held}
+use Rattle.theory.specs.Harmonic.{give, ticks}
 use Rattle.theory.proofs.Need.{owned-split}
+use Rattle.theory.specs.Contracts.{idle}
+use Rattle.theory.proofs.Words.{ownsFrom}
 
 -- ---- owners that repeat
 
@@ -33,14 +35,14 @@ module _ (o : ℕ → ℕ) (m : ℕ) (per : Period o m) where
   period-longer h d = subst (Period o) (sym (d .1)) (period-mul (d .0))
 
   shift : (p a t : ℕ) → owned o p t (a + m) ≡ owned o p t a
-  unfolding owned count ownsFrom
+  unfolding owned count
   shift p a t =
       sum-eq t _ _ (λ k.
       let e : a + m + k ≡ a + k + m = omega arith in
       ap (λ (x : ℕ). only (eqb x p) 1) (ap o e ∙ per (a + k)))
 
   slide-one : (p a : ℕ) → owned o p m (suc a) ≡ owned o p m a
-  unfolding owned count ownsFrom sum
+  unfolding owned count sum
   slide-one p a =
       let e : sum (λ k. only (eqb (o (suc a + k)) p) 1) m ≡ sum (λ k. only (eqb (o (a + suc k)) p) 1) m =
       sum-eq m _ _ (λ k. let g : suc a + k ≡ a + suc k = omega arith in ap (λ (x : ℕ). only (eqb (o x) p) 1) g) in
@@ -65,7 +67,7 @@ unfolding owned
 seen-first o m t e = rw e (count-zero (ownsFrom o 0 (t - 0)))
 
 pub seen-next : (o : ℕ → ℕ) (m t : ℕ) → 0 < m → ¬ ((t + 1) % m ≡ 0) → owned o 0 ((t + 1) % m) (t + 1 - (t + 1) % m) ≡ owned o 0 (t % m) (t - t % m) + only (eqb (o t) 0) 1
-unfolding owned ownsFrom
+unfolding owned
 seen-next o m t pos h = go (le-or-lt m (t % m + 1))
   where
     more : (t + 1) % m ≡ (t % m + 1) % m
@@ -116,7 +118,7 @@ module _ (p q m : ℕ) (o : ℕ → ℕ) where
 
   -- who has a tick keeps it
   owned-keep : (x a t : ℕ) → ¬ (x ≡ 0) → owned o x t a ≤ owned (give p q m o) x t a
-  unfolding owned count ownsFrom
+  unfolding owned count
   owned-keep x a t pos = sum-le t _ _ (λ k l. go k (ℕ-discrete (o (a + k)) x))
     where
       go : (k : ℕ) → Dec (o (a + k) ≡ x) → only (eqb (o (a + k)) x) 1 ≤ only (eqb (give p q m o (a + k)) x) 1
@@ -128,7 +130,7 @@ module _ (p q m : ℕ) (o : ℕ → ℕ) where
   Filled before mine after = (min q before ≤ mine) × (after + min q before ≡ before)
 
   fill : ¬ (p ≡ 0) → (t : ℕ) → t ≤ m → Filled (owned o 0 t 0) (owned (give p q m o) p t 0) (owned (give p q m o) 0 t 0)
-  unfolding owned count ownsFrom sum
+  unfolding owned count sum
   fill pos zero h = (omega arith, omega arith)
   fill pos (suc t) h = rw zero-add (go (fill pos t (omega arith)) (ℕ-discrete (o t) 0) (le-or-lt q (owned o 0 t 0)))
     where
@@ -186,12 +188,12 @@ abbrev pub built : (ℕ → ℕ) → (ℕ → ℕ) → (ℕ → ℕ) → ℕ →
 built who want cyc r = walk (λ s. give (who s) (want s) (cyc s)) idle r
 
 idle-all : (t : ℕ) → owned idle 0 t 0 ≡ t
-unfolding owned count ownsFrom sum idle
+unfolding owned count sum
 idle-all zero = refl
 idle-all (suc t) = omega (arith, idle-all t, only-eq 0 0 1 refl)
 
 pub built-bound : (who want cyc : ℕ → ℕ) (b r : ℕ) → ((s : ℕ) → s < r → who s ≤ b) → (t : ℕ) → built who want cyc r t ≤ b
-unfolding walk idle
+unfolding walk
 built-bound who want cyc b zero h t = zero-le
 built-bound who want cyc b (suc r) h t =
     give-bound (who r) (want r) (cyc r) (built who want cyc r) b t (built-bound who want cyc b r (λ s l. h s (omega arith)) t) (h r (omega arith))
@@ -240,7 +242,7 @@ module _ (who want cyc : ℕ → ℕ) (n H : ℕ) (ch : Chain who want cyc n H) 
       kept s a (inr g) k = le-trans (v .served s a g) (owned-keep (who r) (want r) (cyc r) o (who s) a (cyc s) (ch .named s))
 
   pub after : (r : ℕ) → r ≤ n → After who want cyc n H r (built who want cyc r)
-  unfolding walk idle sum
+  unfolding walk sum
   after zero l = record { repeats = λ s g m t. refl; frames = λ t. refl; unspent = omega (arith, idle-all H); served = λ s a g. absurd (omega arith) }
   after (suc r) l = after-turn r (built who want cyc r) l (after r (omega arith))
 
@@ -268,5 +270,5 @@ ticks-owner o H pos per t =
     ap (λ (x : ℕ). getD (ticks o H) (t % x) 0) (ticks-length o H) ∙ ticks-at o H (t % H) (mod-lt t pos) ∙ sym (period-mul o H per (t / H) (t % H)) ∙ ap o e
 
 pub ticks-held : (o : ℕ → ℕ) (H : ℕ) → 0 < H → Period o H → (p t a : ℕ) → held own (ticks o H) p t a ≡ owned o p t a
-unfolding owned count ownsFrom
+unfolding owned count
 ticks-held o H pos per p t a = sum-eq t _ _ (λ k. ap (λ (x : ℕ). only (eqb x p) 1) (ticks-owner o H pos per (a + k)))

@@ -6,11 +6,11 @@ use native.Mathlib.Omega.{arith}
 use lib.Dec.{eqb}
 use Rattle.rules.specs.Walk.{only, sum, count}
 use Rattle.rules.proofs.Sum.{sum-le, sum-add, sum-split, sum-none, sum-one}
-use Rattle.theory.specs.Plan.{ownsFrom, owned}
+use Rattle.theory.specs.Plan.{owned}
 
 module _ (o : ℕ → ℕ) where
   pub owned-split : (p a s t : ℕ) → owned o p (s + t) a ≡ owned o p s a + owned o p t (a + s)
-  unfolding owned count ownsFrom
+  unfolding owned count
   owned-split p a s t = sum-split s t (λ k. only (eqb (o (a + k)) p) 1) ∙ simp add-assoc
 
   -- c cycles one after another
@@ -20,7 +20,7 @@ module _ (o : ℕ → ℕ) where
 
   -- no tick has two owners
   pub owned-total : (n a t : ℕ) → sum (λ k. owned o (k + 1) t a) n ≤ t
-  unfolding owned count ownsFrom sum
+  unfolding owned count sum
   owned-total n a zero = omega (arith, sum-none n)
   owned-total n a (suc t) =
       omega (

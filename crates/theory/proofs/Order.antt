@@ -12,8 +12,9 @@ use Rattle.rules.specs.Walk.{only, sum, count}
 use Rattle.rules.specs.Table.{cycle, partitions}
 use Rattle.rules.proofs.First.{first-le, first-at, first-upto, first-all}
 use Rattle.rules.proofs.Sum.{le-or-lt, only-true, only-false, only-self, only-eq, only-ne, sum-le, sum-lt, sum-term, sum-none, sum-swap, sum-one}
-use Rattle.theory.specs.Harmonic.{pairs, sooner, rank, ranked, taken}
+use Rattle.theory.specs.Harmonic.{pairs, sooner, rank, taken}
 use Rattle.theory.specs.Theorems.{PairsDivide, TakenOnce, TakenRises}
+use Rattle.theory.proofs.Words.{ranked}
 
 -- ---- tests
 
@@ -157,11 +158,9 @@ module _ (ps : List ℕ) where
   -- ---- the place that is taken after r others
 
   ranked-at : (r k : ℕ) → ranked ps r k ≡ true → rank ps k ≡ r
-  unfolding ranked
   ranked-at r k e = eqb-true (rank ps k) r e
 
   ranked-is : (r k : ℕ) → rank ps k ≡ r → ranked ps r k ≡ true
-  unfolding ranked
   ranked-is r k e = eq-eqb (rank ps k) r e
 
   pub taken-rank : (k : ℕ) → k < n → taken ps (rank ps k) ≡ k

@@ -9,8 +9,9 @@ use lib.ListN.{length, getD}
 use Rattle.rules.specs.Walk.{only, count, sum, smallest}
 use Rattle.rules.proofs.Sum.{count-zero, count-more, count-le, count-ext}
 use Rattle.rules.proofs.Least.{smallest-le, smallest-is, smallest-mono}
-use Rattle.theory.specs.Plan.{owner, Rule, own, service, ownsFrom, owned, held, least}
+use Rattle.theory.specs.Plan.{owner, Rule, own, service, owned, held, least}
 use Rattle.theory.specs.Theorems.{LeastIsLeast, LeastAttained, LeastZero, LeastBounds, LeastGrows, ServesInFrame}
+use Rattle.theory.proofs.Words.{ownsFrom}
 
 -- ---- the ticks held in a stretch
 
@@ -39,7 +40,7 @@ service-around own plan s k = owner-around plan s k
 
 -- a start past the frame's end is one within it
 pub held-around : (rule : Rule) (plan : List ℕ) (p t s : ℕ) → held rule plan p t (s % length plan) ≡ held rule plan p t s
-unfolding owned ownsFrom
+unfolding owned
 held-around rule plan p t s = count-ext t _ _ (λ k l. ap (λ (x : ℕ). eqb x p) (service-around rule plan s k))
 
 -- ---- an exact minimum

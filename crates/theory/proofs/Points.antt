@@ -1,63 +1,103 @@
--- It is enough to try the scheduling points, of any competitors. Assumes nothing.
+-- It is enough to try the scheduling points, of any competitors, and the first one that holds is the smallest. Assumes nothing.
 use mathlib.Core.Path.{_≡_, sym, _∙_}
-use mathlib.Core.Logic.{_⊎_, inl, inr, _↔_}
-use mathlib.Core.Bool.{Bool, true, false, true≢false, _&&_}
-use Prim.Native.Nat.{ℕ, zero, suc, _+_, _-_, _*_, _%_, _≤_, _<_}
+use mathlib.Core.Logic.{_⊎_, inl, inr}
+use mathlib.Core.Bool.{true, false, true≢false, _&&_, _||_}
+use Prim.Native.Nat.{ℕ, zero, suc, _+_, _-_, _%_, _≤_, _<_}
 use native.Mathlib.Nat.{mul-le-mul-left}
 use native.Mathlib.Omega.{arith}
-use lib.Dec.{T, eqb}
-use borrow.Author.Tests.{eqb-true, eq-eqb}
-use Rattle.rules.specs.Walk.{only, roundUp}
+use lib.Dec.{T, eqb, leb}
+use borrow.Author.Tests.{leb-true, le-leb, eq-eqb}
+use Rattle.rules.specs.Walk.{some}
+use Rattle.rules.proofs.First.{first-at, first-upto, some-at}
 use Rattle.rules.proofs.Sum.{only-le, sum-le}
 use Rattle.rules.proofs.Round.{round-suc}
-use Rattle.theory.specs.Core.{Load, demandOf, PassesOn, PointOf}
-use Rattle.theory.specs.Theorems.{CorePoints}
-use Rattle.rules.proofs.Tests.{to-T, of-T, and-parts, and-intro, any-or-none}
+use Rattle.rules.proofs.Tests.{of-T, and-parts, and-intro, or-left, or-right, any-or-none}
+use Rattle.theory.specs.Load.{Load, asked, demand, lastPoint, Passes, multiple, point, pointFits, firstPoint}
+use Rattle.theory.specs.Theorems.{PointSmallest}
+use Rattle.theory.specs.Generality.{LoadPoints}
 
--- t is a multiple of the period of j, less its jitter
-multipleAt : Load → ℕ → ℕ → ℕ → Bool
-multipleAt L i t j = L .rival i j && eqb ((t + L .jitter j) % L .period j) 0
+module _ (L : Load) (i : ℕ) where
+  abbrev end : ℕ
+  end = lastPoint L i
+
+  point-range : (t : ℕ) → point L i t ≡ true → (1 ≤ t) × (t ≤ end)
+  unfolding point
+  point-range t e =
+      let a = and-parts (leb 1 t && leb t end) _ e in
+      let b = and-parts (leb 1 t) (leb t end) (a .0) in
+      (leb-true 1 t (b .0), leb-true t end (b .1))
+
+  point-in : (t : ℕ) → 1 ≤ t → t ≤ end → (eqb t end || some (multiple L i t) i) ≡ true → point L i t ≡ true
+  unfolding point
+  point-in t l u e = and-intro (leb 1 t && leb t end) _ (and-intro (leb 1 t) (leb t end) (le-leb 1 t l) (le-leb t end u)) e
+
+  point-last : 1 ≤ end → point L i end ≡ true
+  point-last l = point-in end l (omega arith) (or-left (eqb end end) _ (eq-eqb end end (omega arith)))
+
+  point-multiple : (t j : ℕ) → 1 ≤ t → t ≤ end → j < i → multiple L i t j ≡ true → point L i t ≡ true
+  point-multiple t j l u h e = point-in t l u (or-right (eqb t end) _ (some-at (multiple L i t) i j h e))
+
+-- ---- the first point that holds
+
+module _ (L : Load) (low : ℕ → ℕ) (i : ℕ) where
+  holds-parts : (t : ℕ) → pointFits L low i t ≡ true → (point L i t ≡ true) × (demand L i t ≤ low t)
+  unfolding pointFits
+  holds-parts t e = let a = and-parts (point L i t) (leb (demand L i t) (low t)) e in (a .0, leb-true (demand L i t) (low t) (a .1))
+
+  holds-is : (t : ℕ) → point L i t ≡ true → demand L i t ≤ low t → pointFits L low i t ≡ true
+  unfolding pointFits
+  holds-is t e d = and-intro (point L i t) (leb (demand L i t) (low t)) e (le-leb (demand L i t) (low t) d)
+
+  -- it is no later than any point that holds
+  first-earliest : (t : ℕ) → point L i t ≡ true → demand L i t ≤ low t → firstPoint L low i ≤ t
+  unfolding firstPoint
+  first-earliest t e d = first-upto (pointFits L low i) (suc (lastPoint L i)) t (holds-is t e d)
+
+  -- up to the last point it is a point, and holds
+  first-holds : firstPoint L low i ≤ lastPoint L i → (point L i (firstPoint L low i) ≡ true) × (demand L i (firstPoint L low i) ≤ low (firstPoint L low i))
+  unfolding firstPoint
+  first-holds h = holds-parts (firstPoint L low i) (first-at (pointFits L low i) (suc (lastPoint L i)) (omega arith))
+
+  -- a point that holds is a pass
+  pub point-passes : firstPoint L low i ≤ lastPoint L i → Passes L low i
+  point-passes h =
+      let a = first-holds h in
+      let b = point-range L i (firstPoint L low i) (a .0) in
+      (firstPoint L low i, b .0, b .1, a .1)
+
+pub point-smallest : PointSmallest
+point-smallest L low i h = let a = first-holds L low i h in (a .0, a .1, first-earliest L low i)
+
+-- ---- and a pass has one
 
 module _ (L : Load) (low : ℕ → ℕ) (grows : (t : ℕ) → low t ≤ low (suc t)) (i : ℕ) (periods : (j : ℕ) → j < i → T (L .rival i j) → 0 < L .period j) where
-  Holds : Type 0
-  Holds = (t : ℕ) × PointOf L i t × (demandOf L i t ≤ low t)
-
-  no-multiple : (t j : ℕ) → multipleAt L i t j ≡ false → T (L .rival i j) → ¬ ((t + L .jitter j) % L .period j ≡ 0)
-  unfolding multipleAt
+  no-multiple : (t j : ℕ) → multiple L i t j ≡ false → T (L .rival i j) → ¬ ((t + L .jitter j) % L .period j ≡ 0)
+  unfolding multiple
   no-multiple t j e b z =
       true≢false (sym (and-intro (L .rival i j) (eqb ((t + L .jitter j) % L .period j) 0) (of-T (L .rival i j) b) (eq-eqb ((t + L .jitter j) % L .period j) 0 z)) ∙ e)
 
   -- demand rises only behind a multiple
-  demand-suc : (t : ℕ) → ((j : ℕ) → j < i → multipleAt L i t j ≡ false) → demandOf L i (suc t) ≤ demandOf L i t
-  unfolding demandOf
+  demand-suc : (t : ℕ) → ((j : ℕ) → j < i → multiple L i t j ≡ false) → demand L i (suc t) ≤ demand L i t
+  unfolding demand asked
   demand-suc t none =
       omega (
         arith,
-        sum-le i (λ j. only (L .rival i j) (L .cost j * roundUp (suc t + L .jitter j) (L .period j))) (λ j. only (L .rival i j) (L .cost j * roundUp (t + L .jitter j) (L .period j))) (λ j l.
+        sum-le i (asked L i (suc t)) (asked L i t) (λ j l.
             only-le (L .rival i j) _ _ (λ b.
             let e : suc t + L .jitter j ≡ suc (t + L .jitter j) = omega arith in
             mul-le-mul-left (L .cost j) (rw e (round-suc (t + L .jitter j) (L .period j) (periods j l b) (no-multiple t j (none j l) b))))),
       )
 
-  point-of : (t j : ℕ) → 1 ≤ t → t ≤ L .deadline i - L .jitter i → j < i → multipleAt L i t j ≡ true → PointOf L i t
-  unfolding multipleAt
-  point-of t j l u h e =
-      let a = and-parts (L .rival i j) (eqb ((t + L .jitter j) % L .period j) 0) e in
-      (l, u, inr (j, h, to-T (L .rival i j) (a .0), eqb-true ((t + L .jitter j) % L .period j) 0 (a .1)))
-
   -- from t that holds up to the next point
-  up : (g t : ℕ) → t + g ≡ L .deadline i - L .jitter i → 1 ≤ t → demandOf L i t ≤ low t → Holds
-  unfolding Holds
-  up zero t e l d = (t, (l, omega arith, inl (omega arith)), d)
-  up (suc g) t e l d = go (λ d′. up g (suc t) (omega arith) (omega arith) d′) (any-or-none (multipleAt L i t) i)
+  up : (g t : ℕ) → t + g ≡ lastPoint L i → 1 ≤ t → demand L i t ≤ low t → firstPoint L low i ≤ lastPoint L i
+  up zero t e l d =
+      let f : t ≡ lastPoint L i = omega arith in
+      omega (arith, first-earliest L low i t (rw f (point-last L i (omega arith))) d)
+  up (suc g) t e l d = go (λ d′. up g (suc t) (omega arith) (omega arith) d′) (any-or-none (multiple L i t) i)
     where
-      go : (demandOf L i (suc t) ≤ low (suc t) → Holds) → ((j : ℕ) × (j < i) × (multipleAt L i t j ≡ true)) ⊎ ((j : ℕ) → j < i → multipleAt L i t j ≡ false) → Holds
-      go ih (inl (j, h, m)) = (t, point-of t j l (omega arith) h m, d)
+      go : (demand L i (suc t) ≤ low (suc t) → firstPoint L low i ≤ lastPoint L i) → ((j : ℕ) × (j < i) × (multiple L i t j ≡ true)) ⊎ ((j : ℕ) → j < i → multiple L i t j ≡ false) → firstPoint L low i ≤ lastPoint L i
+      go ih (inl (j, h, m)) = omega (arith, first-earliest L low i t (point-multiple L i t j l (omega arith) h m) d)
       go ih (inr none) = ih (omega (arith, demand-suc t none, grows t))
 
-  enough : PassesOn L low i ↔ ((t : ℕ) × PointOf L i t × (demandOf L i t ≤ low t))
-  unfolding Holds
-  enough = (λ (t, l, u, d). up (L .deadline i - L .jitter i - t) t (omega arith) l d, λ (t, o, d). (t, o .0, o .1, d))
-
-pub core-points : CorePoints
-core-points L low grows i periods = enough L low grows i periods
+pub load-points : LoadPoints
+load-points L low grows i periods = (λ (t, l, u, d). up L low grows i periods (lastPoint L i - t) t (omega arith) l d, point-passes L low i)

@@ -2,9 +2,9 @@
 use Rattle.theory.specs.Theorems.{Proved}
 use Rattle.theory.proofs.Wants.{wants-smallest, wants-range}
 use Rattle.theory.proofs.Plan.{least-is-least, least-attained, least-zero, least-bounds, least-grows, serves-in-frame}
-use Rattle.theory.proofs.Tasks.{points-enough, point-smallest, run-theorem, endless-theorem}
-use Rattle.theory.proofs.Core.{core-theorem}
-use Rattle.theory.proofs.Points.{core-points}
+use Rattle.theory.proofs.Tasks.{points-enough, run-theorem, endless-theorem}
+use Rattle.theory.proofs.Load.{load-theorem}
+use Rattle.theory.proofs.Points.{load-points, point-smallest}
 use Rattle.theory.proofs.Exists.{legal-exists, legal-one}
 use Rattle.theory.proofs.Order.{pairs-divide, taken-once, taken-rises}
 use Rattle.theory.proofs.Built.{harmonic-serves, harmonic-refused, harmonic-plan-good}
@@ -20,11 +20,11 @@ proved = record {
   least-grows = least-grows;
   serves-in-frame = serves-in-frame;
   points-enough = points-enough;
+  load-points = load-points;
   point-smallest = point-smallest;
   run-theorem = run-theorem;
   endless-theorem = endless-theorem;
-  core-theorem = core-theorem;
-  core-points = core-points;
+  load-theorem = load-theorem;
   legal-exists = legal-exists;
   legal-one = legal-one;
   pairs-divide = pairs-divide;

@@ -3,6 +3,7 @@ use mathlib.Core.Logic.{_⊎_, inl, inr}
 use Prim.Native.Nat.{_*_, _≤_, _<_}
 use native.Mathlib.Nat.{le-refl, mul-le-mul, mul-le-mul-left}
 use native.Mathlib.Omega.{arith}
+use Rattle.rules.specs.Limits.{finestShare}
 use Rattle.rules.specs.Table.{wants}
 use Rattle.rules.proofs.Sum.{le-or-lt}
 use Rattle.rules.proofs.Round.{round-enough, round-least}
@@ -16,7 +17,7 @@ wants-smallest m n d h = (round-enough (n * m) d h, λ q l. round-least (n * m) 
 pub wants-range : WantsRange
 wants-range limit m n d good = (some (le-or-lt 1 (wants m n d)), wants-smallest m n d positive .1 m (omega (arith, mul-le-mul-left m (g .3))))
   where
-    g : (1 ≤ m) × (m ≤ limit) × (1 ≤ n) × (n ≤ d) × (d ≤ 1000)
+    g : (1 ≤ m) × (m ≤ limit) × (1 ≤ n) × (n ≤ d) × (d ≤ finestShare)
     g = good-share limit m n d good
 
     positive : 0 < d

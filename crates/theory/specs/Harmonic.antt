@@ -8,10 +8,11 @@ use Rattle.rules.specs.Walk.{pick, first, count, sum, largest, walk}
 use Rattle.rules.specs.Table.{cycle, partitions, wanted}
 use Rattle.theory.specs.Plan.{owned}
 
--- "Of any two cycles, one divides the other."
+-- "one divides the other": the cycles of places j and k
 unfoldable pub pairs : List ℕ → ℕ → ℕ → Bool
 pairs ps j k = eqb (cycle ps k % cycle ps j) 0 || eqb (cycle ps j % cycle ps k) 0
 
+-- "Of any two cycles, one divides the other."
 abbrev pub Harmonic : List ℕ → Type 0
 Harmonic ps = (j k : ℕ) → j < partitions ps → k < partitions ps → pairs ps j k ≡ true
 
@@ -19,12 +20,9 @@ Harmonic ps = (j k : ℕ) → j < partitions ps → k < partitions ps → pairs 
 unfoldable pub frame : List ℕ → ℕ
 frame ps = largest (cycle ps) (partitions ps)
 
--- "the sum of q·H/m"
-unfoldable pub share : List ℕ → ℕ → ℕ → ℕ
-share ps h k = wanted ps k * (h / cycle ps k)
-
-unfoldable pub load : List ℕ → ℕ → ℕ
-load ps h = sum (share ps h) (partitions ps)
+-- "the sum of q·H/m", for a frame of h ticks
+unfoldable pub allWanted : List ℕ → ℕ → ℕ
+allWanted ps h = sum (λ k. wanted ps k * (h / cycle ps k)) (partitions ps)
 
 -- "Take partitions by rising cycle, equal cycles by place": whether place j is taken before place k
 unfoldable pub sooner : List ℕ → ℕ → ℕ → Bool
@@ -34,34 +32,27 @@ sooner ps k j = ltb (cycle ps j) (cycle ps k) || (eqb (cycle ps j) (cycle ps k) 
 unfoldable pub rank : List ℕ → ℕ → ℕ
 rank ps k = count (sooner ps k) (partitions ps)
 
-unfoldable pub ranked : List ℕ → ℕ → ℕ → Bool
-ranked ps r k = eqb (rank ps k) r
-
 -- the place that is taken after r others
 abbrev pub taken : List ℕ → ℕ → ℕ
-taken ps r = first (ranked ps r) (partitions ps)
+taken ps r = first (λ k. eqb (rank ps k) r) (partitions ps)
 
--- "In each cycle, counted from tick 0, give the partition its q earliest idle ticks": fewer than q idle ticks lie before it in its cycle
+-- "In each cycle, counted from tick 0, give the partition its q earliest idle ticks": those with fewer than q idle ticks before them in their cycle of m
 unfoldable pub give : ℕ → ℕ → ℕ → (ℕ → ℕ) → ℕ → ℕ
 give p q m o t = pick (eqb (o t) 0 && ltb (owned o 0 (t % m) (t - t % m)) q) p (o t)
 
-abbrev pub giveTo : List ℕ → ℕ → (ℕ → ℕ) → ℕ → ℕ
-giveTo ps k = give (k + 1) (wanted ps k) (cycle ps k)
-
+-- the turn of the partition that is taken after r others
 unfoldable pub turn : List ℕ → ℕ → (ℕ → ℕ) → ℕ → ℕ
-turn ps r = giveTo ps (taken ps r)
+turn ps r = let k = taken ps r in give (k + 1) (wanted ps k) (cycle ps k)
 
-unfoldable pub idle : ℕ → ℕ
-idle t = 0
-
--- the owner of every tick after r partitions had their turn
+-- the owner of every tick after r partitions had their turn; "0 for idle": before the first turn every tick is
 unfoldable pub planned : List ℕ → ℕ → ℕ → ℕ
-planned ps r = walk (turn ps) idle r
+planned ps r = walk (turn ps) (λ t. 0) r
 
 -- the first n ticks, written out
 unfoldable pub ticks : (ℕ → ℕ) → ℕ → List ℕ
 ticks o zero = []
 ticks o (suc n) = o 0 ∷ ticks (λ t. o (suc t)) n
 
+-- the plan that the rule writes: every partition had its turn, "The frame H"
 abbrev pub harmonicPlan : List ℕ → List ℕ
 harmonicPlan ps = ticks (planned ps (partitions ps)) (frame ps)

@@ -1,6 +1,9 @@
 pub mod Plan
 pub mod Harmonic
-pub mod Task
 pub mod Run
-pub mod Core
+pub mod Load
+pub mod Task
+pub mod Contracts
+pub mod Competition
+pub mod Generality
 pub mod Theorems

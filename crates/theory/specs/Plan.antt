@@ -1,5 +1,4 @@
 -- The plan that repeats without end, whom each tick serves, the ticks held in a stretch, least service, and serving. Assumes nothing.
-use mathlib.Core.Bool.{Bool}
 use mathlib.Core.List.{List}
 use Prim.Native.Nat.{ℕ, _+_, _%_, _≤_, _<_}
 use lib.Dec.{eqb}
@@ -19,13 +18,9 @@ pub data Rule : Type 0 where
 abbrev pub service : Rule → List ℕ → ℕ → ℕ
 service own = owner
 
--- whether tick s + k is p's
-unfoldable pub ownsFrom : (ℕ → ℕ) → ℕ → ℕ → ℕ → Bool
-ownsFrom o p s k = eqb (o (s + k)) p
-
 -- how many of the n ticks from s on are p's, where o names the owner of each tick
 unfoldable pub owned : (ℕ → ℕ) → ℕ → ℕ → ℕ → ℕ
-owned o p n s = count (ownsFrom o p s) n
+owned o p n s = count (λ k. eqb (o (s + k)) p) n
 
 -- how many of the n ticks from tick s on serve partition p
 abbrev pub held : Rule → List ℕ → ℕ → ℕ → ℕ → ℕ

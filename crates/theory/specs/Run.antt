@@ -1,6 +1,6 @@
 -- A legal run of the whole box: what runs in each tick. Assumes nothing.
--- A job is named by its task and the time of its release. `work j r` is how many ticks the job of task j released at time r needs, 0 where none is
--- released. Time 0 of the run is tick `start` of the repeated plan, and nothing is waiting there but what is released there.
+-- A job is named by its task and the time of its arrival. `work j r` is how many ticks the job (j, r) needs, 0 where
+-- none arrives. Time 0 of the run is tick `start` of the repeated plan, and nothing is waiting there but what is released there.
 use mathlib.Core.Path.{_≡_}
 use mathlib.Core.Logic.{_⊎_}
 use mathlib.Core.List.{List}
@@ -24,9 +24,13 @@ hit (job a b) j r = only (eqb a j) (only (eqb b r) 1)
 unfoldable pub done : (ℕ → Ran) → ℕ → ℕ → ℕ → ℕ
 done ran j r n = sum (λ k. hit (ran k) j r) n
 
--- at time n the job (j, r) is released, and not finished
-abbrev pub Waiting : (ℕ → ℕ → ℕ) → (ℕ → Ran) → ℕ → ℕ → ℕ → Type 0
-Waiting work ran n j r = (r ≤ n) × (done ran j r n < work j r)
+-- at time n the job (j, a) is released, and not finished; `rel j a` is the time of its release
+abbrev pub Waiting : (ℕ → ℕ → ℕ) → (ℕ → ℕ → ℕ) → (ℕ → Ran) → ℕ → ℕ → ℕ → Type 0
+Waiting rel work ran n j a = (rel j a ≤ n) × (done ran j a n < work j a)
+
+-- a task's job is released when it arrives
+abbrev pub atArrival : ℕ → ℕ → ℕ
+atArrival j a = a
 
 -- "the waiting job of the highest priority .., the older of one task first": the job (j, r) goes before (a, b), or is it
 abbrev pub Before : ℕ → ℕ → ℕ → ℕ → Type 0
@@ -47,7 +51,7 @@ pub record Releases (ts : List ℕ) (work : ℕ → ℕ → ℕ) : Type 0 where
 -- "in each own tick the waiting job of the highest priority runs": a legal run of N ticks
 pub record LegalTo (N : ℕ) (rule : Rule) (plan : List ℕ) (start : ℕ) (ts : List ℕ) (work : ℕ → ℕ → ℕ) (ran : ℕ → Ran) : Type 0 where
   pub releases : Releases ts work
-  pub runs : (n : ℕ) → n < N → Runs (λ j. partition ts j ≡ service rule plan (start + n)) (Waiting work ran n) (ran n)
+  pub runs : (n : ℕ) → n < N → Runs (λ j. partition ts j ≡ service rule plan (start + n)) (Waiting atArrival work ran n) (ran n)
 
 -- without end
 abbrev pub Legal : Rule → List ℕ → ℕ → List ℕ → (ℕ → ℕ → ℕ) → (ℕ → Ran) → Type 0

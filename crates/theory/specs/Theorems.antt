@@ -1,18 +1,19 @@
 -- What is proved of the definitions: each statement is a type, and its proof is a term of it in proofs/. Assumes nothing.
 use mathlib.Core.Path.{_≡_}
 use mathlib.Core.Logic.{_⊎_, _↔_}
-use mathlib.Core.Bool.{Bool, true}
+use mathlib.Core.Bool.{true}
 use mathlib.Core.List.{List}
 use Prim.Native.Nat.{ℕ, suc, _+_, _*_, _≤_, _<_}
-use lib.Dec.{T}
 use lib.ListN.{length, getD}
 use Rattle.rules.specs.Limits.{longest}
-use Rattle.rules.specs.Table.{cycle, partitions, wants, goodShare, goodPart, partition, deadline, tasks}
+use Rattle.rules.specs.Walk.{Every}
+use Rattle.rules.specs.Table.{cycle, partitions, wants, goodShare, goodPart, deadline, tasks, goodTask}
 use Rattle.theory.specs.Plan.{Rule, own, owner, held, least, Serves}
-use Rattle.theory.specs.Harmonic.{Harmonic, pairs, frame, load, rank, taken, harmonicPlan}
-use Rattle.theory.specs.Task.{GoodTasks, Passes, Fits, point, firstPoint}
+use Rattle.theory.specs.Harmonic.{Harmonic, pairs, frame, allWanted, rank, taken, harmonicPlan}
 use Rattle.theory.specs.Run.{Ran, done, Releases, LegalTo, Legal}
-use Rattle.theory.specs.Core.{Load, demandOf, PassesOn, PointOf, LowerBound, Brings, Queue}
+use Rattle.theory.specs.Load.{Load, demand, lastPoint, point, firstPoint}
+use Rattle.theory.specs.Task.{TaskPasses, taskPoint}
+use Rattle.theory.specs.Generality.{LoadPoints, LoadTheorem}
 
 -- ==== ticks
 
@@ -56,15 +57,15 @@ ServesInFrame =
 -- "It is enough to try the scheduling points .. The team proves that both readings agree."
 abbrev pub PointsEnough : Type 0
 PointsEnough =
-    (rule : Rule) (plan ts : List ℕ) (parts : ℕ) → GoodTasks parts ts → (i : ℕ) → i < tasks ts
-    → Passes rule plan ts i ↔ (firstPoint rule plan ts i ≤ deadline ts i)
+    (rule : Rule) (plan ts : List ℕ) (parts : ℕ) → Every (goodTask parts ts) (tasks ts) → (i : ℕ) → i < tasks ts
+    → TaskPasses rule plan ts i ↔ (taskPoint rule plan ts i ≤ deadline ts i)
 
 -- "A pass reports the smallest scheduling point that holds."
 abbrev pub PointSmallest : Type 0
 PointSmallest =
-    (rule : Rule) (plan ts : List ℕ) (i : ℕ) → firstPoint rule plan ts i ≤ deadline ts i
-    → (point ts i (firstPoint rule plan ts i) ≡ true) × Fits rule plan ts i (firstPoint rule plan ts i)
-    × ((t : ℕ) → point ts i t ≡ true → Fits rule plan ts i t → firstPoint rule plan ts i ≤ t)
+    (L : Load) (low : ℕ → ℕ) (i : ℕ) → firstPoint L low i ≤ lastPoint L i
+    → (point L i (firstPoint L low i) ≡ true) × (demand L i (firstPoint L low i) ≤ low (firstPoint L low i))
+    × ((t : ℕ) → point L i t ≡ true → demand L i t ≤ low t → firstPoint L low i ≤ t)
 
 -- ==== demand 3, first half: the run theorem
 
@@ -72,36 +73,24 @@ PointSmallest =
 -- by then has run as long as it needs by its deadline: "Done within D means finished after at most D ticks from release." Nothing is asked of other tasks.
 abbrev pub RunTheorem : Type 0
 RunTheorem =
-    (rule : Rule) (plan ts : List ℕ) (parts : ℕ) → 0 < length plan → GoodTasks parts ts
-    → (i : ℕ) → i < tasks ts → Passes rule plan ts i
+    (rule : Rule) (plan ts : List ℕ) (parts : ℕ) → 0 < length plan → Every (goodTask parts ts) (tasks ts)
+    → (i : ℕ) → i < tasks ts → TaskPasses rule plan ts i
     → (N start : ℕ) (work : ℕ → ℕ → ℕ) (ran : ℕ → Ran) → LegalTo N rule plan start ts work ran
     → (r : ℕ) → r + deadline ts i ≤ N → done ran i r (r + deadline ts i) ≡ work i r
 
 -- the same of runs without end
 abbrev pub EndlessTheorem : Type 0
 EndlessTheorem =
-    (rule : Rule) (plan ts : List ℕ) (parts : ℕ) → 0 < length plan → GoodTasks parts ts
-    → (i : ℕ) → i < tasks ts → Passes rule plan ts i
+    (rule : Rule) (plan ts : List ℕ) (parts : ℕ) → 0 < length plan → Every (goodTask parts ts) (tasks ts)
+    → (i : ℕ) → i < tasks ts → TaskPasses rule plan ts i
     → (start : ℕ) (work : ℕ → ℕ → ℕ) (ran : ℕ → Ran) → Legal rule plan start ts work ran
     → (r : ℕ) → done ran i r (r + deadline ts i) ≡ work i r
 
--- The core of it: any competitors, any server, any lower bound of its service. Of lower competitors and of those with another server nothing is asked.
-abbrev pub CoreTheorem : Type 0
-CoreTheorem =
-    (L : Load) (i : ℕ) → T (L .rival i i) → L .deadline i ≤ L .period i → ((j : ℕ) → j < i → T (L .rival i j) → 0 < L .period j)
-    → (sv : ℕ → Bool) (low : ℕ → ℕ) → LowerBound sv low → PassesOn L low i
-    → (N : ℕ) (rel work : ℕ → ℕ → ℕ) (ran : ℕ → Ran) → Brings L i rel work → Queue N (L .rival i) sv rel work ran
-    → (a : ℕ) → a + L .deadline i ≤ N → done ran i a (a + L .deadline i) ≡ work i a
-
--- of any competitors, and any bound that grows
-abbrev pub CorePoints : Type 0
-CorePoints =
-    (L : Load) (low : ℕ → ℕ) → ((t : ℕ) → low t ≤ low (suc t)) → (i : ℕ) → ((j : ℕ) → j < i → T (L .rival i j) → 0 < L .period j)
-    → PassesOn L low i ↔ ((t : ℕ) × PointOf L i t × (demandOf L i t ≤ low t))
-
 -- the run theorem is about something: whatever is released there is a legal run
 abbrev pub LegalExists : Type 0
-LegalExists = (rule : Rule) (plan : List ℕ) (start : ℕ) (ts : List ℕ) (work : ℕ → ℕ → ℕ) → Releases ts work → (ran : ℕ → Ran) × Legal rule plan start ts work ran
+LegalExists =
+    (rule : Rule) (plan : List ℕ) (start : ℕ) (ts : List ℕ) (work : ℕ → ℕ → ℕ) → Releases ts work
+    → (ran : ℕ → Ran) × Legal rule plan start ts work ran
 
 -- and only one
 abbrev pub LegalOne : Type 0
@@ -117,37 +106,39 @@ PairsDivide =
     (ps : List ℕ) (j k : ℕ)
     → (pairs ps j k ≡ true) ↔ (((c : ℕ) × (cycle ps k ≡ c * cycle ps j)) ⊎ ((c : ℕ) × (cycle ps j ≡ c * cycle ps k)))
 
--- "Take partitions by rising cycle, equal cycles by place": each place is taken once, in an order in which cycles rise
+-- "Take partitions": each place is taken once
 abbrev pub TakenOnce : Type 0
 TakenOnce = (ps : List ℕ) (k : ℕ) → k < partitions ps → (rank ps k < partitions ps) × (taken ps (rank ps k) ≡ k)
 
+-- "by rising cycle, equal cycles by place"
 abbrev pub TakenRises : Type 0
 TakenRises =
     (ps : List ℕ) (r s : ℕ) → r < s → s < partitions ps
     → (cycle ps (taken ps r) < cycle ps (taken ps s)) ⊎ ((cycle ps (taken ps r) ≡ cycle ps (taken ps s)) × (taken ps r < taken ps s))
 
--- every record is good: its cycle is from 1 to the limit
-abbrev pub GoodParts : List ℕ → Type 0
-GoodParts ps = (k : ℕ) → k < partitions ps → goodPart longest ps k ≡ true
-
 -- where the sum is not above H, the plan that the rule writes serves the table
 abbrev pub HarmonicServes : Type 0
-HarmonicServes = (ps : List ℕ) → 0 < partitions ps → GoodParts ps → Harmonic ps → load ps (frame ps) ≤ frame ps → Serves own (harmonicPlan ps) ps
+HarmonicServes =
+    (ps : List ℕ) → 0 < partitions ps → Every (goodPart longest ps) (partitions ps) → Harmonic ps
+    → allWanted ps (frame ps) ≤ frame ps → Serves own (harmonicPlan ps) ps
 
 -- "exactly when the sum of q·H/m is above H. Then no plan of any frame serves the table."
 abbrev pub HarmonicRefused : Type 0
-HarmonicRefused = (ps : List ℕ) → 0 < partitions ps → GoodParts ps → Harmonic ps → frame ps < load ps (frame ps) → (rule : Rule) (plan : List ℕ) → ¬ Serves rule plan ps
+HarmonicRefused =
+    (ps : List ℕ) → 0 < partitions ps → Every (goodPart longest ps) (partitions ps) → Harmonic ps
+    → frame ps < allWanted ps (frame ps) → (rule : Rule) (plan : List ℕ) → ¬ Serves rule plan ps
 
 -- its frame is the largest cycle, no cycle is longer, and every owner is 0 or a partition of the table
 abbrev pub HarmonicPlanGood : Type 0
 HarmonicPlanGood =
-    (ps : List ℕ) → 0 < partitions ps → GoodParts ps
+    (ps : List ℕ) → 0 < partitions ps → Every (goodPart longest ps) (partitions ps)
     → (length (harmonicPlan ps) ≡ frame ps) × (1 ≤ frame ps) × (frame ps ≤ longest)
     × ((k : ℕ) → k < partitions ps → cycle ps k ≤ frame ps)
     × ((t : ℕ) → getD (harmonicPlan ps) t 0 ≤ partitions ps)
 
 -- ==== all of them: proofs/Proved.antt has one
 
+-- (load-points and load-theorem are specs/Generality.antt's)
 pub record Proved : Type 0 where
   pub wants-smallest : WantsSmallest
   pub wants-range : WantsRange
@@ -158,11 +149,11 @@ pub record Proved : Type 0 where
   pub least-grows : LeastGrows
   pub serves-in-frame : ServesInFrame
   pub points-enough : PointsEnough
+  pub load-points : LoadPoints
   pub point-smallest : PointSmallest
   pub run-theorem : RunTheorem
   pub endless-theorem : EndlessTheorem
-  pub core-theorem : CoreTheorem
-  pub core-points : CorePoints
+  pub load-theorem : LoadTheorem
   pub legal-exists : LegalExists
   pub legal-one : LegalOne
   pub pairs-divide : PairsDivide

@@ -43,44 +43,44 @@ use denote.Triple.Clauses.{ensured, lasts}
 use denote.Triple.Table.{entered, cited}
 use denote.Triple.Walked.{says, Stays, stay-none, stay-slice, walkOf, goes-none, goes-slice, Walks, ends-at, walked, walk-meets}
 use denote.Exit.{yes}
-use Rattle.desk_engine.specs.Pass.{movedUp}
-use Rattle.desk_engine.specs.Steps.{shifted, fittedAll}
-use Rattle.desk_lent.specs.Plan.{applied}
+use Rattle.desk_steps.specs.Folds.{movedUp}
+use Rattle.desk_steps.specs.Writing.{shifted, fittedAll}
+use Rattle.desk_engine.specs.Deciding.{applied}
 use Rattle.desk.specs.declared.Job.{Job}
-use Rattle.desk_engine.specs.declared.Shift.{Shift}
-use Rattle.desk_engine.specs.declared.Fit.{Fit}
-use Rattle.desk_lent.specs.declared.plan.Plan.{Plan}
+use Rattle.desk_steps.specs.declared.shift.Shift.{Shift}
+use Rattle.desk_steps.specs.declared.fit.Fit.{Fit}
+use Rattle.desk_engine.specs.declared.effect.Effect.{Effect}
 use Rattle.desk.proofs.Job as J
-use Rattle.desk_engine.proofs.Shift as Sh
-use Rattle.desk_engine.proofs.Shift.Laws as Sh′
-use Rattle.desk_engine.proofs.Fit as B
-use Rattle.desk_engine.proofs.Fit.Laws as B′
-use Rattle.desk_lent.proofs.plan.Plan as S
-use Rattle.desk_lent.proofs.plan.Plan.Laws as S′
-use Rattle.desk_lent.proofs.plan.drop_of as drop_of
-use Rattle.desk_lent.proofs.plan.drop_of.Symbol as drop_of-def
-use Rattle.desk_lent.proofs.plan.drop_of.Symbol.{name as #desk-lent·drop_of}
-use Rattle.desk_lent.proofs.plan.drop_of.Met as drop_of-thm
-use Rattle.desk_engine.proofs.drop_pass as drop_pass
-use Rattle.desk_engine.proofs.drop_pass.Symbol as drop_pass-def
-use Rattle.desk_engine.proofs.drop_pass.Symbol.{name as #desk-engine·drop_pass}
-use Rattle.desk_engine.proofs.drop_pass.Met as drop_pass-thm
-use Rattle.desk_lent.proofs.plan.shift_of as shift_of
-use Rattle.desk_lent.proofs.plan.shift_of.Symbol as shift_of-def
-use Rattle.desk_lent.proofs.plan.shift_of.Symbol.{name as #desk-lent·shift_of}
-use Rattle.desk_lent.proofs.plan.shift_of.Met as shift_of-thm
-use Rattle.desk_engine.proofs.shift_pass as shift_pass
-use Rattle.desk_engine.proofs.shift_pass.Symbol as shift_pass-def
-use Rattle.desk_engine.proofs.shift_pass.Symbol.{name as #desk-engine·shift_pass}
-use Rattle.desk_engine.proofs.shift_pass.Met as shift_pass-thm
-use Rattle.desk_lent.proofs.plan.fit_of as fit_of
-use Rattle.desk_lent.proofs.plan.fit_of.Symbol as fit_of-def
-use Rattle.desk_lent.proofs.plan.fit_of.Symbol.{name as #desk-lent·fit_of}
-use Rattle.desk_lent.proofs.plan.fit_of.Met as fit_of-thm
-use Rattle.desk_engine.proofs.fit_pass as fit_pass
-use Rattle.desk_engine.proofs.fit_pass.Symbol as fit_pass-def
-use Rattle.desk_engine.proofs.fit_pass.Symbol.{name as #desk-engine·fit_pass}
-use Rattle.desk_engine.proofs.fit_pass.Met as fit_pass-thm
+use Rattle.desk_steps.proofs.shift.Shift as Sh
+use Rattle.desk_steps.proofs.shift.Shift.Laws as Sh′
+use Rattle.desk_steps.proofs.fit.Fit as B
+use Rattle.desk_steps.proofs.fit.Fit.Laws as B′
+use Rattle.desk_engine.proofs.effect.Effect as S
+use Rattle.desk_engine.proofs.effect.Effect.Laws as S′
+use Rattle.desk_engine.proofs.effect.drop_of as drop_of
+use Rattle.desk_engine.proofs.effect.drop_of.Symbol as drop_of-def
+use Rattle.desk_engine.proofs.effect.drop_of.Symbol.{name as #desk-engine·drop_of}
+use Rattle.desk_engine.proofs.effect.drop_of.Met as drop_of-thm
+use Rattle.desk_walks.proofs.drop_pass as drop_pass
+use Rattle.desk_walks.proofs.drop_pass.Symbol as drop_pass-def
+use Rattle.desk_walks.proofs.drop_pass.Symbol.{name as #desk-walks·drop_pass}
+use Rattle.desk_walks.proofs.drop_pass.Met as drop_pass-thm
+use Rattle.desk_engine.proofs.effect.shift_of as shift_of
+use Rattle.desk_engine.proofs.effect.shift_of.Symbol as shift_of-def
+use Rattle.desk_engine.proofs.effect.shift_of.Symbol.{name as #desk-engine·shift_of}
+use Rattle.desk_engine.proofs.effect.shift_of.Met as shift_of-thm
+use Rattle.desk_walks.proofs.shift_pass as shift_pass
+use Rattle.desk_walks.proofs.shift_pass.Symbol as shift_pass-def
+use Rattle.desk_walks.proofs.shift_pass.Symbol.{name as #desk-walks·shift_pass}
+use Rattle.desk_walks.proofs.shift_pass.Met as shift_pass-thm
+use Rattle.desk_engine.proofs.effect.fit_of as fit_of
+use Rattle.desk_engine.proofs.effect.fit_of.Symbol as fit_of-def
+use Rattle.desk_engine.proofs.effect.fit_of.Symbol.{name as #desk-engine·fit_of}
+use Rattle.desk_engine.proofs.effect.fit_of.Met as fit_of-thm
+use Rattle.desk_walks.proofs.fit_pass as fit_pass
+use Rattle.desk_walks.proofs.fit_pass.Symbol as fit_pass-def
+use Rattle.desk_walks.proofs.fit_pass.Symbol.{name as #desk-walks·fit_pass}
+use Rattle.desk_walks.proofs.fit_pass.Met as fit_pass-thm
 use Rattle.desk_lent.proofs.apply.Key.{name as #desk-lent·apply}
 use Rattle.desk_lent.proofs.apply as f
 use Rattle.desk_lent.proofs.apply.Statement as stated
@@ -90,9 +90,9 @@ abbrev stayed : Stays (f.ended .signature .params) (f.ended .kept)
 stayed = (stay-slice (0 ∷ []) tt (plain (λ _. J.the-row)), (stay-none (λ _. S.the-row) yes, tt))
 
 abbrev Arg : Type 0
-Arg = RefT (List Job) × (Plan × Unit {0})
+Arg = RefT (List Job) × (Effect × Unit {0})
 
-abbrev smach : Plan → Val
+abbrev smach : Effect → Val
 smach s = LL.tuple-val S.the-type S′.the-laws (S.the-type .to s)
 
 abbrev amach : Shift → Val
@@ -120,13 +120,13 @@ abbrev fit_pass-C : {M : Type 1} (𝓤 : URA M) (H : Heap 𝓤) (A : Atoms 𝓤)
 fit_pass-C 𝓤 H A mem run = tripleOf 𝓤 H A fit_pass.signature (fit_pass.spec 𝓤 H A mem run)
 
 module _ {M : Type 1} (𝓤 : URA M) (H : Heap 𝓤) (A : Atoms 𝓤) (W : Given 𝓤 H A) (mem : Memory → SProp 𝓤) (run : Routine → Fun 𝓤) where
-  abbrev to-drop_of : Plan → drop_of-C 𝓤 H A mem run .Ghost
+  abbrev to-drop_of : Effect → drop_of-C 𝓤 H A mem run .Ghost
   to-drop_of p = ((tt, tt, tt, (p, tt), (smach p ∷ [], tt)), tt)
 
-  goes-drop_of : (p : Plan) → Is S.the-row p (smach p ∷ []) → ent 𝓤 (sem 𝓤 H A ftrue) (drop_of-C 𝓤 H A mem run .pre (to-drop_of p))
+  goes-drop_of : (p : Effect) → Is S.the-row p (smach p ∷ []) → ent 𝓤 (sem 𝓤 H A ftrue) (drop_of-C 𝓤 H A mem run .pre (to-drop_of p))
   goes-drop_of p is = qed W (‵ ftrue ∷ []) ∵ nothing ! $ owned ! S.the-row (Is S.the-row) (LL.makes S.the-type S′.the-plain 𝓤 H A) p _ is $ fjoin ! $ move ! (1 ∷ 0 ∷ []) $ join ! $ frame ! $ done !
 
-  said-drop_of : (p : Plan) (e : ℕ) → ent 𝓤 (ensured 𝓤 H A drop_of.ended (drop_of.clauses 𝓤 H A mem run) tt (p, tt) tt e) (fact 𝓤 (e ≡ p .drop))
+  said-drop_of : (p : Effect) (e : ℕ) → ent 𝓤 (ensured 𝓤 H A drop_of.ended (drop_of.clauses 𝓤 H A mem run) tt (p, tt) tt e) (fact 𝓤 (e ≡ p .drop))
   said-drop_of p e = exE 𝓤 _ (λ ws. snd∗ 𝓤 (sem 𝓤 H A (lasts drop_of.ended tt (p, tt) ws)) (fact 𝓤 (e ≡ p .drop)))
 
   -- the table, at any lifetime and name, to `drop_pass`
@@ -139,13 +139,13 @@ module _ {M : Type 1} (𝓤 : URA M) (H : Heap 𝓤) (A : Atoms 𝓤) (W : Given
       qed W (‵ (flft (ν ∷ []) fullShare) ∷ ‵ (MutSlice (named 0) (ν ∷ []) J.the-row .own (record { ptr = (b, o); name = δ; now = l }) (sliceVal (b, o) (length l) ∷ [])) ∷ []) ∵
       nothing ! $ owned ! usize (Is usize) (uint-makes 𝓤 H A W w64) k _ is $ fjoin ! $ move ! (2 ∷ 0 ∷ []) $ fjoin ! $ nothing ! $ move ! (2 ∷ 0 ∷ []) $ join ! $ join ! $ frame ! $ done !
 
-  abbrev to-shift_of : Plan → shift_of-C 𝓤 H A mem run .Ghost
+  abbrev to-shift_of : Effect → shift_of-C 𝓤 H A mem run .Ghost
   to-shift_of p = ((tt, tt, tt, (p, tt), (smach p ∷ [], tt)), tt)
 
-  goes-shift_of : (p : Plan) → Is S.the-row p (smach p ∷ []) → ent 𝓤 (sem 𝓤 H A ftrue) (shift_of-C 𝓤 H A mem run .pre (to-shift_of p))
+  goes-shift_of : (p : Effect) → Is S.the-row p (smach p ∷ []) → ent 𝓤 (sem 𝓤 H A ftrue) (shift_of-C 𝓤 H A mem run .pre (to-shift_of p))
   goes-shift_of p is = qed W (‵ ftrue ∷ []) ∵ nothing ! $ owned ! S.the-row (Is S.the-row) (LL.makes S.the-type S′.the-plain 𝓤 H A) p _ is $ fjoin ! $ move ! (1 ∷ 0 ∷ []) $ join ! $ frame ! $ done !
 
-  said-shift_of : (p : Plan) (e : Shift) → ent 𝓤 (ensured 𝓤 H A shift_of.ended (shift_of.clauses 𝓤 H A mem run) tt (p, tt) tt e) (fact 𝓤 (e ≡ p .shift))
+  said-shift_of : (p : Effect) (e : Shift) → ent 𝓤 (ensured 𝓤 H A shift_of.ended (shift_of.clauses 𝓤 H A mem run) tt (p, tt) tt e) (fact 𝓤 (e ≡ p .shift))
   said-shift_of p e = exE 𝓤 _ (λ ws. snd∗ 𝓤 (sem 𝓤 H A (lasts shift_of.ended tt (p, tt) ws)) (fact 𝓤 (e ≡ p .shift)))
 
   -- the table, at any lifetime and name, to `shift_pass`
@@ -158,13 +158,13 @@ module _ {M : Type 1} (𝓤 : URA M) (H : Heap 𝓤) (A : Atoms 𝓤) (W : Given
       qed W (‵ (flft (ν ∷ []) fullShare) ∷ ‵ (MutSlice (named 0) (ν ∷ []) J.the-row .own (record { ptr = (b, o); name = δ; now = l }) (sliceVal (b, o) (length l) ∷ [])) ∷ []) ∵
       nothing ! $ owned ! Sh.the-row (Is Sh.the-row) (LL.makes Sh.the-type Sh′.the-plain 𝓤 H A) k _ is $ fjoin ! $ move ! (2 ∷ 0 ∷ []) $ fjoin ! $ nothing ! $ move ! (2 ∷ 0 ∷ []) $ join ! $ join ! $ frame ! $ done !
 
-  abbrev to-fit_of : Plan → fit_of-C 𝓤 H A mem run .Ghost
+  abbrev to-fit_of : Effect → fit_of-C 𝓤 H A mem run .Ghost
   to-fit_of p = ((tt, tt, tt, (p, tt), (smach p ∷ [], tt)), tt)
 
-  goes-fit_of : (p : Plan) → Is S.the-row p (smach p ∷ []) → ent 𝓤 (sem 𝓤 H A ftrue) (fit_of-C 𝓤 H A mem run .pre (to-fit_of p))
+  goes-fit_of : (p : Effect) → Is S.the-row p (smach p ∷ []) → ent 𝓤 (sem 𝓤 H A ftrue) (fit_of-C 𝓤 H A mem run .pre (to-fit_of p))
   goes-fit_of p is = qed W (‵ ftrue ∷ []) ∵ nothing ! $ owned ! S.the-row (Is S.the-row) (LL.makes S.the-type S′.the-plain 𝓤 H A) p _ is $ fjoin ! $ move ! (1 ∷ 0 ∷ []) $ join ! $ frame ! $ done !
 
-  said-fit_of : (p : Plan) (e : Fit) → ent 𝓤 (ensured 𝓤 H A fit_of.ended (fit_of.clauses 𝓤 H A mem run) tt (p, tt) tt e) (fact 𝓤 (e ≡ p .fit))
+  said-fit_of : (p : Effect) (e : Fit) → ent 𝓤 (ensured 𝓤 H A fit_of.ended (fit_of.clauses 𝓤 H A mem run) tt (p, tt) tt e) (fact 𝓤 (e ≡ p .fit))
   said-fit_of p e = exE 𝓤 _ (λ ws. snd∗ 𝓤 (sem 𝓤 H A (lasts fit_of.ended tt (p, tt) ws)) (fact 𝓤 (e ≡ p .fit)))
 
   -- the table, at any lifetime and name, to `fit_pass`
@@ -177,7 +177,7 @@ module _ {M : Type 1} (𝓤 : URA M) (H : Heap 𝓤) (A : Atoms 𝓤) (W : Given
       qed W (‵ (flft (ν ∷ []) fullShare) ∷ ‵ (MutSlice (named 0) (ν ∷ []) J.the-row .own (record { ptr = (b, o); name = δ; now = l }) (sliceVal (b, o) (length l) ∷ [])) ∷ []) ∵
       nothing ! $ owned ! B.the-row (Is B.the-row) (LL.makes B.the-type B′.the-plain 𝓤 H A) k _ is $ fjoin ! $ move ! (2 ∷ 0 ∷ []) $ fjoin ! $ nothing ! $ move ! (2 ∷ 0 ∷ []) $ join ! $ join ! $ frame ! $ done !
 
-module _ {M : Type 1} (𝓤 : URA M) (H : Heap 𝓤) (A : Atoms 𝓤) (W : Given 𝓤 H A) (mem : Memory → SProp 𝓤) (run : Routine → Fun 𝓤) (κ : Lft) (q : Share) (b o : ℕ) (γ : GName) (ys : List Job) (s : Plan) (room : Room J.the-row (length ys)) (is₀ : Is S.the-row s (smach s ∷ [])) where
+module _ {M : Type 1} (𝓤 : URA M) (H : Heap 𝓤) (A : Atoms 𝓤) (W : Given 𝓤 H A) (mem : Memory → SProp 𝓤) (run : Routine → Fun 𝓤) (κ : Lft) (q : Share) (b o : ℕ) (γ : GName) (ys : List Job) (s : Effect) (room : Room J.the-row (length ys)) (is₀ : Is S.the-row s (smach s ∷ [])) where
   abbrev n : ℕ
   n = length ys
 
@@ -216,7 +216,7 @@ module _ {M : Type 1} (𝓤 : URA M) (H : Heap 𝓤) (A : Atoms 𝓤) (W : Given
   whole-way k u v l₁ l₂ l₃ ek e₁ eu e₂ ev e₃ =
       e₃ ∙ ap (λ (z : Fit). fittedAll z l₂) ev ∙ ap (fittedAll (s .fit)) (e₂ ∙ ap (λ (z : Shift). shifted z l₁) eu ∙ ap (shifted (s .shift)) (e₁ ∙ ap (λ (z : ℕ). movedUp z ys) ek))
 
-  module _ (C : Calls 𝓤 H) (Λ : Loops 𝓤 H) (fm : FmC 𝓤 H (W .laws) C) (known-drop_of : Triple 𝓤 (C #desk-lent·drop_of) (drop_of-C 𝓤 H A mem run)) (known-drop_pass : Triple 𝓤 (C #desk-engine·drop_pass) (drop_pass-C 𝓤 H A mem run)) (known-shift_of : Triple 𝓤 (C #desk-lent·shift_of) (shift_of-C 𝓤 H A mem run)) (known-shift_pass : Triple 𝓤 (C #desk-engine·shift_pass) (shift_pass-C 𝓤 H A mem run)) (known-fit_of : Triple 𝓤 (C #desk-lent·fit_of) (fit_of-C 𝓤 H A mem run)) (known-fit_pass : Triple 𝓤 (C #desk-engine·fit_pass) (fit_pass-C 𝓤 H A mem run)) where
+  module _ (C : Calls 𝓤 H) (Λ : Loops 𝓤 H) (fm : FmC 𝓤 H (W .laws) C) (known-drop_of : Triple 𝓤 (C #desk-engine·drop_of) (drop_of-C 𝓤 H A mem run)) (known-drop_pass : Triple 𝓤 (C #desk-walks·drop_pass) (drop_pass-C 𝓤 H A mem run)) (known-shift_of : Triple 𝓤 (C #desk-engine·shift_of) (shift_of-C 𝓤 H A mem run)) (known-shift_pass : Triple 𝓤 (C #desk-walks·shift_pass) (shift_pass-C 𝓤 H A mem run)) (known-fit_of : Triple 𝓤 (C #desk-engine·fit_of) (fit_of-C 𝓤 H A mem run)) (known-fit_pass : Triple 𝓤 (C #desk-walks·fit_pass) (fit_pass-C 𝓤 H A mem run)) where
     walk : ent 𝓤 (onEntry 𝓤 H A f.signature (κ, tt) (q, tt) a at) (WpFn 𝓤 H C Λ code.function (sv ∷ smach s ∷ []) Post)
     walk =
         qed W ((‵ (flft κ q) ⊛ ‵ ftrue) ∷ ‵ (owns (MutSlice (named 0) κ J.the-row ∷ S.the-row ∷ []) a at) ∷ []) ∵ enter ! C Λ code.function (sv ∷ smach s ∷ []) _ $
@@ -303,13 +303,13 @@ module _ {M : Type 1} (𝓤 : URA M) (H : Heap 𝓤) (A : Atoms 𝓤) (W : Given
         by ! (exits (r2 .0) (whole-way v0 v1 v2 (r0 .0) (r1 .0) (r2 .0) ev0 ez0 ev1 ez1 ev2 ez2) (l2 ∙ l1 ∙ l0)))))))))))))))))))))))))))))))))))))))))))))))))))
 
 module _ {M : Type 1} (𝓤 : URA M) (H : Heap 𝓤) (A : Atoms 𝓤) (W : Given 𝓤 H A) (mem : Memory → SProp 𝓤) (run : Routine → Fun 𝓤) where
-  walks : (C : Calls 𝓤 H) (Λ : Loops 𝓤 H) → FmC 𝓤 H (W .laws) C → Triple 𝓤 (C #desk-lent·drop_of) (drop_of-C 𝓤 H A mem run) → Triple 𝓤 (C #desk-engine·drop_pass) (drop_pass-C 𝓤 H A mem run) → Triple 𝓤 (C #desk-lent·shift_of) (shift_of-C 𝓤 H A mem run) → Triple 𝓤 (C #desk-engine·shift_pass) (shift_pass-C 𝓤 H A mem run) → Triple 𝓤 (C #desk-lent·fit_of) (fit_of-C 𝓤 H A mem run) → Triple 𝓤 (C #desk-engine·fit_pass) (fit_pass-C 𝓤 H A mem run) → Walks 𝓤 H A f.ended stayed (WpFn 𝓤 H C Λ code.function) (f.clauses 𝓤 H A mem run)
+  walks : (C : Calls 𝓤 H) (Λ : Loops 𝓤 H) → FmC 𝓤 H (W .laws) C → Triple 𝓤 (C #desk-engine·drop_of) (drop_of-C 𝓤 H A mem run) → Triple 𝓤 (C #desk-walks·drop_pass) (drop_pass-C 𝓤 H A mem run) → Triple 𝓤 (C #desk-engine·shift_of) (shift_of-C 𝓤 H A mem run) → Triple 𝓤 (C #desk-walks·shift_pass) (shift_pass-C 𝓤 H A mem run) → Triple 𝓤 (C #desk-engine·fit_of) (fit_of-C 𝓤 H A mem run) → Triple 𝓤 (C #desk-walks·fit_pass) (fit_pass-C 𝓤 H A mem run) → Walks 𝓤 H A f.ended stayed (WpFn 𝓤 H C Λ code.function) (f.clauses 𝓤 H A mem run)
   walks C Λ fm known-drop_of known-drop_pass known-shift_of known-shift_pass known-fit_of known-fit_pass = walked 𝓤 H A f.ended stayed (f.clauses 𝓤 H A mem run) (WpFn 𝓤 H C Λ code.function)
       (λ κs. (slice-vals, (LL.vals S.the-type S′.the-laws, tt))) (λ κs. (mut-slice-tells (named 0) (κs .0) J.the-row, (LL.tells S.the-type S′.the-laws, tt)))
       (λ κs qs bounds a g are. via 𝓤 _ (fst∗ 𝓤 _ (emp 𝓤))
       (walk 𝓤 H A W mem run (κs .0) (qs .0) (a .0 .ptr .0) (a .0 .ptr .1) (a .0 .name) (a .0 .now) (a .1 .0) (are .0 .0 .1) (are .1 .0) C Λ fm known-drop_of known-drop_pass known-shift_of known-shift_pass known-fit_of known-fit_pass))
 
-meets : {M : Type 1} (𝓤 : URA M) (H : Heap 𝓤) (A : Atoms 𝓤) → Given 𝓤 H A → (mem : Memory → SProp 𝓤) (run : Routine → Fun 𝓤) (𝓣 : Tables 𝓤 H) → Triple 𝓤 (𝓣 .C #desk-lent·drop_of) (drop_of-C 𝓤 H A mem run) → Triple 𝓤 (𝓣 .C #desk-engine·drop_pass) (drop_pass-C 𝓤 H A mem run) → Triple 𝓤 (𝓣 .C #desk-lent·shift_of) (shift_of-C 𝓤 H A mem run) → Triple 𝓤 (𝓣 .C #desk-engine·shift_pass) (shift_pass-C 𝓤 H A mem run) → Triple 𝓤 (𝓣 .C #desk-lent·fit_of) (fit_of-C 𝓤 H A mem run) → Triple 𝓤 (𝓣 .C #desk-engine·fit_pass) (fit_pass-C 𝓤 H A mem run)
+meets : {M : Type 1} (𝓤 : URA M) (H : Heap 𝓤) (A : Atoms 𝓤) → Given 𝓤 H A → (mem : Memory → SProp 𝓤) (run : Routine → Fun 𝓤) (𝓣 : Tables 𝓤 H) → Triple 𝓤 (𝓣 .C #desk-engine·drop_of) (drop_of-C 𝓤 H A mem run) → Triple 𝓤 (𝓣 .C #desk-walks·drop_pass) (drop_pass-C 𝓤 H A mem run) → Triple 𝓤 (𝓣 .C #desk-engine·shift_of) (shift_of-C 𝓤 H A mem run) → Triple 𝓤 (𝓣 .C #desk-walks·shift_pass) (shift_pass-C 𝓤 H A mem run) → Triple 𝓤 (𝓣 .C #desk-engine·fit_of) (fit_of-C 𝓤 H A mem run) → Triple 𝓤 (𝓣 .C #desk-walks·fit_pass) (fit_pass-C 𝓤 H A mem run)
     → Meets 𝓤 H A f.signature (WpFn 𝓤 H (𝓣 .C) (𝓣 .Λ) code.function) (f.spec 𝓤 H A mem run)
 meets 𝓤 H A W mem run 𝓣 known-drop_of known-drop_pass known-shift_of known-shift_pass known-fit_of known-fit_pass =
     walk-meets 𝓤 H A f.ended stayed W (goes-slice 𝓤 H A W 1 0 tt (plain (λ _. J.the-row)), (goes-none 𝓤 H A W 1 (λ _. S.the-row) yes (λ κs x f. refl), tt)) (f.clauses 𝓤 H A mem run)
@@ -321,9 +321,9 @@ apply-spec 𝓤 H 𝓜 𝓖 𝓡 =
     entered 𝓤 H (tripleOf 𝓤 H (𝓖 .A) f.signature (f.spec 𝓤 H (𝓖 .A) (𝓜 .mem) (𝓡 .run)))
     (tables 𝓤 H 𝓜 𝓡 code.env .C) (tables 𝓤 H 𝓜 𝓡 code.env .Λ) #desk-lent·apply code.function (code.unfolded 𝓤 H 𝓜 𝓡)
     (meets 𝓤 H (𝓖 .A) (givenOf 𝓤 H 𝓜 𝓖) (𝓜 .mem) (𝓡 .run) (tablesOf 𝓤 H 𝓜 (tables 𝓤 H 𝓜 𝓡 code.env))
-    (cited 𝓤 H (drop_of-C 𝓤 H (𝓖 .A) (𝓜 .mem) (𝓡 .run)) 𝓜 𝓡 code.env #desk-lent·drop_of drop_of-def.routine code.calls-desk-lent·plan·drop-of (drop_of-thm.met 𝓤 H 𝓜 𝓖 𝓡))
-    (cited 𝓤 H (drop_pass-C 𝓤 H (𝓖 .A) (𝓜 .mem) (𝓡 .run)) 𝓜 𝓡 code.env #desk-engine·drop_pass drop_pass-def.routine code.calls-desk-engine·drop-pass (drop_pass-thm.met 𝓤 H 𝓜 𝓖 𝓡))
-    (cited 𝓤 H (shift_of-C 𝓤 H (𝓖 .A) (𝓜 .mem) (𝓡 .run)) 𝓜 𝓡 code.env #desk-lent·shift_of shift_of-def.routine code.calls-desk-lent·plan·shift-of (shift_of-thm.met 𝓤 H 𝓜 𝓖 𝓡))
-    (cited 𝓤 H (shift_pass-C 𝓤 H (𝓖 .A) (𝓜 .mem) (𝓡 .run)) 𝓜 𝓡 code.env #desk-engine·shift_pass shift_pass-def.routine code.calls-desk-engine·shift-pass (shift_pass-thm.met 𝓤 H 𝓜 𝓖 𝓡))
-    (cited 𝓤 H (fit_of-C 𝓤 H (𝓖 .A) (𝓜 .mem) (𝓡 .run)) 𝓜 𝓡 code.env #desk-lent·fit_of fit_of-def.routine code.calls-desk-lent·plan·fit-of (fit_of-thm.met 𝓤 H 𝓜 𝓖 𝓡))
-    (cited 𝓤 H (fit_pass-C 𝓤 H (𝓖 .A) (𝓜 .mem) (𝓡 .run)) 𝓜 𝓡 code.env #desk-engine·fit_pass fit_pass-def.routine code.calls-desk-engine·fit-pass (fit_pass-thm.met 𝓤 H 𝓜 𝓖 𝓡)))
+    (cited 𝓤 H (drop_of-C 𝓤 H (𝓖 .A) (𝓜 .mem) (𝓡 .run)) 𝓜 𝓡 code.env #desk-engine·drop_of drop_of-def.routine code.calls-desk-engine·effect·drop-of (drop_of-thm.met 𝓤 H 𝓜 𝓖 𝓡))
+    (cited 𝓤 H (drop_pass-C 𝓤 H (𝓖 .A) (𝓜 .mem) (𝓡 .run)) 𝓜 𝓡 code.env #desk-walks·drop_pass drop_pass-def.routine code.calls-desk-walks·drop-pass (drop_pass-thm.met 𝓤 H 𝓜 𝓖 𝓡))
+    (cited 𝓤 H (shift_of-C 𝓤 H (𝓖 .A) (𝓜 .mem) (𝓡 .run)) 𝓜 𝓡 code.env #desk-engine·shift_of shift_of-def.routine code.calls-desk-engine·effect·shift-of (shift_of-thm.met 𝓤 H 𝓜 𝓖 𝓡))
+    (cited 𝓤 H (shift_pass-C 𝓤 H (𝓖 .A) (𝓜 .mem) (𝓡 .run)) 𝓜 𝓡 code.env #desk-walks·shift_pass shift_pass-def.routine code.calls-desk-walks·shift-pass (shift_pass-thm.met 𝓤 H 𝓜 𝓖 𝓡))
+    (cited 𝓤 H (fit_of-C 𝓤 H (𝓖 .A) (𝓜 .mem) (𝓡 .run)) 𝓜 𝓡 code.env #desk-engine·fit_of fit_of-def.routine code.calls-desk-engine·effect·fit-of (fit_of-thm.met 𝓤 H 𝓜 𝓖 𝓡))
+    (cited 𝓤 H (fit_pass-C 𝓤 H (𝓖 .A) (𝓜 .mem) (𝓡 .run)) 𝓜 𝓡 code.env #desk-walks·fit_pass fit_pass-def.routine code.calls-desk-walks·fit-pass (fit_pass-thm.met 𝓤 H 𝓜 𝓖 𝓡)))

@@ -1,5 +1,5 @@
--- `desk_lent::serve` meets its contract: a walk of its MIR, by hand. The table is lent as `&` to `scan_pass`, for a lifetime that is made for the call, and comes back; `decide` is called on what `scan_pass` returned; then the table goes to `apply` at its own lifetime, and is given up.
--- Of `scan_pass`, `decide` and `apply` the proof knows only that each meets its contract.
+-- `desk_lent::serve` meets its contract: a walk of its MIR, by hand. The table is lent as `&` to `scan_pass`, for a lifetime that is made for the call, and comes back; `effect_of` is called on what `scan_pass` returned; then the table goes to `apply` at its own lifetime, and is given up.
+-- Of `scan_pass`, `effect_of` and `apply` the proof knows only that each meets its contract.
 -- Assumes nothing.
 use mathlib.Core.Path.{_≡_, refl, _∙_, ap, subst}
 use Prim.Native.Nat.{ℕ}
@@ -44,24 +44,24 @@ use denote.Triple.Clauses.{ensured, lasts}
 use denote.Triple.Table.{entered, cited}
 use denote.Triple.Walked.{says, Stays, stay-none, gave-slice, walkOf, goes-none, goes-gave-slice, Walks, ends-at, walked, walk-meets}
 use denote.Exit.{yes}
-use Rattle.desk_lent.specs.Scan.{scanned}
-use Rattle.desk_lent.specs.Plan.{planOf, applied}
+use Rattle.desk_engine.specs.Scanning.{scanned}
+use Rattle.desk_engine.specs.Deciding.{effectOf, applied}
 use Rattle.desk.specs.declared.Job.{Job}
-use Rattle.desk_lent.specs.declared.scan.Scan.{Scan}
-use Rattle.desk_lent.specs.declared.plan.Plan.{Plan}
+use Rattle.desk_engine.specs.declared.scan.Scan.{Scan}
+use Rattle.desk_engine.specs.declared.effect.Effect.{Effect}
 use Rattle.desk.proofs.Job as J
-use Rattle.desk_lent.proofs.scan.Scan as S
-use Rattle.desk_lent.proofs.scan.Scan.Laws as S′
-use Rattle.desk_lent.proofs.plan.Plan as P
-use Rattle.desk_lent.proofs.plan.Plan.Laws as P′
-use Rattle.desk_lent.proofs.scan.scan_pass as scan
-use Rattle.desk_lent.proofs.scan.scan_pass.Symbol as scan-def
-use Rattle.desk_lent.proofs.scan.scan_pass.Symbol.{name as #desk-lent·scan_pass}
-use Rattle.desk_lent.proofs.scan.scan_pass.Met as scan-thm
-use Rattle.desk_lent.proofs.plan.decide as decide
-use Rattle.desk_lent.proofs.plan.decide.Symbol as decide-def
-use Rattle.desk_lent.proofs.plan.decide.Symbol.{name as #desk-lent·decide}
-use Rattle.desk_lent.proofs.plan.decide.Met as decide-thm
+use Rattle.desk_engine.proofs.scan.Scan as S
+use Rattle.desk_engine.proofs.scan.Scan.Laws as S′
+use Rattle.desk_engine.proofs.effect.Effect as P
+use Rattle.desk_engine.proofs.effect.Effect.Laws as P′
+use Rattle.desk_walks.proofs.scan_pass as scan
+use Rattle.desk_walks.proofs.scan_pass.Symbol as scan-def
+use Rattle.desk_walks.proofs.scan_pass.Symbol.{name as #desk-walks·scan_pass}
+use Rattle.desk_walks.proofs.scan_pass.Met as scan-thm
+use Rattle.desk_engine.proofs.effect.effect_of as effect-of
+use Rattle.desk_engine.proofs.effect.effect_of.Symbol as effect-of-def
+use Rattle.desk_engine.proofs.effect.effect_of.Symbol.{name as #desk-engine·effect_of}
+use Rattle.desk_engine.proofs.effect.effect_of.Met as effect-of-thm
 use Rattle.desk_lent.proofs.apply as update
 use Rattle.desk_lent.proofs.apply.Symbol as update-def
 use Rattle.desk_lent.proofs.apply.Symbol.{name as #desk-lent·apply}
@@ -80,7 +80,7 @@ Arg = RefT (List Job) × (Scan × Unit {0})
 abbrev smach : Scan → Val
 smach s = LL.tuple-val S.the-type S′.the-laws (S.the-type .to s)
 
-abbrev pmach : Plan → Val
+abbrev pmach : Effect → Val
 pmach s = LL.tuple-val P.the-type P′.the-laws (P.the-type .to s)
 
 -- the contracts that the proof cites
@@ -88,7 +88,7 @@ abbrev ScanC : {M : Type 1} (𝓤 : URA M) (H : Heap 𝓤) (A : Atoms 𝓤) (mem
 ScanC 𝓤 H A mem run = tripleOf 𝓤 H A scan.signature (scan.spec 𝓤 H A mem run)
 
 abbrev DecideC : {M : Type 1} (𝓤 : URA M) (H : Heap 𝓤) (A : Atoms 𝓤) (mem : Memory → SProp 𝓤) (run : Routine → Fun 𝓤) → Contract 𝓤
-DecideC 𝓤 H A mem run = tripleOf 𝓤 H A decide.signature (decide.spec 𝓤 H A mem run)
+DecideC 𝓤 H A mem run = tripleOf 𝓤 H A effect-of.signature (effect-of.spec 𝓤 H A mem run)
 
 abbrev UpdateC : {M : Type 1} (𝓤 : URA M) (H : Heap 𝓤) (A : Atoms 𝓤) (mem : Memory → SProp 𝓤) (run : Routine → Fun 𝓤) → Contract 𝓤
 UpdateC 𝓤 H A mem run = tripleOf 𝓤 H A update.signature (update.spec 𝓤 H A mem run)
@@ -124,26 +124,26 @@ module _ {M : Type 1} (𝓤 : URA M) (H : Heap 𝓤) (A : Atoms 𝓤) (W : Given
   said : (ν : ℕ) (δ : GName) (r : Scan) → ent 𝓤 (ensured 𝓤 H A scan.ended (scan.clauses 𝓤 H A mem run) (ν ∷ [], tt) (x δ, (s, tt)) tt r) (fact 𝓤 (r ≡ scanned s ys))
   said ν δ r = exE 𝓤 _ (λ ws. snd∗ 𝓤 (sem 𝓤 H A (lasts scan.ended (ν ∷ [], tt) (x δ, (s, tt)) ws)) (fact 𝓤 (r ≡ scanned s ys)))
 
-  -- what `decide` is passed, that it has what it asks, and what it says
-  abbrev to-decide : Scan → DecideC 𝓤 H A mem run .Ghost
-  to-decide r = ((tt, tt, tt, (r, tt), (smach r ∷ [], tt)), tt)
+  -- what `effect_of` is passed, that it has what it asks, and what it says
+  abbrev to-effect-of : Scan → DecideC 𝓤 H A mem run .Ghost
+  to-effect-of r = ((tt, tt, tt, (r, tt), (smach r ∷ [], tt)), tt)
 
-  goes-decide : (r : Scan) → Is S.the-row r (smach r ∷ []) → ent 𝓤 (sem 𝓤 H A ftrue) (DecideC 𝓤 H A mem run .pre (to-decide r))
-  goes-decide r is = qed W (‵ ftrue ∷ []) ∵ nothing ! $ owned ! S.the-row (Is S.the-row) (LL.makes S.the-type S′.the-plain 𝓤 H A) r _ is $ fjoin ! $ move ! (1 ∷ 0 ∷ []) $ join ! $ frame ! $ done !
+  goes-effect-of : (r : Scan) → Is S.the-row r (smach r ∷ []) → ent 𝓤 (sem 𝓤 H A ftrue) (DecideC 𝓤 H A mem run .pre (to-effect-of r))
+  goes-effect-of r is = qed W (‵ ftrue ∷ []) ∵ nothing ! $ owned ! S.the-row (Is S.the-row) (LL.makes S.the-type S′.the-plain 𝓤 H A) r _ is $ fjoin ! $ move ! (1 ∷ 0 ∷ []) $ join ! $ frame ! $ done !
 
-  said-decide : (r : Scan) (e : Plan) → ent 𝓤 (ensured 𝓤 H A decide.ended (decide.clauses 𝓤 H A mem run) tt (r, tt) tt e) (fact 𝓤 (e ≡ planOf r))
-  said-decide r e = exE 𝓤 _ (λ ws. snd∗ 𝓤 (sem 𝓤 H A (lasts decide.ended tt (r, tt) ws)) (fact 𝓤 (e ≡ planOf r)))
+  said-effect-of : (r : Scan) (e : Effect) → ent 𝓤 (ensured 𝓤 H A effect-of.ended (effect-of.clauses 𝓤 H A mem run) tt (r, tt) tt e) (fact 𝓤 (e ≡ effectOf r))
+  said-effect-of r e = exE 𝓤 _ (λ ws. snd∗ 𝓤 (sem 𝓤 H A (lasts effect-of.ended tt (r, tt) ws)) (fact 𝓤 (e ≡ effectOf r)))
 
   -- what `apply` is passed: the table at its own lifetime, share and name
-  abbrev to-update : Plan → UpdateC 𝓤 H A mem run .Ghost
+  abbrev to-update : Effect → UpdateC 𝓤 H A mem run .Ghost
   to-update r = (((κ, tt), (q, tt), tt, (x γ, (r, tt)), (sv ∷ [], (pmach r ∷ [], tt))), tt)
 
-  goes-update : (r : Plan) → Is P.the-row r (pmach r ∷ []) → ent 𝓤 (sep 𝓤 (sep 𝓤 (A .lft κ q) (sem 𝓤 H A ftrue)) (sem 𝓤 H A (MutSlice (named 0) κ J.the-row .own (x γ) (sv ∷ [])))) (UpdateC 𝓤 H A mem run .pre (to-update r))
+  goes-update : (r : Effect) → Is P.the-row r (pmach r ∷ []) → ent 𝓤 (sep 𝓤 (sep 𝓤 (A .lft κ q) (sem 𝓤 H A ftrue)) (sem 𝓤 H A (MutSlice (named 0) κ J.the-row .own (x γ) (sv ∷ [])))) (UpdateC 𝓤 H A mem run .pre (to-update r))
   goes-update r is =
       qed W ((‵ (flft κ q) ⊛ ‵ ftrue) ∷ ‵ (MutSlice (named 0) κ J.the-row .own (x γ) (sv ∷ [])) ∷ []) ∵
       nothing ! $ owned ! P.the-row (Is P.the-row) (LL.makes P.the-type P′.the-plain 𝓤 H A) r _ is $ fjoin ! $ move ! (2 ∷ 0 ∷ []) $ fjoin ! $ move ! (1 ∷ 0 ∷ []) $ join ! $ frame ! $ done !
 
-  exits : (r : Plan) (zs : List Job) → r ≡ planOf (scanned s ys) → zs ≡ applied r ys → length zs ≡ n → Is P.the-row r (pmach r ∷ []) → ent 𝓤 (⋆ 𝓤 H A ((‵ (flft κ q) ⊛ ‵ ftrue) ∷ ‵ (finally J.the-row γ zs) ∷ [])) (Post (pmach r))
+  exits : (r : Effect) (zs : List Job) → r ≡ effectOf (scanned s ys) → zs ≡ applied r ys → length zs ≡ n → Is P.the-row r (pmach r ∷ []) → ent 𝓤 (⋆ 𝓤 H A ((‵ (flft κ q) ⊛ ‵ ftrue) ∷ ‵ (finally J.the-row γ zs) ∷ [])) (Post (pmach r))
   exits r zs er ez l is =
       qed W ((‵ (flft κ q) ⊛ ‵ ftrue) ∷ ‵ (finally J.the-row γ zs) ∷ []) ∵
       suffices ! _ (ends-at 𝓤 H A f.ended stayed (f.clauses 𝓤 H A mem run) W (((κ, tt), (q, tt), tt, a, at), tt) (pmach r) r (zs, (tt, tt)) (l, (tt, tt))) $ says ! (er, ez) $ frame ! $
@@ -157,13 +157,13 @@ module _ {M : Type 1} (𝓤 : URA M) (H : Heap 𝓤) (A : Atoms 𝓤) (W : Given
   isS : (r : Scan) (w : Val) → Is S.the-row r (w ∷ []) → Is S.the-row r (smach r ∷ [])
   isS r w is = subst (Is S.the-row r) (LL.tells S.the-type S′.the-laws r (w ∷ []) is) is
 
-  toldP : (r : Plan) (w : Val) → Is P.the-row r (w ∷ []) → w ≡ pmach r
+  toldP : (r : Effect) (w : Val) → Is P.the-row r (w ∷ []) → w ≡ pmach r
   toldP r w is = ap only (LL.tells P.the-type P′.the-laws r (w ∷ []) is)
 
-  isP : (r : Plan) (w : Val) → Is P.the-row r (w ∷ []) → Is P.the-row r (pmach r ∷ [])
+  isP : (r : Effect) (w : Val) → Is P.the-row r (w ∷ []) → Is P.the-row r (pmach r ∷ [])
   isP r w is = subst (Is P.the-row r) (LL.tells P.the-type P′.the-laws r (w ∷ []) is) is
 
-  module _ (C : Calls 𝓤 H) (Λ : Loops 𝓤 H) (fm : FmC 𝓤 H (W .laws) C) (known-scan : Triple 𝓤 (C #desk-lent·scan_pass) (ScanC 𝓤 H A mem run)) (known-decide : Triple 𝓤 (C #desk-lent·decide) (DecideC 𝓤 H A mem run)) (known-update : Triple 𝓤 (C #desk-lent·apply) (UpdateC 𝓤 H A mem run)) where
+  module _ (C : Calls 𝓤 H) (Λ : Loops 𝓤 H) (fm : FmC 𝓤 H (W .laws) C) (known-scan : Triple 𝓤 (C #desk-walks·scan_pass) (ScanC 𝓤 H A mem run)) (known-effect-of : Triple 𝓤 (C #desk-engine·effect_of) (DecideC 𝓤 H A mem run)) (known-update : Triple 𝓤 (C #desk-lent·apply) (UpdateC 𝓤 H A mem run)) where
     walk : ent 𝓤 (onEntry 𝓤 H A f.signature (κ, tt) (q, tt) a at) (WpFn 𝓤 H C Λ code.function (sv ∷ smach s ∷ []) Post)
     walk =
         qed W ((‵ (flft κ q) ⊛ ‵ ftrue) ∷ ‵ (owns (MutSlice (named 0) κ J.the-row ∷ S.the-row ∷ []) a at) ∷ []) ∵ enter ! C Λ code.function (sv ∷ smach s ∷ []) _ $
@@ -185,11 +185,11 @@ module _ {M : Type 1} (𝓤 : URA M) (H : Heap 𝓤) (A : Atoms 𝓤) (W : Given
         land ! (from ! (stop !)) (init ! 20 refl (LL.lawful S.the-type S′.the-laws 𝓤 H A W .typed p _ isp .0)) $ rewrite ! 20 (λ (u : Val). ‵ (fat fullShare S′.mir l₃ 0 u)) (told p w isp) refl $
         -- the lifetime is ended, and the table is back
         drop ! $ split ! $ lft-end ! tt $ move ! (0 ∷ 2 ∷ []) $ lent-back ! tt $ fsplit ! $ drop ! $ move ! (0 ∷ 2 ∷ 3 ∷ 4 ∷ []) $ closes-slice ! tt J.the-row ys ys refl b o $
-        -- [obs; the borrow; the token; true; true; what s owns; _9 at 6; …]: `decide`
-        nothing ! $ use1 W (raw (DecideC 𝓤 H A mem run .pre (to-decide p))) (goes-decide p (isS p w isp)) $
-        calls-at ! fm (DecideC 𝓤 H A mem run) known-decide (to-decide p) (and-then ! (load ! (from ! (stop !)) (look ! 19 refl)) (no-more !)) (λ v.
-        use1 W (later (some (λ (r : Plan). (‵ ftrue ⊛ ‵ (P.the-row .own r (v ∷ []))) ⊛ raw (ensured 𝓤 H A decide.ended (decide.clauses 𝓤 H A mem run) tt (p, tt) tt r)))) (id⊢ 𝓤 _) $ await ! tt $ pick ! (λ r.
-        split ! $ move ! (1 ∷ []) $ use1 W (raw (fact 𝓤 (r ≡ planOf p))) (said-decide p r) $ heard ! (r ≡ planOf p) (λ er. split ! $ drop ! $
+        -- [obs; the borrow; the token; true; true; what s owns; _9 at 6; …]: `effect_of`
+        nothing ! $ use1 W (raw (DecideC 𝓤 H A mem run .pre (to-effect-of p))) (goes-effect-of p (isS p w isp)) $
+        calls-at ! fm (DecideC 𝓤 H A mem run) known-effect-of (to-effect-of p) (and-then ! (load ! (from ! (stop !)) (look ! 19 refl)) (no-more !)) (λ v.
+        use1 W (later (some (λ (r : Effect). (‵ ftrue ⊛ ‵ (P.the-row .own r (v ∷ []))) ⊛ raw (ensured 𝓤 H A effect-of.ended (effect-of.clauses 𝓤 H A mem run) tt (p, tt) tt r)))) (id⊢ 𝓤 _) $ await ! tt $ pick ! (λ r.
+        split ! $ move ! (1 ∷ []) $ use1 W (raw (fact 𝓤 (r ≡ effectOf p))) (said-effect-of p r) $ heard ! (r ≡ effectOf p) (λ er. split ! $ drop ! $
         peeks ! P.the-row (Is P.the-row) (shows 𝓤 H A P.the-row) r (v ∷ []) (λ is.
         land ! (from ! (stop !)) (init ! 17 refl (LL.lawful P.the-type P′.the-laws 𝓤 H A W .typed r _ is .0)) $ rewrite ! 17 (λ (u : Val). ‵ (fat fullShare P′.mir l₄ 0 u)) (toldP r v is) refl $ drop ! $
         -- the same context: `apply`
@@ -208,20 +208,20 @@ module _ {M : Type 1} (𝓤 : URA M) (H : Heap 𝓤) (A : Atoms 𝓤) (W : Given
         assigns ! (of-opd ! (load ! (from ! (stop !)) (look ! 16 refl))) (from ! (stop !)) (init ! 24 refl (LL.lawful P.the-type P′.the-laws 𝓤 H A W .typed r _ (isP r v is) .0)) $
         returns ! (look ! 24 refl) $ forget ! 6 refl $ forget ! 8 refl $ forget ! 10 refl $ forget ! 12 refl $ forget ! 14 refl $ forget ! 16 refl $ forget ! 18 refl $ forget ! 20 refl $ forget ! 22 refl $ forget ! 24 refl $
         move ! (24 ∷ 25 ∷ []) $ free1 ! $ move ! (22 ∷ 23 ∷ []) $ free1 ! $ move ! (20 ∷ 21 ∷ []) $ free1 ! $ move ! (18 ∷ 19 ∷ []) $ free1 ! $ move ! (16 ∷ 17 ∷ []) $ free1 ! $ move ! (14 ∷ 15 ∷ []) $ free1 ! $ move ! (12 ∷ 13 ∷ []) $ free1 ! $ move ! (10 ∷ 11 ∷ []) $ free1 ! $ move ! (8 ∷ 9 ∷ []) $ free1 ! $ move ! (6 ∷ 7 ∷ []) $ free1 ! $ free0 ! $
-        keep ! (1 ∷ 2 ∷ []) $ by ! (exits r (zs .0) (er ∙ ap planOf ep) ez l (isP r v is))))))))))))))))))))))))))))
+        keep ! (1 ∷ 2 ∷ []) $ by ! (exits r (zs .0) (er ∙ ap effectOf ep) ez l (isP r v is))))))))))))))))))))))))))))
 
 module _ {M : Type 1} (𝓤 : URA M) (H : Heap 𝓤) (A : Atoms 𝓤) (W : Given 𝓤 H A) (mem : Memory → SProp 𝓤) (run : Routine → Fun 𝓤) where
-  serve-walks : (C : Calls 𝓤 H) (Λ : Loops 𝓤 H) → FmC 𝓤 H (W .laws) C → Triple 𝓤 (C #desk-lent·scan_pass) (ScanC 𝓤 H A mem run) → Triple 𝓤 (C #desk-lent·decide) (DecideC 𝓤 H A mem run) → Triple 𝓤 (C #desk-lent·apply) (UpdateC 𝓤 H A mem run) → Walks 𝓤 H A f.ended stayed (WpFn 𝓤 H C Λ code.function) (f.clauses 𝓤 H A mem run)
-  serve-walks C Λ fm known-scan known-decide known-update = walked 𝓤 H A f.ended stayed (f.clauses 𝓤 H A mem run) (WpFn 𝓤 H C Λ code.function)
+  serve-walks : (C : Calls 𝓤 H) (Λ : Loops 𝓤 H) → FmC 𝓤 H (W .laws) C → Triple 𝓤 (C #desk-walks·scan_pass) (ScanC 𝓤 H A mem run) → Triple 𝓤 (C #desk-engine·effect_of) (DecideC 𝓤 H A mem run) → Triple 𝓤 (C #desk-lent·apply) (UpdateC 𝓤 H A mem run) → Walks 𝓤 H A f.ended stayed (WpFn 𝓤 H C Λ code.function) (f.clauses 𝓤 H A mem run)
+  serve-walks C Λ fm known-scan known-effect-of known-update = walked 𝓤 H A f.ended stayed (f.clauses 𝓤 H A mem run) (WpFn 𝓤 H C Λ code.function)
       (λ κs. (slice-vals, (LL.vals S.the-type S′.the-laws, tt))) (λ κs. (mut-slice-tells (named 0) (κs .0) J.the-row, (LL.tells S.the-type S′.the-laws, tt)))
       (λ κs qs bounds a g are. via 𝓤 _ (fst∗ 𝓤 _ (emp 𝓤))
-      (walk 𝓤 H A W mem run (κs .0) (qs .0) (a .0 .ptr .0) (a .0 .ptr .1) (a .0 .name) (a .0 .now) (a .1 .0) (are .0 .0 .1) (are .1 .0) C Λ fm known-scan known-decide known-update))
+      (walk 𝓤 H A W mem run (κs .0) (qs .0) (a .0 .ptr .0) (a .0 .ptr .1) (a .0 .name) (a .0 .now) (a .1 .0) (are .0 .0 .1) (are .1 .0) C Λ fm known-scan known-effect-of known-update))
 
-serve-meets : {M : Type 1} (𝓤 : URA M) (H : Heap 𝓤) (A : Atoms 𝓤) → Given 𝓤 H A → (mem : Memory → SProp 𝓤) (run : Routine → Fun 𝓤) (𝓣 : Tables 𝓤 H) → Triple 𝓤 (𝓣 .C #desk-lent·scan_pass) (ScanC 𝓤 H A mem run) → Triple 𝓤 (𝓣 .C #desk-lent·decide) (DecideC 𝓤 H A mem run) → Triple 𝓤 (𝓣 .C #desk-lent·apply) (UpdateC 𝓤 H A mem run)
+serve-meets : {M : Type 1} (𝓤 : URA M) (H : Heap 𝓤) (A : Atoms 𝓤) → Given 𝓤 H A → (mem : Memory → SProp 𝓤) (run : Routine → Fun 𝓤) (𝓣 : Tables 𝓤 H) → Triple 𝓤 (𝓣 .C #desk-walks·scan_pass) (ScanC 𝓤 H A mem run) → Triple 𝓤 (𝓣 .C #desk-engine·effect_of) (DecideC 𝓤 H A mem run) → Triple 𝓤 (𝓣 .C #desk-lent·apply) (UpdateC 𝓤 H A mem run)
     → Meets 𝓤 H A f.signature (WpFn 𝓤 H (𝓣 .C) (𝓣 .Λ) code.function) (f.spec 𝓤 H A mem run)
-serve-meets 𝓤 H A W mem run 𝓣 known-scan known-decide known-update =
+serve-meets 𝓤 H A W mem run 𝓣 known-scan known-effect-of known-update =
     walk-meets 𝓤 H A f.ended stayed W (goes-gave-slice 𝓤 H A W 1 0 tt (plain (λ _. J.the-row)), (goes-none 𝓤 H A W 1 (λ _. S.the-row) yes (λ κs x f. refl), tt)) (f.clauses 𝓤 H A mem run)
-    (WpFn 𝓤 H (𝓣 .C) (𝓣 .Λ) code.function) (WpFn-mono 𝓤 H (W .laws) 𝓣 code.function) (serve-walks 𝓤 H A W mem run (𝓣 .C) (𝓣 .Λ) (fmOf 𝓤 H (W .laws) 𝓣) known-scan known-decide known-update)
+    (WpFn 𝓤 H (𝓣 .C) (𝓣 .Λ) code.function) (WpFn-mono 𝓤 H (W .laws) 𝓣 code.function) (serve-walks 𝓤 H A W mem run (𝓣 .C) (𝓣 .Λ) (fmOf 𝓤 H (W .laws) 𝓣) known-scan known-effect-of known-update)
 
 pub serve-spec : {M : Type 1} → stated.statement M
 unfolding code.routine tablesOf
@@ -229,6 +229,6 @@ serve-spec 𝓤 H 𝓜 𝓖 𝓡 =
     entered 𝓤 H (tripleOf 𝓤 H (𝓖 .A) f.signature (f.spec 𝓤 H (𝓖 .A) (𝓜 .mem) (𝓡 .run)))
     (tables 𝓤 H 𝓜 𝓡 code.env .C) (tables 𝓤 H 𝓜 𝓡 code.env .Λ) #desk-lent·serve code.function (code.unfolded 𝓤 H 𝓜 𝓡)
     (serve-meets 𝓤 H (𝓖 .A) (givenOf 𝓤 H 𝓜 𝓖) (𝓜 .mem) (𝓡 .run) (tablesOf 𝓤 H 𝓜 (tables 𝓤 H 𝓜 𝓡 code.env))
-    (cited 𝓤 H (ScanC 𝓤 H (𝓖 .A) (𝓜 .mem) (𝓡 .run)) 𝓜 𝓡 code.env #desk-lent·scan_pass scan-def.routine code.calls-desk-lent·scan·scan-pass (scan-thm.met 𝓤 H 𝓜 𝓖 𝓡))
-    (cited 𝓤 H (DecideC 𝓤 H (𝓖 .A) (𝓜 .mem) (𝓡 .run)) 𝓜 𝓡 code.env #desk-lent·decide decide-def.routine code.calls-desk-lent·plan·decide (decide-thm.met 𝓤 H 𝓜 𝓖 𝓡))
+    (cited 𝓤 H (ScanC 𝓤 H (𝓖 .A) (𝓜 .mem) (𝓡 .run)) 𝓜 𝓡 code.env #desk-walks·scan_pass scan-def.routine code.calls-desk-walks·scan-pass (scan-thm.met 𝓤 H 𝓜 𝓖 𝓡))
+    (cited 𝓤 H (DecideC 𝓤 H (𝓖 .A) (𝓜 .mem) (𝓡 .run)) 𝓜 𝓡 code.env #desk-engine·effect_of effect-of-def.routine code.calls-desk-engine·effect·effect-of (effect-of-thm.met 𝓤 H 𝓜 𝓖 𝓡))
     (cited 𝓤 H (UpdateC 𝓤 H (𝓖 .A) (𝓜 .mem) (𝓡 .run)) 𝓜 𝓡 code.env #desk-lent·apply update-def.routine code.calls-desk-lent·apply (update-thm.met 𝓤 H 𝓜 𝓖 𝓡)))

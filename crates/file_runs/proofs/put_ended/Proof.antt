@@ -1,5 +1,5 @@
 use borrow.Author.Tests.{eq-eqb, ne-eqb}
-use Rattle.file_runs.proofs.Put.{put-none}
+use Rattle.output.proofs.Put.{put-none}
 use borrow.Author.Needs.{needs}
 use Rattle.file_runs.proofs.put_ended.Statement.{statement}
 use Rattle.file_runs.proofs.put_ended.Tie as tie

@@ -3,8 +3,8 @@ use Prim.Native.Nat.{_≤_, _-_, _+_}
 use native.Mathlib.Nat.{add-zero}
 use native.Mathlib.Omega.{arith}
 use lib.ListN.{length, replicate}
-use Rattle.file_runs.specs.Put.{Put}
-use Rattle.file_runs.proofs.Put.{put-none, put-one, and-then}
+use Rattle.output.specs.Put.{Put}
+use Rattle.output.proofs.Put.{put-none, put-one, and-then}
 use Rattle.file_runs.proofs.Ticks.{rep-more}
 use borrow.Author.Needs.{needs}
 use Rattle.file_runs.proofs.put_ticks.Statement.{statement}
@@ -19,11 +19,11 @@ abbrev μ-loop : tie.MeasureT-loop
 loop-holds : tie.Need-loop-holds Inv-loop μ-loop
 loop-holds c = (search needs, rw add-zero (put-none _ _), refl)
 
-add-put-one : tie.Need-add-put-one Inv-loop μ-loop
-add-put-one c = search needs
+add-put-number : tie.Need-add-put-number Inv-loop μ-loop
+add-put-number c = search needs
 
-put-one-requires : tie.Need-put-one-requires Inv-loop μ-loop
-put-one-requires c κs = search needs
+put-number-requires : tie.Need-put-number-requires Inv-loop μ-loop
+put-number-requires c κs = search needs
 
 add-k : tie.Need-add-k Inv-loop μ-loop
 add-k c = search needs
@@ -32,7 +32,7 @@ loop-less : tie.Need-loop-less Inv-loop μ-loop
 loop-less c = search needs
 
 loop-again : tie.Need-loop-again Inv-loop μ-loop
-loop-again c = let e : c .before .before .before .before .before .before .before .args .at + (c .before .before .before .before .before .loop .k + 1) ≡ c .before .before .before .before .before .before .before .args .at + c .before .before .before .before .before .loop .k + 1 = omega arith in (search needs, rw (← rep-more (c .before .before .before .before .before .loop .k) (c .before .before .before .before .before .before .before .args .owner)) (and-then (c .before .before .before .before .before .loop .inv .1) (put-one e (c .before .before .put-one .ensures .1))), search needs)
+loop-again c = let e : c .before .before .before .before .before .before .before .args .at + (c .before .before .before .before .before .loop .k + 1) ≡ c .before .before .before .before .before .before .before .args .at + c .before .before .before .before .before .loop .k + 1 = omega arith in (search needs, rw (← rep-more (c .before .before .before .before .before .loop .k) (c .before .before .before .before .before .before .before .args .owner)) (and-then (c .before .before .before .before .before .loop .inv .1) (put-one e (c .before .before .put-number .ensures .1))), search needs)
 
 add-result : tie.Need-add-result Inv-loop μ-loop
 add-result c = search needs
@@ -50,8 +50,8 @@ put-ticks-spec =
     Inv-loop
     μ-loop
     loop-holds
-    add-put-one
-    put-one-requires
+    add-put-number
+    put-number-requires
     add-k
     loop-less
     loop-again

@@ -3,7 +3,7 @@ use mathlib.Core.Path.{_≡_, refl}
 use Prim.Native.Nat.{_≤_, _-_, _*_}
 use lib.ListN.{length, drop, replicate}
 use Rattle.file_runs.specs.Ticks.{runsOf}
-use Rattle.file_runs.proofs.Put.{Rest, put-none, rest-all}
+use Rattle.output.proofs.Put.{Rest, put-none, rest-all}
 use Rattle.file_runs.proofs.Ticks.{runs-none, runs-empty, runs-some, runs-start, runs-turn, runs-end}
 use borrow.Author.Needs.{needs}
 use Rattle.file_runs.proofs.runs_of.Statement.{statement}

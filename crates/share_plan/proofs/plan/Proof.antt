@@ -1,6 +1,6 @@
-use Rattle.share_plan.proofs.Laws.{parts-front, tasks-front, answer-said, answer-line, answer-refused}
+use Rattle.share_plan.proofs.Laws.{parts-front, tasks-front, answer-tables, answer-line, answer-refused}
 use lib.Seq.{length-take-le}
-use mathlib.Core.Path.{_≡_, refl, sym, _∙_}
+use mathlib.Core.Path.{refl, sym}
 use borrow.Author.Needs.{needs}
 use Rattle.share_plan.proofs.plan.Statement.{statement}
 use Rattle.share_plan.proofs.plan.Tie as tie
@@ -20,17 +20,17 @@ enum-known-table c = search needs
 array-share-prefix-parts : tie.Need-array-share-prefix-parts
 array-share-prefix-parts c = parts-front _ _ _ _ _ _ _ _ refl (c .before .before .before .before .before .read .ensures .0) (c .before .before .before .before .before .read .ensures .1) (c .before .table .given .1) .0
 
-slice-aggregate-said : tie.Need-slice-aggregate-said
-slice-aggregate-said c = sym (length-take-le _ _ (parts-front _ _ _ _ _ _ _ _ refl (c .before .before .before .before .before .before .read .ensures .0) (c .before .before .before .before .before .before .read .ensures .1) (c .before .before .table .given .1) .0))
+slice-aggregate-put-file-or-line : tie.Need-slice-aggregate-put-file-or-line
+slice-aggregate-put-file-or-line c = sym (length-take-le _ _ (parts-front _ _ _ _ _ _ _ _ refl (c .before .before .before .before .before .before .read .ensures .0) (c .before .before .before .before .before .before .read .ensures .1) (c .before .before .table .given .1) .0))
 
 array-share-prefix-tasks : tie.Need-array-share-prefix-tasks
 array-share-prefix-tasks c = tasks-front _ _ _ _ _ _ _ _ refl (c .before .before .before .before .before .before .read .ensures .0) (c .before .before .before .before .before .before .read .ensures .2) (c .before .before .table .given .1) .0
 
-slice-aggregate-said-2 : tie.Need-slice-aggregate-said-2
-slice-aggregate-said-2 c = sym (length-take-le _ _ (tasks-front _ _ _ _ _ _ _ _ refl (c .before .before .before .before .before .before .before .read .ensures .0) (c .before .before .before .before .before .before .before .read .ensures .2) (c .before .before .before .table .given .1) .0))
+slice-aggregate-put-file-or-line-2 : tie.Need-slice-aggregate-put-file-or-line-2
+slice-aggregate-put-file-or-line-2 c = sym (length-take-le _ _ (tasks-front _ _ _ _ _ _ _ _ refl (c .before .before .before .before .before .before .before .read .ensures .0) (c .before .before .before .before .before .before .before .read .ensures .2) (c .before .before .before .table .given .1) .0))
 
-said-requires : tie.Need-said-requires
-said-requires c κs = search needs
+put-file-or-line-requires : tie.Need-put-file-or-line-requires
+put-file-or-line-requires c κs = search needs
 
 enum-known-table-2 : tie.Need-enum-known-table-2
 enum-known-table-2 c = search needs
@@ -48,7 +48,7 @@ same-length : tie.Need-same-length
 same-length c = search needs
 
 returns : tie.Need-returns
-returns c = let f = parts-front _ _ _ _ _ _ _ _ refl (c .before .before .before .before .before .before .before .before .before .before .before .read .ensures .0) (c .before .before .before .before .before .before .before .before .before .before .before .read .ensures .1) (c .before .before .before .before .before .before .before .table .given .1) in let g = tasks-front _ _ _ _ _ _ _ _ refl (c .before .before .before .before .before .before .before .before .before .before .before .read .ensures .0) (c .before .before .before .before .before .before .before .before .before .before .before .read .ensures .2) (c .before .before .before .before .before .before .before .table .given .1) in (answer-said _ _ _ _ _ _ _ (c .before .before .before .before .before .before .before .before .before .before .before .read .ensures .0) (c .before .before .before .before .before .before .before .table .given .1) (f .1) (g .1) (c .before .before .said .ensures .0), c .before .before .said .ensures .1)
+returns c = let f = parts-front _ _ _ _ _ _ _ _ refl (c .before .before .before .before .before .before .before .before .before .before .before .read .ensures .0) (c .before .before .before .before .before .before .before .before .before .before .before .read .ensures .1) (c .before .before .before .before .before .before .before .table .given .1) in let g = tasks-front _ _ _ _ _ _ _ _ refl (c .before .before .before .before .before .before .before .before .before .before .before .read .ensures .0) (c .before .before .before .before .before .before .before .before .before .before .before .read .ensures .2) (c .before .before .before .before .before .before .before .table .given .1) in (answer-tables _ _ _ _ _ _ _ (c .before .before .before .before .before .before .before .before .before .before .before .read .ensures .0) (c .before .before .before .before .before .before .before .table .given .1) (f .1) (g .1) (c .before .before .put-file-or-line .ensures .0), c .before .before .put-file-or-line .ensures .1)
 
 same-length-2 : tie.Need-same-length-2
 same-length-2 c = search needs
@@ -71,10 +71,10 @@ plan-spec =
     read-requires
     enum-known-table
     array-share-prefix-parts
-    slice-aggregate-said
+    slice-aggregate-put-file-or-line
     array-share-prefix-tasks
-    slice-aggregate-said-2
-    said-requires
+    slice-aggregate-put-file-or-line-2
+    put-file-or-line-requires
     enum-known-table-2
     put-expected-requires
     enum-known-table-3

@@ -1,0 +1,29 @@
+use mathlib.Core.Path.{sym, _∙_}
+use borrow.Author.Tests.{lt-ltb, le-ltb, le-leb, lt-leb}
+use borrow.Author.Needs.{needs}
+use Rattle.desk_engine.proofs.decision.decide_request.Statement.{statement}
+use Rattle.desk_engine.proofs.decision.decide_request.Tie as tie
+
+numbers-ok-requires : tie.Need-numbers-ok-requires
+numbers-ok-requires c κs = search needs
+
+returns : tie.Need-returns
+returns c = rw (sym (c .before .before .before .before .numbers-ok .ensures) ∙ c .before .before .before .if1 .taken, lt-ltb _ _ (c .if2 .taken))
+
+returns-2 : tie.Need-returns-2
+returns-2 c = rw (sym (c .before .before .before .before .before .numbers-ok .ensures) ∙ c .before .before .before .before .if1 .taken, le-ltb _ _ (c .before .if2 .left), c .if3 .taken)
+
+returns-3 : tie.Need-returns-3
+returns-3 c = rw (sym (c .before .before .before .before .before .before .before .numbers-ok .ensures) ∙ c .before .before .before .before .before .before .if1 .taken, le-ltb _ _ (c .before .before .before .if2 .left), c .before .before .if3 .left, le-leb _ _ (c .if4 .taken))
+
+returns-4 : tie.Need-returns-4
+returns-4 c = rw (sym (c .before .before .before .before .before .before .before .before .numbers-ok .ensures) ∙ c .before .before .before .before .before .before .before .if1 .taken, le-ltb _ _ (c .before .before .before .before .if2 .left), c .before .before .before .if3 .left, lt-leb _ _ (c .before .if4 .left), c .if5 .taken)
+
+returns-5 : tie.Need-returns-5
+returns-5 c = rw (sym (c .before .before .before .before .before .before .before .before .numbers-ok .ensures) ∙ c .before .before .before .before .before .before .before .if1 .taken, le-ltb _ _ (c .before .before .before .before .if2 .left), c .before .before .before .if3 .left, lt-leb _ _ (c .before .if4 .left), c .if5 .left)
+
+returns-6 : tie.Need-returns-6
+returns-6 c = rw (sym (c .before .numbers-ok .ensures) ∙ c .if1 .left)
+
+pub decide-request-spec : {M : Type 1} → statement M
+decide-request-spec = tie.close (tie.spec numbers-ok-requires returns returns-2 returns-3 returns-4 returns-5 returns-6)

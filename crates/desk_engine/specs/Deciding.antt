@@ -1,0 +1,86 @@
+-- Words that only inner contracts use: no statement and no entry's contract cites them. Assumes nothing.
+-- What is decided at the end of the reading pass, and what the writing passes then make of the table; laws tie it to the desk's rules.
+use Prim.Native.Nat.{_-_}
+use mathlib.Core.Bool.{true, false}
+use mathlib.Core.List.{List}
+use lib.Dec.{leb, ltb}
+use Rattle.rules.specs.Walk.{pick}
+use Rattle.rules.specs.declared.Refusal.{Refusal}
+use Rattle.rules.specs.declared.Refusal.the-variants.{Rules, Numbers, Past, Busy, Full, NoPlace}
+use Rattle.desk.specs.declared.Job.{Job}
+use Rattle.desk.specs.declared.Answer.the-variants.{Opened, Taken, Refused}
+use Rattle.rules.specs.Limits.{places}
+use Rattle.desk.specs.Table.{job, none}
+use Rattle.desk.specs.Request.{numbersOk}
+use Rattle.desk_steps.specs.Folds.{movedUp}
+use Rattle.desk_records.specs.Sums.{sumTo}
+use Rattle.desk_steps.specs.Writing.{shiftFrom, stillShift, shifted, fitFrom, stillFit, fittedAll}
+use Rattle.desk_engine.specs.declared.scan.Scan.{Scan}
+use Rattle.desk_engine.specs.declared.effect.Effect.{Effect}
+use Rattle.desk_engine.specs.declared.decision.Decision.{Decision}
+use Rattle.desk_engine.specs.declared.decision.Decision.the-variants.{Opens, Keeps, Drops, Takes}
+use Rattle.desk_steps.specs.Reading.{checkEnd}
+
+-- the decision: a request's refusals 14 to 18 in their order, once the table keeps the rules
+abbrev pub requestDecision : Scan → Decision
+requestDecision s =
+    pick (numbersOk (s .searching .time) (s .searching .budget) (s .searching .deadline))
+    (pick (ltb (s .searching .time) (s .desk .clock)) (Keeps Past)
+    (pick (s .searching .busy) (Drops Busy)
+    (pick (leb places (s .searching .rest)) (Drops Full)
+    (pick (s .searching .found) Takes (Drops NoPlace)))))
+    (Keeps Numbers)
+
+-- 13 first
+abbrev pub decisionOf : Scan → Decision
+decisionOf s = pick (checkEnd (s .checking)) (pick (s .checking .opening) Opens (requestDecision s)) (Keeps Rules)
+
+-- ---- what each decision does
+
+-- "works x out and sets the clock to 0"
+abbrev pub openEffect : Scan → Effect
+openEffect s = record {
+  answer = Opened;
+  desk = record { clock = 0; count = s .desk .count };
+  drop = 0;
+  shift = stillShift;
+  fit = fitFrom (places - s .desk .count) 0;
+}
+
+-- "13, 14, 15 and 19 change nothing at the desk"
+abbrev pub keepEffect : Refusal → Scan → Effect
+keepEffect why s = record { answer = Refused why; desk = s .desk; drop = 0; shift = stillShift; fit = stillFit }
+
+-- "16, 17, 18 set the clock to t and drop finished jobs"
+abbrev pub dropEffect : Refusal → Scan → Effect
+dropEffect why s = record {
+  answer = Refused why;
+  desk = record { clock = s .searching .time; count = s .searching .rest };
+  drop = s .searching .gone;
+  shift = shiftFrom (s .searching .rest) false 0 none;
+  fit = stillFit;
+}
+
+-- "A job taken in sets the clock too."
+abbrev pub takeEffect : Scan → Effect
+takeEffect s = record {
+  answer = Taken (s .searching .place) (s .searching .start);
+  desk = record { clock = s .searching .time; count = sumTo (s .searching .rest) 1 };
+  drop = s .searching .gone;
+  shift = shiftFrom (s .searching .place) true (s .searching .rest - s .searching .place)
+      (job (s .searching .start) (s .searching .budget) (s .searching .deadline) 0);
+  fit = fitFrom (places - sumTo (s .searching .rest) 1) (s .searching .rest - s .searching .place);
+}
+
+abbrev pub effectBy : Decision → Scan → Effect
+effectBy Opens s = openEffect s
+effectBy (Keeps why) s = keepEffect why s
+effectBy (Drops why) s = dropEffect why s
+effectBy Takes s = takeEffect s
+
+unfoldable pub effectOf : Scan → Effect
+effectOf s = effectBy (decisionOf s) s
+
+-- the three writing passes
+unfoldable pub applied : Effect → List Job → List Job
+applied p l = fittedAll (p .fit) (shifted (p .shift) (movedUp (p .drop) l))

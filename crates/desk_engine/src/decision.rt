@@ -1,0 +1,54 @@
+// What is decided at the end of the reading pass: refusals 13 to 18 in their order.
+ghost use mathlib.Core.Path.{_≡_};
+ghost use Rattle.desk_engine.specs.Deciding.{requestDecision, decisionOf};
+use crate::scan::Scan;
+use desk_records::numbers::ALL_PLACES;
+use desk_records::numbers::numbers_ok;
+use desk_steps::checking::check_end;
+use rules::Refusal;
+
+// A call opens the desk, refuses and keeps all, refuses and drops the finished jobs, or takes the job in.
+pub enum Decision {
+    Opens,
+    Keeps(Refusal),
+    Drops(Refusal),
+    Takes,
+}
+
+// Of a request, on a table that keeps the rules.
+pub fn decide_request(s: Scan) -> Decision
+    ensures { λ r. ⌜ r ≡ requestDecision s ⌝ }
+{
+    let b = s.searching;
+    let k = s.desk;
+    if numbers_ok(b.time, b.budget, b.deadline) {
+        if b.time < k.clock {
+            return Decision::Keeps(Refusal::Past);
+        }
+        if b.busy {
+            return Decision::Drops(Refusal::Busy);
+        }
+        if ALL_PLACES <= b.rest {
+            return Decision::Drops(Refusal::Full);
+        }
+        if b.found {
+            return Decision::Takes;
+        }
+        return Decision::Drops(Refusal::NoPlace);
+    }
+    Decision::Keeps(Refusal::Numbers)
+}
+
+// Of any call.
+pub fn decide(s: Scan) -> Decision
+    ensures { λ r. ⌜ r ≡ decisionOf s ⌝ }
+{
+    let a = s.checking;
+    if check_end(a) {
+        if a.opening {
+            return Decision::Opens;
+        }
+        return decide_request(s);
+    }
+    Decision::Keeps(Refusal::Rules)
+}

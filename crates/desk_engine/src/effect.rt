@@ -1,0 +1,191 @@
+// What a decision makes of the record and of the table.
+ghost use mathlib.Core.Path.{_≡_};
+ghost use Rattle.desk_engine.specs.Deciding.{openEffect, keepEffect, dropEffect, takeEffect, effectBy, effectOf};
+use crate::decision::Decision;
+use crate::decision::decide;
+use crate::scan::Scan;
+use desk::Answer;
+use desk::Desk;
+use desk::Job;
+use desk_records::numbers::ALL_PLACES;
+use desk_records::numbers::less;
+use desk_records::numbers::sum;
+use desk_records::records::no_job;
+use desk_steps::fit::Fit;
+use desk_steps::fit::still_fit;
+use desk_steps::shift::Shift;
+use desk_steps::shift::still_shift;
+use rules::Refusal;
+
+// The answer, the record at exit, and what each writing pass begins with.
+pub struct Effect {
+    pub answer: Answer,
+    pub desk: Desk,
+    pub drop: usize,
+    pub shift: Shift,
+    pub fit: Fit,
+}
+
+// A place as a count of places.
+fn wide_place(x: u32) -> usize
+    ensures { λ r. ⌜ r ≡ x ⌝ }
+{
+    x as usize
+}
+
+// Opening: every listed job's x is worked out.
+pub fn open_effect(s: Scan) -> Effect
+    ensures { λ r. ⌜ r ≡ openEffect s ⌝ }
+{
+    let k = s.desk;
+    let fit = Fit {
+        still: false,
+        skip: less(ALL_PLACES, k.count),
+        keep: 0,
+        has: false,
+        next: no_job(),
+    };
+    Effect {
+        answer: Answer::Opened,
+        desk: Desk {
+            clock: 0,
+            count: k.count,
+        },
+        drop: 0,
+        shift: still_shift(),
+        fit: fit,
+    }
+}
+
+// A refusal that changes nothing.
+pub fn keep_effect(why: Refusal, s: Scan) -> Effect
+    ensures { λ r. ⌜ r ≡ keepEffect why s ⌝ }
+{
+    let k = s.desk;
+    Effect {
+        answer: Answer::Refused(why),
+        desk: k,
+        drop: 0,
+        shift: still_shift(),
+        fit: still_fit(),
+    }
+}
+
+// A refusal that sets the clock and drops the finished jobs.
+pub fn drop_effect(why: Refusal, s: Scan) -> Effect
+    ensures { λ r. ⌜ r ≡ dropEffect why s ⌝ }
+{
+    let left = s.searching;
+    let shift = Shift {
+        still: false,
+        before: left.rest,
+        put: false,
+        after: 0,
+        end: 0,
+        carry: no_job(),
+    };
+    Effect {
+        answer: Answer::Refused(why),
+        desk: Desk {
+            clock: left.time,
+            count: left.rest,
+        },
+        drop: wide_place(left.gone),
+        shift: shift,
+        fit: still_fit(),
+    }
+}
+
+// The new job taken in: later jobs move, and x is worked out from it towards the front.
+pub fn take_effect(s: Scan) -> Effect
+    ensures { λ r. ⌜ r ≡ takeEffect s ⌝ }
+{
+    let q = s.searching;
+    let new = Job {
+        start: q.start,
+        budget: q.budget,
+        deadline: q.deadline,
+        flex: 0,
+    };
+    let later = less(q.rest, q.place);
+    let count = sum(q.rest, 1);
+    let shift = Shift {
+        still: false,
+        before: q.place,
+        put: true,
+        after: later,
+        end: 0,
+        carry: new,
+    };
+    let fit = Fit {
+        still: false,
+        skip: less(ALL_PLACES, count),
+        keep: later,
+        has: false,
+        next: no_job(),
+    };
+    Effect {
+        answer: Answer::Taken(wide_place(q.place), q.start),
+        desk: Desk {
+            clock: q.time,
+            count: count,
+        },
+        drop: wide_place(q.gone),
+        shift: shift,
+        fit: fit,
+    }
+}
+
+// What each decision does.
+pub fn effect_by(w: Decision, s: Scan) -> Effect
+    ensures { λ r. ⌜ r ≡ effectBy w s ⌝ }
+{
+    match w {
+        Decision::Opens => open_effect(s),
+        Decision::Keeps(why) => keep_effect(why, s),
+        Decision::Drops(why) => drop_effect(why, s),
+        Decision::Takes => take_effect(s),
+    }
+}
+
+// What is decided, and so done.
+pub fn effect_of(s: Scan) -> Effect
+    ensures { λ r. ⌜ r ≡ effectOf s ⌝ }
+{
+    effect_by(decide(s), s)
+}
+
+// What the call answers.
+pub fn answer_of(p: Effect) -> Answer
+    ensures { λ r. ⌜ r ≡ p .answer ⌝ }
+{
+    p.answer
+}
+
+// The record at exit.
+pub fn desk_of(p: Effect) -> Desk
+    ensures { λ r. ⌜ r ≡ p .desk ⌝ }
+{
+    p.desk
+}
+
+// How many jobs go from the front.
+pub fn drop_of(p: Effect) -> usize
+    ensures { λ r. ⌜ r ≡ p .drop ⌝ }
+{
+    p.drop
+}
+
+// What the shift pass begins with.
+pub fn shift_of(p: Effect) -> Shift
+    ensures { λ r. ⌜ r ≡ p .shift ⌝ }
+{
+    p.shift
+}
+
+// What the flexibility pass begins with.
+pub fn fit_of(p: Effect) -> Fit
+    ensures { λ r. ⌜ r ≡ p .fit ⌝ }
+{
+    p.fit
+}

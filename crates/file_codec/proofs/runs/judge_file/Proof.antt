@@ -1,0 +1,48 @@
+use mathlib.Core.Path.{sym, _∙_}
+use native.Mathlib.Omega.{arith}
+use borrow.Author.Tests.{not-true, not-false}
+use Rattle.file_codec.proofs.Chain.{counted-runs, file-3, file-tables, file-runs}
+use borrow.Author.Needs.{needs}
+use Rattle.file_codec.proofs.runs.judge_file.Statement.{statement}
+use Rattle.file_codec.proofs.runs.judge_file.Tie as tie
+
+runs-counted-requires : tie.Need-runs-counted-requires
+runs-counted-requires c κs = search needs
+
+returns : tie.Need-returns
+returns c = file-3 _ _ _ _ (sym (c .before .runs-counted .ensures) ∙ not-true _ (c .if1 .taken))
+
+judge-tables-requires : tie.Need-judge-tables-requires
+judge-tables-requires c κs = search needs
+
+enum-known-tables : tie.Need-enum-known-tables
+enum-known-tables c = search needs
+
+enum-told : tie.Need-enum-told
+enum-told c = search needs
+
+partitions-requires : tie.Need-partitions-requires
+partitions-requires c κs = search needs
+
+judge-runs-requires : tie.Need-judge-runs-requires
+judge-runs-requires c κs = let a = counted-runs _ (sym (c .before .before .before .before .before .runs-counted .ensures) ∙ not-false _ (c .before .before .before .before .if1 .left)) in omega (arith, a .0, a .2)
+
+returns-2 : tie.Need-returns-2
+returns-2 c = file-tables _ _ _ _ (sym (c .before .before .before .before .before .runs-counted .ensures) ∙ not-false _ (c .before .before .before .before .if1 .left)) _ (sym (c .before .before .before .judge-tables .ensures) ∙ c .before .tables .given .1)
+
+returns-3 : tie.Need-returns-3
+returns-3 c = file-runs _ _ _ _ (sym (c .before .before .before .before .before .before .runs-counted .ensures) ∙ not-false _ (c .before .before .before .before .before .if1 .left)) (sym (c .before .before .before .before .judge-tables .ensures) ∙ c .before .before .enum-told .given .1) _ (rw (c .before .partitions .ensures) at (c .judge-runs .ensures))
+
+pub judge-file-spec : {M : Type 1} → statement M
+judge-file-spec =
+    tie.close
+    (tie.spec
+    runs-counted-requires
+    returns
+    judge-tables-requires
+    enum-known-tables
+    enum-told
+    partitions-requires
+    judge-runs-requires
+    returns-2
+    returns-3)

@@ -1,0 +1,103 @@
+// Run records, and what tells against the three tables of a file.
+ghost use mathlib.Core.Path.{_≡_};
+ghost use Prim.Native.Nat.{_+_, _*_, _<_, _^_};
+ghost use lib.ListN.{length};
+ghost use Rattle.rules.specs.Limits.{runWidth};
+ghost use Rattle.rules.specs.Table.{fieldAt};
+ghost use Rattle.file_codec.specs.Contracts.{runsCounted, firstBadRun};
+ghost use Rattle.file_codec.specs.Runs.{runs, reached, repeats, goodRun, runsJudged, fileTablesOf};
+use rules::Finding;
+use rules::Refusal;
+use rules::limits::LONGEST;
+use rules::limits::RUN_WIDTH;
+
+fn run_field(table: &[u16], k: usize, f: usize) -> u16
+    requires { ⌜ runWidth * k + f < 2 ^ 64 ⌝ }
+    ensures { λ r. ⌜ r ≡ fieldAt runWidth (now (table .entry)) k f ⌝ }
+{
+    rules::records::entry(table, RUN_WIDTH * k + f)
+}
+
+fn repeats(table: &[u16], k: usize) -> bool
+    requires { ⌜ runWidth * k + 1 < 2 ^ 64 ⌝ }
+    ensures { λ r. ⌜ r ≡ repeats (now (table .entry)) k ⌝ }
+{
+    if k < 1 {
+        return false;
+    }
+    run_field(table, k, 0) == run_field(table, k - 1, 0)
+}
+
+// Whether the run at k is good, where the lengths up to it add up to `total`.
+fn good_run(table: &[u16], parts: usize, frame: usize, k: usize, total: usize) -> bool
+    requires { ⌜ (runWidth * k + 1 < 2 ^ 64) × (total ≡ reached (now table) k) ⌝ }
+    ensures { λ r. ⌜ r ≡ goodRun parts frame (now (table .entry)) k ⌝ }
+{
+    if parts < rules::numbers::wide(run_field(table, k, 0)) {
+        return false;
+    }
+    if run_field(table, k, 1) < 1 {
+        return false;
+    }
+    if repeats(table, k) {
+        return false;
+    }
+    if frame < total {
+        return false;
+    }
+    if k + 1 < table.len() / RUN_WIDTH {
+        return true;
+    }
+    frame <= total
+}
+
+// The first bad run, counted from 0, or how many there are.
+fn first_bad_run(table: &[u16], parts: usize, frame: usize) -> usize
+    requires { ⌜ length (now table) < 2 ^ 32 ⌝ }
+    ensures { λ r. ⌜ r ≡ firstBadRun parts frame (now (table .entry)) ⌝ }
+{
+    let n = table.len() / RUN_WIDTH;
+    let mut total = 0;
+    let mut k = 0;
+    while k < n {
+        total += rules::numbers::wide(run_field(table, k, 1));
+        if !good_run(table, parts, frame, k, total) {
+            return k;
+        }
+        k += 1;
+    }
+    n
+}
+
+// 8.
+fn judge_runs(table: &[u16], parts: usize, frame: usize) -> Finding
+    requires { ⌜ length (now table) < 2 ^ 32 ⌝ }
+    ensures { λ r. ⌜ r ≡ runsJudged parts frame (now (table .entry)) ⌝ }
+{
+    let r = first_bad_run(table, parts, frame);
+    if r < table.len() / RUN_WIDTH {
+        return Finding::Refused(Refusal::Tick(r + 1));
+    }
+    Finding::Good
+}
+
+// Whether a table of so many numbers has as many runs as a file may have.
+pub fn runs_counted(numbers: usize) -> bool
+    ensures { λ r. ⌜ r ≡ runsCounted numbers ⌝ }
+{
+    rules::judge::counted_in(1, LONGEST, RUN_WIDTH, numbers)
+}
+
+// What tells against a frame and three tables: 3, 6, 7 and 8.
+pub fn judge_file(frame: usize, parts: &[u16], tasks: &[u16], runs: &[u16]) -> Finding
+    ensures { λ r. ⌜ r ≡ fileTablesOf frame (now (parts .entry)) (now (tasks .entry)) (now (runs .entry)) ⌝ }
+{
+    if !runs_counted(runs.len()) {
+        return Finding::Refused(Refusal::Limits);
+    }
+    let tables = rules::judge::judge_tables(frame, parts, tasks);
+    match tables {
+        Finding::Refused(r) => Finding::Refused(r),
+        Finding::Good => judge_runs(runs, rules::records::partitions(parts), frame),
+    }
+}

@@ -1,0 +1,21 @@
+-- Words that only inner contracts use: no statement and no entry's contract cites them. Assumes nothing.
+use Prim.Native.Nat.{ℕ, _*_, _≤_}
+use mathlib.Core.Path.{_≡_}
+use mathlib.Core.List.{List}
+use lib.ListN.{length}
+use Rattle.rules.specs.Limits.{longest, mostPartitions, mostTasks, runWidth}
+use Rattle.rules.specs.Table.{partitions, tasks}
+use Rattle.plan_check.specs.Check.{scanOf, checkOf}
+use Rattle.file_runs.specs.Ticks.{ticksOf}
+
+-- few enough records for a page
+abbrev pub Short : List ℕ → List ℕ → Type 0
+Short ps ts = (partitions ps ≤ mostPartitions) × (tasks ts ≤ mostTasks)
+
+-- the tables of a file that was read: of its plan only 9 is still to be judged
+pub record Listable (frame : ℕ) (ps ts rs : List ℕ) : Type 0 where
+  pub short : Short ps ts
+  pub few : length rs ≤ runWidth * longest
+  pub in-frame : frame ≤ longest
+  pub ticks : length (ticksOf rs) ≡ frame
+  pub judged : checkOf (ticksOf rs) ps ≡ scanOf (ticksOf rs) ps

@@ -1,0 +1,3 @@
+pub mod Reader
+pub mod Contracts
+pub mod Theorems

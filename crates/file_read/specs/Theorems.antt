@@ -1,0 +1,38 @@
+-- What is promised of the reader beyond each entry's contract. Each statement's proof is a field of `Proved`. Assumes nothing.
+use Prim.Native.Nat.{ℕ, _*_}
+use mathlib.Core.Path.{_≡_}
+use mathlib.Core.List.{List, [], _++_}
+use lib.ListN.{length, take}
+use Rattle.rules.specs.Limits.{headBytes, numberBytes, partWidth, taskWidth, runWidth}
+use Rattle.rules.specs.declared.Refusal.{Refusal}
+use Rattle.file_read.specs.declared.Reading.{Reading}
+use Rattle.file_read.specs.declared.Reading.the-variants.{Contents, Refused}
+use Rattle.file_read.specs.declared.Body.{Body}
+use Rattle.file_read.specs.declared.Body.the-variants.{Partitions, Tasks, Runs}
+use Rattle.file_read.specs.Reader.{readOf, sectionOf}
+
+-- "Bodies from byte 16 in that order, no gaps." "The reader hands back each body as a part of the file itself."
+abbrev pub SectionExact : Type 0
+SectionExact =
+    (b : List ℕ) (frame np nt nr : ℕ) → readOf b ≡ Contents frame np nt nr
+    → (take headBytes b ++ sectionOf b Partitions ++ sectionOf b Tasks ++ sectionOf b Runs ≡ b)
+    × (length (sectionOf b Partitions) ≡ numberBytes * (partWidth * np))
+    × (length (sectionOf b Tasks) ≡ numberBytes * (taskWidth * nt))
+    × (length (sectionOf b Runs) ≡ numberBytes * (runWidth * nr))
+
+-- the empty part of a file that isn't accepted
+abbrev pub SectionNone : Type 0
+SectionNone = (b : List ℕ) (x : Refusal) (which : Body) → readOf b ≡ Refused x → sectionOf b which ≡ []
+
+-- "any two outcomes it permits are equal"
+abbrev pub OneRead : Type 0
+OneRead = (b : List ℕ) (r s : Reading) → r ≡ readOf b → s ≡ readOf b → r ≡ s
+
+abbrev pub OneSection : Type 0
+OneSection = (b : List ℕ) (which : Body) (r s : List ℕ) → r ≡ sectionOf b which → s ≡ sectionOf b which → r ≡ s
+
+pub record Proved : Type 0 where
+  pub section-exact : SectionExact
+  pub section-none : SectionNone
+  pub one-read : OneRead
+  pub one-section : OneSection

@@ -1,0 +1,3 @@
+pub mod Writer
+pub mod Trip
+pub mod Proved

@@ -1,0 +1,93 @@
+-- The order of the writer's refusals at the numbers that the code holds, and what it leaves. Assumes nothing.
+use Prim.Native.Nat.{ℕ, _+_, _*_, _≤_, _<_}
+use mathlib.Core.Path.{_≡_, refl, _∙_}
+use mathlib.Core.List.{List, _++_}
+use native.Mathlib.Omega.{arith}
+use lib.ListN.{length, take, drop, length-append}
+use lib.Dec.{ltb}
+use borrow.Author.Tests.{lt-ltb, le-ltb, ltb-false}
+use Rattle.rules.specs.Limits.{headBytes}
+use Rattle.rules.specs.Walk.{pick}
+use Rattle.rules.specs.declared.Refusal.{Refusal}
+use Rattle.rules.specs.declared.Refusal.the-variants.{Output}
+use Rattle.rules.specs.declared.Finding.the-variants as found
+use Rattle.rules.proofs.Tests.{pick-second}
+use Rattle.file_codec.specs.Bytes.{bytesOf}
+use Rattle.file_codec.specs.Runs.{fileTablesOf}
+use Rattle.file_codec.specs.Contents.{tasksAt, runsAt, contents}
+use Rattle.file_codec.proofs.Bytes.{bytesOf-length, next}
+use Rattle.file_codec.proofs.Chain.{GoodFile, good-of, follows, sizes}
+use Rattle.rules.specs.declared.Filling.the-variants.{Fills, Refused}
+use Rattle.file_write.specs.Writer.{fileOf, sizeFor, writeOf, writtenLeft}
+use Rattle.file_write.specs.Contracts.{Small}
+
+module _ (frame : ℕ) (ps ts rs : List ℕ) where
+  pub small : GoodFile frame ps ts rs → Small frame (length ps) (length ts) (length rs)
+  small g = let s = sizes frame ps ts rs g in (s .frame-high, omega (arith, s .parts-whole, s .parts-high), omega (arith, s .tasks-whole, s .tasks-high), omega (arith, s .runs-whole, s .runs-high))
+
+  pub good-small : fileTablesOf frame ps ts rs ≡ found.Good → Small frame (length ps) (length ts) (length rs)
+  good-small e = small (good-of frame ps ts rs e)
+
+  module _ (room : ℕ) where
+    pub write-tables : (r : Refusal) → fileTablesOf frame ps ts rs ≡ found.Refused r → Refused r ≡ writeOf frame ps ts rs room
+    unfolding writeOf
+    write-tables r e = rw e
+
+    module _ (g : fileTablesOf frame ps ts rs ≡ found.Good) (size : ℕ) (e : size ≡ sizeFor ps ts rs) where
+      pub write-12 : room < size → Refused Output ≡ writeOf frame ps ts rs room
+      unfolding writeOf
+      write-12 h = rw (g, ← e, lt-ltb room size h)
+
+      pub write-all : size ≤ room → Fills size ≡ writeOf frame ps ts rs room
+      unfolding writeOf
+      write-all h = rw (g, ← e, le-ltb room size h)
+
+-- the bodies, one behind the other
+pub laid : (frame : ℕ) (ps ts rs d o1 o2 o3 o4 : List ℕ)
+    → o1 ≡ bytesOf (contents frame (length ps) (length ts) (length rs)) ++ drop headBytes d
+    → o2 ≡ take headBytes o1 ++ (bytesOf ps ++ drop (2 * length ps) (drop headBytes o1))
+    → o3 ≡ take (tasksAt (length ps)) o2 ++ (bytesOf ts ++ drop (2 * length ts) (drop (tasksAt (length ps)) o2))
+    → o4 ≡ take (runsAt (length ps) (length ts)) o3 ++ (bytesOf rs ++ drop (2 * length rs) (drop (runsAt (length ps) (length ts)) o3))
+    → o4 ≡ fileOf frame ps ts rs ++ drop (sizeFor ps ts rs) d
+unfolding fileOf
+laid frame ps ts rs d o1 o2 o3 o4 e1 e2 e3 e4 =
+    let h : List ℕ = bytesOf (contents frame (length ps) (length ts) (length rs)) in
+    let lh : length h ≡ headBytes = bytesOf-length (contents frame (length ps) (length ts) (length rs)) in
+    let bp = bytesOf-length ps in
+    let bt = bytesOf-length ts in
+    let br = bytesOf-length rs in
+    let l1 : length (h ++ bytesOf ps) ≡ tasksAt (length ps) = rw (length-append h (bytesOf ps)) (omega arith) in
+    let l2 : length (h ++ bytesOf ps ++ bytesOf ts) ≡ runsAt (length ps) (length ts) = rw (length-append (h ++ bytesOf ps) (bytesOf ts)) (omega arith) in
+    let s2 : o2 ≡ h ++ bytesOf ps ++ drop (tasksAt (length ps)) d = e2 ∙ rw e1 (next h (bytesOf ps) d headBytes (2 * length ps) (tasksAt (length ps)) lh bp refl) in
+    let s3 : o3 ≡ h ++ bytesOf ps ++ bytesOf ts ++ drop (runsAt (length ps) (length ts)) d = e3 ∙ rw s2 (next (h ++ bytesOf ps) (bytesOf ts) d (tasksAt (length ps)) (2 * length ts) (runsAt (length ps) (length ts)) l1 bt refl) in
+    e4 ∙ rw s3 (next (h ++ bytesOf ps ++ bytesOf ts) (bytesOf rs) d (runsAt (length ps) (length ts)) (2 * length rs) (sizeFor ps ts rs) l2 br refl)
+
+-- what it is to be written
+pub record Fit (frame : ℕ) (ps ts rs : List ℕ) (room n : ℕ) : Type 0 where
+  pub good : GoodFile frame ps ts rs
+  pub room-left : sizeFor ps ts rs ≤ room
+  pub is-size : n ≡ sizeFor ps ts rs
+
+none : (n : ℕ) (x : Refusal) → ¬ (Refused x ≡ Fills n)
+none n x e = let z : _≡_ {A = ℕ} 0 1 = cc in absurd (omega arith)
+
+pub fit : (n frame : ℕ) (ps ts rs : List ℕ) (room : ℕ) → writeOf frame ps ts rs room ≡ Fills n → Fit frame ps ts rs room n
+unfolding writeOf
+fit n frame ps ts rs room e =
+    let a = follows frame ps ts rs Refused (pick (ltb room (sizeFor ps ts rs)) (Refused Output) (Fills (sizeFor ps ts rs))) (Fills n) (none n) e in
+    let b = pick-second (ltb room (sizeFor ps ts rs)) (Refused Output) (Fills (sizeFor ps ts rs)) (Fills n) (none n Output) (a .1) in
+    let q : Fills (sizeFor ps ts rs) ≡ Fills n = b .1 in
+    record { good = a .0; room-left = ltb-false _ _ (b .0); is-size = cc }
+
+-- what the writer leaves, from what it answers
+module _ (frame : ℕ) (ps ts rs out : List ℕ) where
+  pub left-none : (x : Refusal) → writeOf frame ps ts rs (length out) ≡ Refused x → out ≡ writtenLeft frame ps ts rs out
+  left-none x e = rw e
+
+  pub left-all : (n : ℕ) → writeOf frame ps ts rs (length out) ≡ Fills n → (o : List ℕ)
+      → o ≡ fileOf frame ps ts rs ++ drop (sizeFor ps ts rs) out → o ≡ writtenLeft frame ps ts rs out
+  left-all n e o h = rw (e, fit n frame ps ts rs (length out) e .is-size) h
+
+  -- what the writing of a file asks
+  pub ready : (n : ℕ) → writeOf frame ps ts rs (length out) ≡ Fills n → Small frame (length ps) (length ts) (length rs) × (sizeFor ps ts rs ≤ length out)
+  ready n e = let f = fit n frame ps ts rs (length out) e in (small frame ps ts rs (f .good), f .room-left)

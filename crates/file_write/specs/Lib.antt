@@ -1,0 +1,3 @@
+pub mod Writer
+pub mod Contracts
+pub mod Theorems

@@ -1,0 +1,54 @@
+-- What is promised of the writer, and of reader and writer together. `readOf`, `writeOf` and `writtenLeft` are what the contracts say that the entries
+-- answer and leave. Each statement's proof is a field of `Proved`. Assumes nothing.
+use Prim.Native.Nat.{ℕ, _≤_}
+use mathlib.Core.Path.{_≡_}
+use mathlib.Core.List.{List, _++_}
+use lib.ListN.{length, take, drop}
+use Rattle.rules.specs.Table.{partitions, tasks}
+use Rattle.rules.specs.declared.Refusal.{Refusal}
+use Rattle.file_codec.specs.Bytes.{Bytes}
+use Rattle.file_codec.specs.Runs.{runs}
+use Rattle.file_read.specs.declared.Reading.the-variants.{Contents}
+use Rattle.file_read.specs.declared.Body.the-variants.{Partitions, Tasks, Runs}
+use Rattle.file_read.specs.Reader.{readOf, tableOf}
+use Rattle.rules.specs.declared.Filling.{Filling}
+use Rattle.rules.specs.declared.Filling.the-variants as filling
+use Rattle.file_write.specs.Writer.{writeOf, writtenLeft}
+
+-- "The writer puts each body into its own stretch of the lent output": reading what was written gives back frame, counts and tables
+abbrev pub ReadWrite : Type 0
+ReadWrite =
+    (frame : ℕ) (ps ts rs out : List ℕ) (n : ℕ) → writeOf frame ps ts rs (length out) ≡ filling.Fills n
+    → (readOf (take n (writtenLeft frame ps ts rs out)) ≡ Contents frame (partitions ps) (tasks ts) (runs rs))
+    × (tableOf (take n (writtenLeft frame ps ts rs out)) Partitions ≡ ps)
+    × (tableOf (take n (writtenLeft frame ps ts rs out)) Tasks ≡ ts)
+    × (tableOf (take n (writtenLeft frame ps ts rs out)) Runs ≡ rs)
+
+-- writing what was read, into room enough, gives back the bytes
+abbrev pub WriteRead : Type 0
+WriteRead =
+    (b : List ℕ) (frame np nt nr : ℕ) (out : List ℕ) → Bytes b → readOf b ≡ Contents frame np nt nr → length b ≤ length out
+    → (writeOf frame (tableOf b Partitions) (tableOf b Tasks) (tableOf b Runs) (length out) ≡ filling.Fills (length b))
+    × (writtenLeft frame (tableOf b Partitions) (tableOf b Tasks) (tableOf b Runs) out ≡ b ++ drop (length b) out)
+
+-- "Success changes only the bytes it needs; refusals 1 to 12 change no output byte."
+abbrev pub Untouched : Type 0
+Untouched =
+    (frame : ℕ) (ps ts rs out : List ℕ)
+    → ((n : ℕ) → writeOf frame ps ts rs (length out) ≡ filling.Fills n → (n ≤ length out) × (drop n (writtenLeft frame ps ts rs out) ≡ drop n out))
+    × ((x : Refusal) → writeOf frame ps ts rs (length out) ≡ filling.Refused x → writtenLeft frame ps ts rs out ≡ out)
+    × (length (writtenLeft frame ps ts rs out) ≡ length out)
+
+-- "any two outcomes it permits are equal"
+abbrev pub OneWrite : Type 0
+OneWrite =
+    (frame : ℕ) (ps ts rs out : List ℕ) (v w : Filling) (m o : List ℕ)
+    → (v ≡ writeOf frame ps ts rs (length out)) × (m ≡ writtenLeft frame ps ts rs out)
+    → (w ≡ writeOf frame ps ts rs (length out)) × (o ≡ writtenLeft frame ps ts rs out)
+    → (v ≡ w) × (m ≡ o)
+
+pub record Proved : Type 0 where
+  pub read-write : ReadWrite
+  pub write-read : WriteRead
+  pub untouched : Untouched
+  pub one-write : OneWrite

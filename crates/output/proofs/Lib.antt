@@ -1,0 +1,3 @@
+pub mod Put
+pub mod Decimal
+pub mod Proved

@@ -1,0 +1,58 @@
+// The checker: whether every stretch of a plan holds what each partition wants.
+use rules::Finding;
+use rules::Refusal;
+ghost use mathlib.Core.Path.{_≡_};
+ghost use Rattle.plan_check.specs.Check.{scanOf, planCheckOf, checkOf};
+
+// Refusal 9 alone: the lowest partition's lowest start whose stretch holds too little. It is public for a caller
+// whose plan is judged already, as the listing's is by the reader.
+pub fn scan(plan: &[u16], parts: &[u16]) -> Finding
+    ensures { λ r. ⌜ r ≡ scanOf (now (plan .entry)) (now (parts .entry)) ⌝ }
+{
+    let f = plan.len();
+    let n = rules::records::partitions(parts);
+    let mut found = Finding::Good;
+    let mut k = 0;
+    'scan: while k < n {
+        let m = rules::records::cycle(parts, k);
+        let q = rules::records::wanted(parts, k);
+        let mut s = 0;
+        while s < f {
+            let h = plan_service::held_from(plan, k + 1, rules::numbers::wide(m), s);
+            if h < q {
+                found = Finding::Refused(Refusal::Shortfall {
+                    partition: k + 1,
+                    start: s,
+                    held: h,
+                    wanted: q,
+                });
+                break 'scan;
+            }
+            s += 1;
+        }
+        k += 1;
+    }
+    found
+}
+
+// Refusals 8 and 9, of tables whose numbers are within their limits.
+pub fn check_plan(plan: &[u16], parts: &[u16]) -> Finding
+    ensures { λ r. ⌜ r ≡ planCheckOf (now (plan .entry)) (now (parts .entry)) ⌝ }
+{
+    let t = rules::judge::first_bad_tick(plan, rules::records::partitions(parts));
+    if t < plan.len() {
+        return Finding::Refused(Refusal::Tick(t + 1));
+    }
+    scan(plan, parts)
+}
+
+// Whether the plan serves the table.
+pub fn check(plan: &[u16], parts: &[u16]) -> Finding
+    ensures { λ r. ⌜ r ≡ checkOf (now (plan .entry)) (now (parts .entry)) ⌝ }
+{
+    let tables = rules::judge::judge_partitions(plan.len(), parts);
+    match tables {
+        Finding::Refused(r) => Finding::Refused(r),
+        Finding::Good => check_plan(plan, parts),
+    }
+}

@@ -1,0 +1,107 @@
+// The flat tables behind accessors: only these functions know how many numbers a record has.
+ghost use mathlib.Core.Path.{_≡_};
+ghost use Prim.Native.Nat.{_<_};
+ghost use lib.ListN.{getD};
+ghost use Rattle.rules.specs.Limits.{partWidth, taskWidth};
+ghost use Rattle.rules.specs.Table.{fieldAt, cycle, num, den, partitions, partition, budget, deadline, period, tasks, wants, wanted};
+use crate::limits::PART_WIDTH;
+use crate::limits::TASK_WIDTH;
+use crate::numbers::wide;
+
+// What stands at a place of a table, or 0 past its end.
+pub fn entry(table: &[u16], k: usize) -> u16
+    ensures { λ r. ⌜ r ≡ getD (now (table .entry)) k 0 ⌝ }
+{
+    if k < table.len() { table[k] } else { 0 }
+}
+
+pub fn partitions(parts: &[u16]) -> usize
+    ensures { λ r. ⌜ r ≡ partitions (now (parts .entry)) ⌝ }
+{
+    parts.len() / PART_WIDTH
+}
+
+fn part_field(parts: &[u16], k: usize, field: u8) -> u16
+    requires { ⌜ field < 3 ⌝ }
+    ensures { λ r. ⌜ r ≡ fieldAt partWidth (now (parts .entry)) k field ⌝ }
+{
+    if parts.len() <= k {
+        return 0;
+    }
+    entry(parts, PART_WIDTH * k + (field as usize))
+}
+
+pub fn cycle(parts: &[u16], k: usize) -> u16
+    ensures { λ r. ⌜ r ≡ cycle (now (parts .entry)) k ⌝ }
+{
+    part_field(parts, k, 0)
+}
+
+pub fn num(parts: &[u16], k: usize) -> u16
+    ensures { λ r. ⌜ r ≡ num (now (parts .entry)) k ⌝ }
+{
+    part_field(parts, k, 1)
+}
+
+pub fn den(parts: &[u16], k: usize) -> u16
+    ensures { λ r. ⌜ r ≡ den (now (parts .entry)) k ⌝ }
+{
+    part_field(parts, k, 2)
+}
+
+pub fn tasks(table: &[u16]) -> usize
+    ensures { λ r. ⌜ r ≡ tasks (now (table .entry)) ⌝ }
+{
+    table.len() / TASK_WIDTH
+}
+
+fn task_field(table: &[u16], j: usize, field: u8) -> u16
+    requires { ⌜ field < 4 ⌝ }
+    ensures { λ r. ⌜ r ≡ fieldAt taskWidth (now (table .entry)) j field ⌝ }
+{
+    if table.len() <= j {
+        return 0;
+    }
+    entry(table, TASK_WIDTH * j + (field as usize))
+}
+
+pub fn partition(table: &[u16], j: usize) -> u16
+    ensures { λ r. ⌜ r ≡ partition (now (table .entry)) j ⌝ }
+{
+    task_field(table, j, 0)
+}
+
+pub fn budget(table: &[u16], j: usize) -> u16
+    ensures { λ r. ⌜ r ≡ budget (now (table .entry)) j ⌝ }
+{
+    task_field(table, j, 1)
+}
+
+pub fn deadline(table: &[u16], j: usize) -> u16
+    ensures { λ r. ⌜ r ≡ deadline (now (table .entry)) j ⌝ }
+{
+    task_field(table, j, 2)
+}
+
+pub fn period(table: &[u16], j: usize) -> u16
+    ensures { λ r. ⌜ r ≡ period (now (table .entry)) j ⌝ }
+{
+    task_field(table, j, 3)
+}
+
+// num·m/den, rounded up (0 where den is 0).
+pub fn wants(m: u16, num: u16, den: u16) -> usize
+    ensures { λ r. ⌜ r ≡ wants m num den ⌝ }
+{
+    if den == 0 {
+        return 0;
+    }
+    (wide(num) * wide(m) + (wide(den) - 1)) / wide(den)
+}
+
+// What the partition at place k wants.
+pub fn wanted(parts: &[u16], k: usize) -> usize
+    ensures { λ r. ⌜ r ≡ wanted (now (parts .entry)) k ⌝ }
+{
+    wants(cycle(parts, k), num(parts, k), den(parts, k))
+}

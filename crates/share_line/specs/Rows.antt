@@ -1,0 +1,68 @@
+-- What a line says: nothing, a partition, a task, or what was expected in it first. Assumes nothing.
+use Prim.Native.Nat.{ℕ}
+use mathlib.Core.List.{List}
+use mathlib.Core.Bool.{Bool, true, false, not}
+use lib.ListN.{length, take}
+use lib.Dec.{ltb, eqb}
+use Rattle.rules.specs.Walk.{pick}
+use Rattle.output.specs.Text.{bytes}
+use Rattle.share_line.specs.declared.Mark.the-variants.{Comment}
+use Rattle.share_line.specs.declared.What.{What}
+use Rattle.share_line.specs.declared.What.the-variants.{Record, Number, Slash, End}
+use Rattle.share_line.specs.declared.Row.{Row}
+use Rattle.share_line.specs.declared.Row.the-variants.{Nothing, Partition, Task, Wrong}
+use Rattle.share_line.specs.Words.{found, wordAt, restOf, same, highest, numeral}
+
+-- no word is left from place k on
+abbrev pub endsAt : List ℕ → ℕ → Bool
+endsAt l k = eqb (length (wordAt l k)) 0
+
+-- the number at place k, and whether none stands there
+abbrev pub numberAt : List ℕ → ℕ → ℕ
+numberAt l k = numeral (wordAt l k)
+
+abbrev pub noneAt : List ℕ → ℕ → Bool
+noneAt l k = ltb highest (numberAt l k)
+
+-- `CYCLE NUM/DEN`, behind the word `partition`
+unfoldable pub partRow : List ℕ → Row
+partRow l =
+    pick (noneAt l 0) (Wrong Number)
+    (pick (noneAt l 1) (Wrong Number)
+    (pick (not (same (wordAt l 2) (bytes "/"))) (Wrong Slash)
+    (pick (noneAt l 3) (Wrong Number)
+    (pick (endsAt l 4) (Partition (numberAt l 0) (numberAt l 1) (numberAt l 3)) (Wrong End)))))
+
+-- `PARTITION C D T`, behind the word `task`
+unfoldable pub taskRow : List ℕ → Row
+taskRow l =
+    pick (noneAt l 0) (Wrong Number)
+    (pick (noneAt l 1) (Wrong Number)
+    (pick (noneAt l 2) (Wrong Number)
+    (pick (noneAt l 3) (Wrong Number)
+    (pick (endsAt l 4) (Task (numberAt l 0) (numberAt l 1) (numberAt l 2) (numberAt l 3)) (Wrong End)))))
+
+-- a line of words: none, or the record that its first word names
+unfoldable pub recordOf : List ℕ → Row
+recordOf l =
+    pick (endsAt l 0) Nothing
+    (pick (same (wordAt l 0) (bytes "partition")) (partRow (restOf l))
+    (pick (same (wordAt l 0) (bytes "task")) (taskRow (restOf l))
+    (Wrong Record)))
+
+-- a comment goes from `#` to the end of its line
+unfoldable pub rowOf : List ℕ → Row
+rowOf line = recordOf (take (found Comment line) line)
+
+abbrev pub isWrong : Row → Bool
+isWrong Nothing = false
+isWrong (Partition m n d) = false
+isWrong (Task p c d t) = false
+isWrong (Wrong w) = true
+
+-- what was expected in a line that is wrong
+abbrev pub whatOf : Row → What
+whatOf Nothing = End
+whatOf (Partition m n d) = End
+whatOf (Task p c d t) = End
+whatOf (Wrong w) = w
