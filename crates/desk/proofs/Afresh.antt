@@ -1,25 +1,16 @@
 -- The flexibilities after a job is taken in are those worked out afresh. Assumes nothing.
 use Prim.Native.Nat.{ℕ, zero, suc, _+_, _-_, _≤_, min, max}
 use mathlib.Core.Path.{_≡_, refl, _∙_}
-use mathlib.Core.Bool.{Bool, true, false}
+use mathlib.Core.Bool.{true, false}
 use mathlib.Core.List.{List, [], _∷_, _++_}
 use native.Mathlib.Omega.{arith}
 use lib.Dec.{ltb, eqb}
 use lib.ListN.{take, drop}
 use borrow.Author.Tests.{ltb-false, eqb-true, eq-eqb}
 use Rattle.desk.specs.declared.Job.{Job}
-use mathlib.Core.Bool.{_||_}
 use Rattle.desk.specs.Table.{job, xOf, refit, rightX, ends}
 use Rattle.desk.specs.Request.{moved, shift, tooFar, insertAt}
-use Rattle.desk.proofs.Check.{both-left, both-right}
-
-pub either-left : (a b : Bool) → a || b ≡ false → a ≡ false
-either-left true b h = h
-either-left false b h = refl
-
-either-right : (a b : Bool) → a || b ≡ false → b ≡ false
-either-right true b h = absurd (let z : _≡_ {A = ℕ} 0 1 = cc in omega arith)
-either-right false b h = h
+use Rattle.rules.proofs.Tests.{and-parts, or-neither}
 
 -- omega takes at most six case splits, and each `-`, `min` and `max` is one: so the numbers go in small steps
 pub sub-both : (m p q : ℕ) → m - p - q ≡ m - (p + q)
@@ -51,15 +42,15 @@ xOf-moved e j [] h g f = falls-last (j .start) (j .budget) (j .deadline) (j .fle
 xOf-moved e j (k ∷ ks) h g f =
     falls-more (j .start) (j .budget) (j .deadline) (j .flex) (max e (j .start)) _ (k .flex) (k .start) _ (max (max e (j .start) + j .budget) (k .start))
     (past e (j .start)) (past (max e (j .start) + j .budget) (k .start))
-    (ltb-false (k .flex) _ (either-left _ (tooFar (max (max e (j .start) + j .budget) (k .start) + k .budget) ks) f)) h
+    (ltb-false (k .flex) _ (or-neither _ (tooFar (max (max e (j .start) + j .budget) (k .start) + k .budget) ks) f .0)) h
 
 pub shift-right : (e : ℕ) (js : List Job) → rightX js ≡ true → tooFar e js ≡ false → rightX (shift e js) ≡ true
 shift-right e [] h f = refl
 shift-right e (j ∷ js) h f =
-    let x : j .flex ≡ xOf j js = eqb-true _ _ (both-left _ (rightX js) h) in
-    let near : max e (j .start) - j .start ≤ j .flex = ltb-false (j .flex) _ (either-left _ (tooFar (max e (j .start) + j .budget) js) f) in
-    let rest : tooFar (max e (j .start) + j .budget) js ≡ false = either-right (ltb (j .flex) (max e (j .start) - j .start)) _ f in
-    rw (eq-eqb _ _ (xOf-moved e j js x near rest)) (shift-right (max e (j .start) + j .budget) js (both-right (eqb (j .flex) (xOf j js)) _ h) rest)
+    let x : j .flex ≡ xOf j js = eqb-true _ _ (and-parts _ (rightX js) h .0) in
+    let near : max e (j .start) - j .start ≤ j .flex = ltb-false (j .flex) _ (or-neither _ (tooFar (max e (j .start) + j .budget) js) f .0) in
+    let rest : tooFar (max e (j .start) + j .budget) js ≡ false = or-neither (ltb (j .flex) (max e (j .start) - j .start)) _ f .1 in
+    rw (eq-eqb _ _ (xOf-moved e j js x near rest)) (shift-right (max e (j .start) + j .budget) js (and-parts (eqb (j .flex) (xOf j js)) _ h .1) rest)
 
 xOf-with : (j : Job) (v : ℕ) (ks : List Job) → v ≡ xOf j ks → v ≡ xOf (job (j .start) (j .budget) (j .deadline) v) ks
 xOf-with j v [] h = h
@@ -72,7 +63,7 @@ refit-right (j ∷ js) ks h = rw (eq-eqb _ _ (xOf-with j _ (refit js ks) refl)) 
 pub drop-right : (i : ℕ) (js : List Job) → rightX js ≡ true → rightX (drop i js) ≡ true
 drop-right zero js h = h
 drop-right (suc i) [] h = h
-drop-right (suc i) (j ∷ js) h = drop-right i js (both-right (eqb (j .flex) (xOf j js)) _ h)
+drop-right (suc i) (j ∷ js) h = drop-right i js (and-parts (eqb (j .flex) (xOf j js)) _ h .1)
 
 pub insert-right : (i : ℕ) (new : Job) (js : List Job) → rightX js ≡ true → tooFar (ends new) (drop i js) ≡ false
     → rightX (insertAt i new js) ≡ true

@@ -13,7 +13,8 @@ use Rattle.rules.specs.Walk.{pick}
 use mathlib.Core.Bool.{_&&_}
 use Rattle.desk.specs.Table.{xOf, rightX, ordered, jobOk, ends}
 use Rattle.desk.specs.Request.{shift, tooFar, kept}
-use Rattle.desk.proofs.Check.{both-left, both-right, xOf-le}
+use Rattle.rules.proofs.Tests.{and-parts}
+use Rattle.desk.proofs.Check.{xOf-le}
 use Rattle.desk.proofs.Afresh.{Near, sub-both}
 
 pub record Fine (j : Job) : Type 0 where
@@ -32,11 +33,11 @@ chain-low e f (j ∷ js) h g = (omega (arith, g .0), g .1, g .2)
 
 fine-of : (j : Job) → jobOk j ≡ true → Fine j
 fine-of j h =
-    let one = both-right (leb 1 (j .budget)) _ h in
+    let one = and-parts (leb 1 (j .budget)) _ h .1 in
     record {
-      some = leb-true _ _ (both-left _ _ h);
-      in-time = leb-true _ _ (both-left _ _ one);
-      low = leb-true _ _ (both-right (leb (ends j) (j .deadline)) _ one);
+      some = leb-true _ _ (and-parts _ _ h .0);
+      in-time = leb-true _ _ (and-parts _ _ one .0);
+      low = leb-true _ _ (and-parts (leb (ends j) (j .deadline)) _ one .1);
     }
 
 fine-ok : (j : Job) → Fine j → jobOk j ≡ true
@@ -45,8 +46,8 @@ fine-ok j h = rw (le-leb 1 (j .budget) (h .some), le-leb (ends j) (j .deadline) 
 pub chain-of : (e : ℕ) (js : List Job) → ordered e js ≡ true → Chain e js
 chain-of e [] h = tt
 chain-of e (j ∷ js) h =
-    let rest : (jobOk j && ordered (ends j) js) ≡ true = both-right (leb e (j .start)) _ h in
-    (leb-true _ _ (both-left _ _ h), fine-of j (both-left _ _ rest), chain-of (ends j) js (both-right (jobOk j) _ rest))
+    let rest : (jobOk j && ordered (ends j) js) ≡ true = and-parts (leb e (j .start)) _ h .1 in
+    (leb-true _ _ (and-parts _ _ h .0), fine-of j (and-parts _ _ rest .0), chain-of (ends j) js (and-parts (jobOk j) _ rest .1))
 
 pub chain-ok : (e : ℕ) (js : List Job) → Chain e js → ordered e js ≡ true
 chain-ok e [] g = refl
@@ -83,7 +84,7 @@ chain-kept t e (j ∷ js) g = cases (leb (ends j) t) refl (chain-kept t (ends j)
 
 pub right-kept : (t e : ℕ) (js : List Job) → Chain e js → rightX js ≡ true → rightX (kept t js) ≡ true
 right-kept t e [] g r = refl
-right-kept t e (j ∷ js) g r = cases (leb (ends j) t) refl (right-kept t (ends j) js (g .2) (both-right (eqb (j .flex) (xOf j js)) _ r)) where
+right-kept t e (j ∷ js) g r = cases (leb (ends j) t) refl (right-kept t (ends j) js (g .2) (and-parts (eqb (j .flex) (xOf j js)) _ r .1)) where
   cases : (b : Bool) → leb (ends j) t ≡ b → rightX (kept t js) ≡ true → rightX (pick b (kept t js) (j ∷ kept t js)) ≡ true
   cases true h w = w
   cases false h w = rw (kept-late t (ends j) js (leb-false _ _ h) (g .2)) r
@@ -102,20 +103,20 @@ near-next e j (k ∷ ks) h x g =
 pub never-far : (e f : ℕ) (js : List Job) → Chain f js → rightX js ≡ true → Near e js → tooFar e js ≡ false
 never-far e f [] g r h = refl
 never-far e f (j ∷ js) g r h =
-    let x : j .flex ≡ xOf j js = eqb-true _ _ (both-left _ (rightX js) r) in
+    let x : j .flex ≡ xOf j js = eqb-true _ _ (and-parts _ (rightX js) r .0) in
     let fits : max e (j .start) - j .start ≤ j .flex = omega arith in
     rw (le-ltb (j .flex) _ fits)
-    (never-far (max e (j .start) + j .budget) (ends j) js (g .2) (both-right (eqb (j .flex) (xOf j js)) _ r) (near-next e j js h x (g .2)))
+    (never-far (max e (j .start) + j .budget) (ends j) js (g .2) (and-parts (eqb (j .flex) (xOf j js)) _ r .1) (near-next e j js h x (g .2)))
 
 -- with right flexibilities and the first move within its x, all stay fine
 pub chain-shift : (e : ℕ) (js : List Job) → Chain 0 js → rightX js ≡ true → Near e js → Chain e (shift e js)
 chain-shift e [] g r h = tt
 chain-shift e (j ∷ js) g r h =
-    let x : j .flex ≡ xOf j js = eqb-true _ _ (both-left _ (rightX js) r) in
+    let x : j .flex ≡ xOf j js = eqb-true _ _ (and-parts _ (rightX js) r .0) in
     let top : max e (j .start) ≤ j .start + j .flex = omega arith in
     let low = xOf-le j js in (
       omega arith,
       record { some = g .1 .some; in-time = omega (arith, g .1 .in-time); low = g .1 .low },
-      chain-shift (max e (j .start) + j .budget) js (chain-low _ 0 js (omega arith) (g .2)) (both-right (eqb (j .flex) (xOf j js)) _ r)
+      chain-shift (max e (j .start) + j .budget) js (chain-low _ 0 js (omega arith) (g .2)) (and-parts (eqb (j .flex) (xOf j js)) _ r .1)
           (near-next e j js h x (g .2)),
     )

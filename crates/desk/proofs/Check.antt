@@ -1,7 +1,7 @@
 -- What the table's tests give. Assumes nothing.
 use Prim.Native.Nat.{ℕ, _+_, _-_, _≤_}
 use mathlib.Core.Path.{_≡_, refl}
-use mathlib.Core.Bool.{Bool, true, false, _&&_}
+use mathlib.Core.Bool.{true}
 use mathlib.Core.List.{List, [], _∷_, _++_}
 use native.Mathlib.Omega.{arith}
 use lib.Dec.{leb, eqb}
@@ -9,17 +9,10 @@ use lib.ListN.{length, take, drop, replicate, length-drop}
 use lib.Seq.{length-take-le}
 use borrow.Author.Tests.{leb-true, eqb-true}
 use Rattle.rules.specs.Limits.{places, latest}
+use Rattle.rules.proofs.Tests.{and-parts}
 use Rattle.desk.specs.declared.Job.{Job}
 use Rattle.desk.specs.Table.{none, ordered, zeros, allZeros, rightX, xOf, tableOk, deskOk, refit, flexes, filled}
 use Rattle.desk.specs.Request.{numbersOk}
-
-pub both-left : (a b : Bool) → a && b ≡ true → a ≡ true
-both-left true b h = refl
-both-left false b h = h
-
-pub both-right : (a b : Bool) → a && b ≡ true → b ≡ true
-both-right true b h = h
-both-right false b h = absurd (let z : _≡_ {A = ℕ} 0 1 = cc in omega arith)
 
 pub xOf-le : (j : Job) (ks : List Job) → xOf j ks ≤ j .deadline - j .start - j .budget
 xOf-le j [] = omega arith
@@ -34,42 +27,42 @@ pub record Listed (n : ℕ) (l : List Job) : Type 0 where
 
 pub listed-of : (n : ℕ) (l : List Job) → tableOk n l ≡ true → Listed n l
 listed-of n l h =
-    let two = both-right (eqb (length l) places) _ h in
-    let three = both-right (leb n places) _ two in
+    let two = and-parts (eqb (length l) places) _ h .1 in
+    let three = and-parts (leb n places) _ two .1 in
     record {
-      whole = eqb-true _ _ (both-left _ _ h);
-      few = leb-true n places (both-left _ _ two);
-      order = both-left _ _ three;
-      past = both-right (ordered 0 (take n l)) _ three;
+      whole = eqb-true _ _ (and-parts _ _ h .0);
+      few = leb-true n places (and-parts _ _ two .0);
+      order = and-parts _ _ three .0;
+      past = and-parts (ordered 0 (take n l)) _ three .1;
     }
 
 pub desk-table : (clock n : ℕ) (l : List Job) → deskOk clock n l ≡ true → tableOk n l ≡ true
-desk-table clock n l h = both-left _ (rightX (take n l)) (both-right (leb clock latest) _ h)
+desk-table clock n l h = and-parts _ (rightX (take n l)) (and-parts (leb clock latest) _ h .1) .0
 
 pub desk-right : (clock n : ℕ) (l : List Job) → deskOk clock n l ≡ true → rightX (take n l) ≡ true
-desk-right clock n l h = both-right (tableOk n l) _ (both-right (leb clock latest) _ h)
+desk-right clock n l h = and-parts (tableOk n l) _ (and-parts (leb clock latest) _ h .1) .1
 
 pub numbers-small : (t c d : ℕ) → numbersOk t c d ≡ true → (t ≤ latest) × (c ≤ latest)
 numbers-small t c d h =
-    let one = both-right (leb 1 c) _ h in
-    let two = both-right (leb c latest) _ one in
-    (leb-true t latest (both-right (leb d latest) _ two), leb-true c latest (both-left _ _ one))
+    let one = and-parts (leb 1 c) _ h .1 in
+    let two = and-parts (leb c latest) _ one .1 in
+    (leb-true t latest (and-parts (leb d latest) _ two .1), leb-true c latest (and-parts _ _ one .0))
 
 zeros-is : (j : Job) → zeros j ≡ true → j ≡ none
 zeros-is j h =
-    let h1 = both-right (eqb (j .start) 0) _ h in
-    let h2 = both-right (eqb (j .budget) 0) _ h1 in
-    let a : j .start ≡ 0 = eqb-true _ _ (both-left _ _ h) in
-    let c : j .budget ≡ 0 = eqb-true _ _ (both-left _ _ h1) in
-    let d : j .deadline ≡ 0 = eqb-true _ _ (both-left _ _ h2) in
-    let x : j .flex ≡ 0 = eqb-true _ _ (both-right (eqb (j .deadline) 0) _ h2) in
+    let h1 = and-parts (eqb (j .start) 0) _ h .1 in
+    let h2 = and-parts (eqb (j .budget) 0) _ h1 .1 in
+    let a : j .start ≡ 0 = eqb-true _ _ (and-parts _ _ h .0) in
+    let c : j .budget ≡ 0 = eqb-true _ _ (and-parts _ _ h1 .0) in
+    let d : j .deadline ≡ 0 = eqb-true _ _ (and-parts _ _ h2 .0) in
+    let x : j .flex ≡ 0 = eqb-true _ _ (and-parts (eqb (j .deadline) 0) _ h2 .1) in
     λ i. record { start = a i; budget = c i; deadline = d i; flex = x i }
 
 all-none : (js : List Job) → allZeros js ≡ true → js ≡ replicate (length js) none
 all-none [] h = refl
 all-none (j ∷ js) h =
-    let e = zeros-is j (both-left _ _ h) in
-    let r = all-none js (both-right (zeros j) _ h) in
+    let e = zeros-is j (and-parts _ _ h .0) in
+    let r = all-none js (and-parts (zeros j) _ h .1) in
     λ i. e i ∷ r i
 
 pub length-refit : (js ks : List Job) → length (refit js ks) ≡ length js + length ks

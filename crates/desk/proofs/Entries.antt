@@ -11,7 +11,7 @@ use Rattle.desk.specs.declared.Job.{Job}
 use Rattle.rules.specs.Walk.{pick}
 use Rattle.desk.specs.Table.{job, flexes, ends}
 use Rattle.desk.specs.Request.{kept, shift, insertAt}
-use Rattle.desk.specs.Story.{Entry, entry, blank, finish, ended, unended, lent, entries, Promise}
+use Rattle.desk.specs.Story.{Entry, entry, noEntry, finish, ended, unended, atOpening, entries, Promise}
 use Rattle.desk.proofs.Chain.{Chain}
 
 -- the same job at another start
@@ -22,7 +22,7 @@ abbrev pub withEntry : ℕ → Entry → List Entry → List Entry
 withEntry i r rs = take i rs ++ (r ∷ drop i rs)
 
 -- the entries gs are those of the jobs js, one for one
-pub record Tells (g : Entry) (j : Job) : Type 0 where
+pub record Matching (g : Entry) (j : Job) : Type 0 where
   pub since : g .since ≤ j .start
   pub budget : g .budget ≡ j .budget
   pub due : g .deadline ≡ j .deadline
@@ -31,7 +31,7 @@ abbrev pub Follow : List Entry → List Job → Type 0
 Follow [] [] = Unit {0}
 Follow [] (j ∷ js) = ⊥
 Follow (g ∷ gs) [] = ⊥
-Follow (g ∷ gs) (j ∷ js) = Tells g j × Follow gs js
+Follow (g ∷ gs) (j ∷ js) = Matching g j × Follow gs js
 
 -- entries in order of time, the first not before e
 pub record Held (e : ℕ) (r : Entry) : Type 0 where
@@ -56,7 +56,7 @@ line-entries e (k ∷ gs) (j ∷ js) g f = (
   rw (f .0 .budget) (line-entries (ends j) gs js (g .2) (f .1)),
 )
 
-same-end : (t : ℕ) (g : Entry) (j : Job) → Tells g j → leb (ends j) t ≡ leb (j .start + g .budget) t
+same-end : (t : ℕ) (g : Entry) (j : Job) → Matching g j → leb (ends j) t ≡ leb (j .start + g .budget) t
 same-end t g j f = ap (λ (n : ℕ). leb (j .start + n) t) (sym (f .budget))
 
 pub follow-kept : (t : ℕ) (gs : List Entry) (js : List Job) → Follow gs js → Follow (unended t (entries gs js)) (kept t js)
@@ -140,18 +140,18 @@ follow-insert (suc i) g (k ∷ gs) [] s h f = absurd f
 follow-insert (suc i) g (k ∷ gs) (j ∷ js) s h f =
     (record { since = f .0 .since; budget = f .0 .budget; due = f .0 .due }, follow-insert i g gs js s h (f .1))
 
-pub follow-open : (js : List Job) → Follow (lent js) (flexes js)
+pub follow-open : (js : List Job) → Follow (atOpening js) (flexes js)
 follow-open [] = tt
 follow-open (j ∷ js) = (record { since = omega arith; budget = refl; due = refl }, follow-open js)
 
-pub line-held : (e : ℕ) (rs : List Entry) (k : ℕ) → k < length rs → Line e rs → Held e (getD rs k blank)
+pub line-held : (e : ℕ) (rs : List Entry) (k : ℕ) → k < length rs → Line e rs → Held e (getD rs k noEntry)
 line-held e [] k h g = absurd (omega arith)
 line-held e (r ∷ rs) zero h g = g .0
 line-held e (r ∷ rs) (suc k) h g =
     let w = line-held (finish r) rs k (omega arith) (g .1) in
     record { low = omega (arith, w .low, g .0 .low); since = w .since; due = w .due }
 
-pub line-apart : (e : ℕ) (rs : List Entry) (i k : ℕ) → i < k → k < length rs → Line e rs → finish (getD rs i blank) ≤ getD rs k blank .start
+pub line-apart : (e : ℕ) (rs : List Entry) (i k : ℕ) → i < k → k < length rs → Line e rs → finish (getD rs i noEntry) ≤ getD rs k noEntry .start
 line-apart e [] i k h l g = absurd (omega arith)
 line-apart e (r ∷ rs) zero zero h l g = absurd (omega arith)
 line-apart e (r ∷ rs) zero (suc k) h l g = line-held (finish r) rs k (omega arith) (g .1) .low

@@ -15,8 +15,8 @@ use Rattle.desk.specs.declared.Job.{Job}
 use Rattle.desk.specs.declared.Answer.the-variants.{Opened, Taken, Refused}
 use Rattle.desk.specs.Table.{none, filled, outcome, flexes, tableOk, deskOk, openOf, Outcome}
 use Rattle.desk.specs.Request.{kept, busy, find, tooFar, dropping, taking, numbersOk, drops, requestOf, Place, At, Nowhere}
-use Rattle.desk.specs.Story.{Entry, entry, blank, lent, entries, Story, begin}
-use Rattle.desk.specs.Theorems.{OpenOne, RequestOne, OpenLeaves, NeverTooFar, Refuses, OpenTells, InEveryStory, Tells, Proved}
+use Rattle.desk.specs.Story.{Entry, entry, noEntry, atOpening, entries, Story, begin}
+use Rattle.desk.specs.Theorems.{OpenOne, RequestOne, OpenLeaves, NeverTooFar, Refuses, OpenTells, InEveryStory, Matches, Proved}
 use Rattle.desk.proofs.Rules.{Sound, request-sound, request-numbers, opened-table, open-is, open-sound, open-good, open-sound-unless, sound-unless, afresh}
 use Rattle.desk.proofs.Entries.{Follow}
 use Rattle.desk.proofs.Promise.{take-filled, table, Kept, kept-good, kept-many, kept-begin, promise}
@@ -79,7 +79,7 @@ module _ (clock n : ℕ) (l : List Job) (t c d : ℕ) where
       (choose (busy t (kept t (take n l))) _ _ (drops-all Busy refl)
       (choose (leb places (length (kept t (take n l)))) _ _ (drops-all Full refl) (right-placed (find t c d (kept t (take n l))))))))
 
-entries-flexes : (js : List Job) → entries (lent js) (flexes js) ≡ lent js
+entries-flexes : (js : List Job) → entries (atOpening js) (flexes js) ≡ atOpening js
 entries-flexes [] = refl
 entries-flexes (j ∷ js) = ap (λ (rs : List Entry). entry (j .start) (j .budget) (j .deadline) (j .start) ∷ rs) (entries-flexes js)
 
@@ -94,16 +94,16 @@ kept-story : InEveryStory (λ h. Kept h)
 kept-story clock n l e qs = kept-many qs (begin clock n l) (kept-begin clock n l (opened-table clock n l e))
 
 entry-at : (gs : List Entry) (js : List Job) (k : ℕ) → Follow gs js → k < length js
-    → (getD (entries gs js) k blank .start ≡ getD js k none .start)
-    × (getD (entries gs js) k blank .budget ≡ getD js k none .budget)
-    × (getD (entries gs js) k blank .deadline ≡ getD js k none .deadline)
+    → (getD (entries gs js) k noEntry .start ≡ getD js k none .start)
+    × (getD (entries gs js) k noEntry .budget ≡ getD js k none .budget)
+    × (getD (entries gs js) k noEntry .deadline ≡ getD js k none .deadline)
 entry-at [] [] k f h = absurd (omega arith)
 entry-at [] (j ∷ js) k f h = absurd f
 entry-at (g ∷ gs) [] k f h = absurd f
 entry-at (g ∷ gs) (j ∷ js) zero f h = (refl, f .0 .budget, f .0 .due)
 entry-at (g ∷ gs) (j ∷ js) (suc k) f h = entry-at gs js k (f .1) (omega arith)
 
-tells : (h : Story) → Kept h → Tells h
+tells : (h : Story) → Kept h → Matches h
 tells h w =
     let long = kept-good h w .count in
     let at : (k : ℕ) → k < h .desk .count → getD (table h) k none ≡ getD (h .desk .jobs) k none =

@@ -19,7 +19,8 @@ use Rattle.rules.specs.Walk.{pick}
 use Rattle.desk.specs.Table.{job, none, filled, xOf, refit, flexes, allZeros, rightX, tableOk, deskOk, outcome, openOf, ends, Outcome}
 use Rattle.desk.specs.Call.{said}
 use Rattle.desk.specs.Request.{kept, busy, find, tooFar, insertAt, dropping, taking, numbersOk, requestOf, Place, At, Nowhere}
-use Rattle.desk.proofs.Check.{both-left, both-right, numbers-small, listed-of, desk-table, desk-right}
+use Rattle.rules.proofs.Tests.{and-parts}
+use Rattle.desk.proofs.Check.{numbers-small, listed-of, desk-table, desk-right}
 use Rattle.desk.proofs.Check.{length-refit}
 use Rattle.desk.proofs.Afresh.{insert-right, refit-right}
 use Rattle.desk.proofs.Chain.{Chain, chain-low, chain-of, chain-ok, chain-kept, right-kept}
@@ -110,10 +111,10 @@ module _ (clock n : ℕ) (l : List Job) (t c d : ℕ) (sound : Sound clock n l) 
       let at : f .at ≡ i = omega (arith, f .is) in
       let spot : Spot c d t i js s = subst (λ (k : ℕ). Spot c d t k js s) at (f .spot) in
       let r : rightX js ≡ true = good-kept t n (take n l) (good-of clock n l sound) .right in
-      let one = both-right (leb 1 c) _ nums in
-      let two = both-right (leb c latest) _ one in
+      let one = and-parts (leb 1 c) _ nums .1 in
+      let two = and-parts (leb c latest) _ one .1 in
       rw (spot-near c d t i js s g r spot)
-      (taken i s h (numbers-small t c d nums .0) (leb-true _ _ (both-left _ _ nums)) (leb-true _ _ (both-left _ _ two)) few g spot)
+      (taken i s h (numbers-small t c d nums .0) (leb-true _ _ (and-parts _ _ nums .0)) (leb-true _ _ (and-parts _ _ two .0)) few g spot)
 
   pub way : Way clock n l t c d (requestOf clock n l t c d)
   unfolding requestOf
@@ -222,7 +223,7 @@ with-same j v e = λ i. record { start = j .start; budget = j .budget; deadline 
 pub fresh : (js : List Job) → rightX js ≡ true → flexes js ≡ js
 fresh [] r = refl
 fresh (j ∷ js) r =
-    let x : j .flex ≡ xOf j js = eqb-true _ _ (both-left _ (rightX js) r) in
+    let x : j .flex ≡ xOf j js = eqb-true _ _ (and-parts _ (rightX js) r .0) in
     rw (fresh js (right-tail j js r)) (ap (λ (k : Job). k ∷ js) (with-same j (xOf j js) x))
 
 pub afresh : (o : Outcome) → SoundAfter o → flexes (take (o .count) (o .jobs)) ≡ take (o .count) (o .jobs)

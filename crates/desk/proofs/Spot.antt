@@ -12,7 +12,7 @@ use Rattle.desk.specs.declared.Job.{Job}
 use Rattle.rules.specs.Walk.{pick}
 use Rattle.desk.specs.Table.{job, xOf, rightX, ends}
 use Rattle.desk.specs.Request.{shift, tooFar, insertAt, early, room, findFrom, At, Nowhere}
-use Rattle.desk.proofs.Check.{both-right}
+use Rattle.rules.proofs.Tests.{and-parts}
 use Rattle.desk.proofs.Check.{length-refit}
 use Rattle.desk.proofs.Afresh.{Near}
 use Rattle.desk.proofs.Chain.{Chain, chain-low, chain-shift, never-far}
@@ -64,7 +64,7 @@ find-spot k c d e (j ∷ js) g i s h = by-early (leb (j .start) d) refl h (find-
       absurd (let z : _≡_ {A = ℕ} 0 1 = cc in omega arith)
 
 pub right-tail : (j : Job) (js : List Job) → rightX (j ∷ js) ≡ true → rightX js ≡ true
-right-tail j js r = both-right (eqb (j .flex) (xOf j js)) _ r
+right-tail j js r = and-parts (eqb (j .flex) (xOf j js)) _ r .1
 
 -- at a spot no move exceeds its job's x
 pub spot-near : (c d e p : ℕ) (js : List Job) (s : ℕ) → Chain e js → rightX js ≡ true → Spot c d e p js s → tooFar (s + c) (drop p js) ≡ false

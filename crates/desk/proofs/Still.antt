@@ -15,7 +15,7 @@ use Rattle.desk.specs.declared.Answer.{Answer}
 use Rattle.desk.specs.declared.Answer.the-variants.{Taken, Refused}
 use Rattle.desk.specs.Table.{job, filled, tableOk, openOf, ends, Outcome}
 use Rattle.desk.specs.Request.{kept, shift, insertAt}
-use Rattle.desk.specs.Story.{Entry, entry, blank, ended, unended, lent, entries, Story, live, ever, begin, after, next, many, Later, Joined, countTaken, takens, Fixed}
+use Rattle.desk.specs.Story.{Entry, entry, noEntry, ended, unended, atOpening, entries, Story, live, ever, begin, after, next, many, Later, Joined, countTaken, takens, Fixed}
 use Rattle.desk.proofs.Spot.{Spot, spot-start, length-shift, length-insert}
 use Rattle.desk.proofs.Rules.{Way, same, dropped, taken, way, open-is}
 use Rattle.desk.proofs.Entries.{starting, withEntry, Follow, Line, line-entries, follow-kept, follow-shift, entries-kept, line-held}
@@ -23,7 +23,7 @@ use Rattle.desk.proofs.Promise.{take-filled, table, Kept, kept-good, dr
 
 -- the jobs after a new one, each not earlier
 later-shift : (e : ℕ) (gs : List Entry) (js : List Job) → Follow gs js → (m : ℕ) → m < length (entries gs js)
-    → Later (getD (entries gs js) m blank) (getD (entries gs (shift e js)) m blank)
+    → Later (getD (entries gs js) m noEntry) (getD (entries gs (shift e js)) m noEntry)
 later-shift e [] js f m h = absurd (omega arith)
 later-shift e (g ∷ gs) [] f m h = absurd f
 later-shift e (g ∷ gs) (j ∷ js) f zero h = (refl, refl, refl, omega arith)
@@ -58,9 +58,9 @@ join-here (suc i) g (k ∷ gs) (j ∷ js) s b f h =
       later = later (w .later);
     } where
       later : ((m : ℕ) → i ≤ m → m < length (entries gs js)
-          → Later (getD (entries gs js) m blank) (getD (entries (withEntry i g gs) (insertAt i (job s (g .budget) (g .deadline) 0) js)) (suc m) blank))
+          → Later (getD (entries gs js) m noEntry) (getD (entries (withEntry i g gs) (insertAt i (job s (g .budget) (g .deadline) 0) js)) (suc m) noEntry))
           → (m : ℕ) → suc i ≤ m → m < suc (length (entries gs js))
-          → Later (getD (starting k (j .start) ∷ entries gs js) m blank) (getD (entries (withEntry i g gs) (insertAt i (job s (g .budget) (g .deadline) 0) js)) m blank)
+          → Later (getD (starting k (j .start) ∷ entries gs js) m noEntry) (getD (entries (withEntry i g gs) (insertAt i (job s (g .budget) (g .deadline) 0) js)) m noEntry)
       later r zero low short = absurd (omega arith)
       later r (suc m) low short = r m (omega arith) (omega arith)
 
@@ -69,17 +69,17 @@ join-after xs us vs i new w =
     record {
       one-more = omega (arith, w .one-more, length-append xs us, length-append xs vs);
       inside = omega (arith, w .inside, length-append xs us);
-      there = getD-append-add xs vs i blank ∙ w .there;
+      there = getD-append-add xs vs i noEntry ∙ w .there;
       before = rw (take-append-add xs vs i, take-append-add xs us i, w .before);
       later = later;
     } where
-      later : (m : ℕ) → length xs + i ≤ m → m < length (xs ++ us) → Later (getD (xs ++ us) m blank) (getD (xs ++ vs) (suc m) blank)
+      later : (m : ℕ) → length xs + i ≤ m → m < length (xs ++ us) → Later (getD (xs ++ us) m noEntry) (getD (xs ++ vs) (suc m) noEntry)
       later m low short =
           let n = m - length xs in
           let one : m ≡ length xs + n = omega arith in
           let two : suc m ≡ length xs + suc n = omega arith in
-          let a : getD (xs ++ us) m blank ≡ getD us n blank = ap (λ (k : ℕ). getD (xs ++ us) k blank) one ∙ getD-append-add xs us n blank in
-          let b : getD (xs ++ vs) (suc m) blank ≡ getD vs (suc n) blank = ap (λ (k : ℕ). getD (xs ++ vs) k blank) two ∙ getD-append-add xs vs (suc n) blank in
+          let a : getD (xs ++ us) m noEntry ≡ getD us n noEntry = ap (λ (k : ℕ). getD (xs ++ us) k noEntry) one ∙ getD-append-add xs us n noEntry in
+          let b : getD (xs ++ vs) (suc m) noEntry ≡ getD vs (suc n) noEntry = ap (λ (k : ℕ). getD (xs ++ vs) k noEntry) two ∙ getD-append-add xs vs (suc n) noEntry in
           rw (a, b) (w .later n (omega arith) (omega (arith, length-append xs us)))
 
 spot-inside : (c d e p : ℕ) (js : List Job) (s : ℕ) → Spot c d e p js s → p ≤ length js
@@ -89,18 +89,18 @@ spot-inside c d e (suc p) (j ∷ js) s h = omega (arith, spot-inside c d (ends j
 
 fixed-after : (t : ℕ) (xs us vs : List Entry) → Line t us → Fixed t (xs ++ us) (xs ++ vs)
 fixed-after t xs us vs g k h low = cases (ltb k (length xs)) refl where
-  cases : (b : Bool) → ltb k (length xs) ≡ b → getD (xs ++ vs) k blank ≡ getD (xs ++ us) k blank
+  cases : (b : Bool) → ltb k (length xs) ≡ b → getD (xs ++ vs) k noEntry ≡ getD (xs ++ us) k noEntry
   cases true e =
       let low-k : k < length xs = ltb-true k (length xs) e in
-      List·getD-append xs vs blank k low-k ∙ sym (List·getD-append xs us blank k low-k)
+      List·getD-append xs vs noEntry k low-k ∙ sym (List·getD-append xs us noEntry k low-k)
   cases false e =
       let out : length xs ≤ k = ltb-false k (length xs) e in
       let z : k ≡ length xs + (k - length xs) = omega arith in
       let m = k - length xs in
       let small : m < length us = omega (arith, length-append xs us) in
-      let is : getD (xs ++ us) k blank ≡ getD us m blank = ap (λ (n : ℕ). getD (xs ++ us) n blank) z ∙ getD-append-add xs us m blank in
-      let from : t ≤ getD us m blank .start = line-held t us m small g .low in
-      let eq : getD (xs ++ us) k blank .start ≡ getD us m blank .start = ap (λ (r : Entry). r .start) is in
+      let is : getD (xs ++ us) k noEntry ≡ getD us m noEntry = ap (λ (n : ℕ). getD (xs ++ us) n noEntry) z ∙ getD-append-add xs us m noEntry in
+      let from : t ≤ getD us m noEntry .start = line-held t us m small g .low in
+      let eq : getD (xs ++ us) k noEntry .start ≡ getD us m noEntry .start = ap (λ (r : Entry). r .start) is in
       absurd (omega arith)
 
 -- all that is said of one request
@@ -163,11 +163,11 @@ module _ (h : Story) (q : Asked) where
       rw (← ei, ← es) w
 
   by-time : (n : Story) (a : Answer) → Step h q n a → Fixed (q .time) (ever h) (ever n)
-  by-time n a (refused m p late w) = λ k g low. ap (λ (l : List Entry). getD l k blank) w
+  by-time n a (refused m p late w) = λ k g low. ap (λ (l : List Entry). getD l k noEntry) w
   by-time n a (joined m i s late z w f) = f
 
   by-clock : (n : Story) (a : Answer) → Step h q n a → (h .desk .clock ≤ n .desk .clock) × Fixed (h .desk .clock) (ever h) (ever n)
-  by-clock n a (refused m p late w) = (late, λ k g low. ap (λ (l : List Entry). getD l k blank) w)
+  by-clock n a (refused m p late w) = (late, λ k g low. ap (λ (l : List Entry). getD l k noEntry) w)
   by-clock n a (joined m i s late z w f) = (omega arith, λ k g low. f k g (omega arith))
 
   by-count : (n : Story) (a : Answer) (m : ℕ) → Step h q n a → length (ever n) + m ≡ length (ever h) + countTaken a m
@@ -199,16 +199,16 @@ pub all-since-opening : (clock n : ℕ) (l : List Job) → tableOk n l ≡ true 
 all-since-opening clock n l h qs =
     let k = kept-begin clock n l h in
     let count : openOf clock n l .count ≡ n = ap (λ (o : Outcome). o .count) (open-is clock n l h) in
-    omega (arith, all-there qs (begin clock n l) k, length-entries (lent (take n l)) (table (begin clock n l)) (k .follow), kept-good (begin clock n l) k .count)
+    omega (arith, all-there qs (begin clock n l) k, length-entries (atOpening (take n l)) (table (begin clock n l)) (k .follow), kept-good (begin clock n l) k .count)
 
 -- nor is a job moved by any later request, once the clock has passed its start
 pub still-ever : (qs : List Asked) (h : Story) → Kept h → Fixed (h .desk .clock) (ever h) (ever (many qs h))
 still-ever [] h k i g low = refl
 still-ever (q ∷ qs) h k i g low =
     let one = by-clock h q (next h q) (next h q .desk .answer) (step h q k) in
-    let here : getD (ever (next h q)) i blank ≡ getD (ever h) i blank = one .1 i g low in
+    let here : getD (ever (next h q)) i noEntry ≡ getD (ever h) i noEntry = one .1 i g low in
     let long = by-count h q (next h q) (next h q .desk .answer) 0 (step h q k) in
     let more : i < length (ever (next h q)) = omega arith in
-    let eq : getD (ever (next h q)) i blank .start ≡ getD (ever h) i blank .start = ap (λ (r : Entry). r .start) here in
-    let low2 : getD (ever (next h q)) i blank .start < next h q .desk .clock = omega (arith, one .0) in
+    let eq : getD (ever (next h q)) i noEntry .start ≡ getD (ever h) i noEntry .start = ap (λ (r : Entry). r .start) here in
+    let low2 : getD (ever (next h q)) i noEntry .start < next h q .desk .clock = omega (arith, one .0) in
     still-ever qs (next h q) (kept-next h q k) i more low2 ∙ here

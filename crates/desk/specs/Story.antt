@@ -22,8 +22,8 @@ pub record Entry : Type 0 where
 abbrev pub entry : ℕ → ℕ → ℕ → ℕ → Entry
 entry b c d s = record { since = b; budget = c; deadline = d; start = s }
 
-abbrev pub blank : Entry
-blank = entry 0 0 0 0
+abbrev pub noEntry : Entry
+noEntry = entry 0 0 0 0
 
 abbrev pub finish : Entry → ℕ
 finish r = r .start + r .budget
@@ -38,9 +38,9 @@ unended t [] = []
 unended t (r ∷ rs) = pick (leb (finish r) t) (unended t rs) (r ∷ unended t rs)
 
 -- the jobs at opening
-abbrev pub lent : List Job → List Entry
-lent [] = []
-lent (j ∷ js) = entry (start j) (budget j) (deadline j) (start j) ∷ lent js
+abbrev pub atOpening : List Job → List Entry
+atOpening [] = []
+atOpening (j ∷ js) = entry (start j) (budget j) (deadline j) (start j) ∷ atOpening js
 
 -- the same jobs, in the table's order, at the starts that the table has
 abbrev pub entries : List Entry → List Job → List Entry
@@ -63,7 +63,7 @@ ever h = h .gone ++ live h
 
 -- the story at opening
 abbrev pub begin : ℕ → ℕ → List Job → Story
-begin clock n l = record { desk = openOf clock n l; gone = []; listed = lent (take n l) }
+begin clock n l = record { desk = openOf clock n l; gone = []; listed = atOpening (take n l) }
 
 -- a job taken in is listed at its place
 abbrev pub withNew : Asked → Answer → List Entry → List Entry
@@ -87,9 +87,9 @@ many (q ∷ qs) h = many qs (next h q)
 -- "no job starts before its opening start (a job taken in later: before its request time), no two overlap, each ends by its deadline":
 -- of any two the later in the list starts when the earlier has ended
 pub record Promise (rs : List Entry) : Type 0 where
-  pub not-before : (k : ℕ) → k < length rs → getD rs k blank .since ≤ getD rs k blank .start
-  pub in-time : (k : ℕ) → k < length rs → finish (getD rs k blank) ≤ getD rs k blank .deadline
-  pub apart : (i k : ℕ) → i < k → k < length rs → finish (getD rs i blank) ≤ getD rs k blank .start
+  pub not-before : (k : ℕ) → k < length rs → getD rs k noEntry .since ≤ getD rs k noEntry .start
+  pub in-time : (k : ℕ) → k < length rs → finish (getD rs k noEntry) ≤ getD rs k noEntry .deadline
+  pub apart : (i k : ℕ) → i < k → k < length rs → finish (getD rs i noEntry) ≤ getD rs k noEntry .start
 
 -- the same job, not earlier
 abbrev pub Later : Entry → Entry → Type 0
@@ -99,13 +99,13 @@ Later r u = (r .since ≡ u .since) × (r .budget ≡ u .budget) × (r .deadline
 pub record Joined (rs us : List Entry) (k : ℕ) (new : Entry) : Type 0 where
   pub one-more : length us ≡ suc (length rs)
   pub inside : k ≤ length rs
-  pub there : getD us k blank ≡ new
+  pub there : getD us k noEntry ≡ new
   pub before : take k us ≡ take k rs
-  pub later : (m : ℕ) → k ≤ m → m < length rs → Later (getD rs m blank) (getD us (suc m) blank)
+  pub later : (m : ℕ) → k ≤ m → m < length rs → Later (getD rs m noEntry) (getD us (suc m) noEntry)
 
 -- the entries that start before t are in us as they were
 abbrev pub Fixed : ℕ → List Entry → List Entry → Type 0
-Fixed t rs us = (k : ℕ) → k < length rs → getD rs k blank .start < t → getD us k blank ≡ getD rs k blank
+Fixed t rs us = (k : ℕ) → k < length rs → getD rs k noEntry .start < t → getD us k noEntry ≡ getD rs k noEntry
 
 -- how many of the requests are taken
 abbrev pub countTaken : Answer → ℕ → ℕ

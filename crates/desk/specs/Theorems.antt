@@ -14,7 +14,7 @@ use Rattle.desk.specs.declared.Answer.the-variants.{Opened, Taken, Refus
 use Rattle.desk.specs.Table.{start, budget, deadline, none, Outcome, outcome, flexes, deskOk, openOf}
 use Rattle.desk.specs.Request.{kept, drops, dropping, requestOf}
 use Rattle.desk.specs.Call.{said}
-use Rattle.desk.specs.Story.{entry, blank, lent, Story, live, ever, begin, next, many, Promise, Joined, Fixed, takens}
+use Rattle.desk.specs.Story.{entry, noEntry, atOpening, Story, live, ever, begin, next, many, Promise, Joined, Fixed, takens}
 
 -- "The team shows that any two outcomes it permits are equal"
 abbrev pub OpenOne : Type 0
@@ -87,21 +87,21 @@ NeverTooFar = (clock n : ℕ) (l : List Job) (t c d : ℕ) → Refuses (requestO
 abbrev pub OpenTells : Type 0
 OpenTells =
     (clock n : ℕ) (l : List Job) → openOf clock n l .answer ≡ Opened
-    → ever (begin clock n l) ≡ lent (take n l)
+    → ever (begin clock n l) ≡ atOpening (take n l)
 
 -- "Over any requests after one opening, the caller changing nothing lent between them"
 abbrev pub InEveryStory : (Story → Type 0) → Type 0
 InEveryStory P = (clock n : ℕ) (l : List Job) → openOf clock n l .answer ≡ Opened → (qs : List Asked) → P (many qs (begin clock n l))
 
 -- its live entries are the listed jobs, one for one
-pub record Tells (h : Story) : Type 0 where
+pub record Matches (h : Story) : Type 0 where
   pub all : length (live h) ≡ h .desk .count
-  pub start : (k : ℕ) → k < h .desk .count → getD (live h) k blank .start ≡ start (getD (h .desk .jobs) k none)
-  pub budget : (k : ℕ) → k < h .desk .count → getD (live h) k blank .budget ≡ budget (getD (h .desk .jobs) k none)
-  pub deadline : (k : ℕ) → k < h .desk .count → getD (live h) k blank .deadline ≡ deadline (getD (h .desk .jobs) k none)
+  pub start : (k : ℕ) → k < h .desk .count → getD (live h) k noEntry .start ≡ start (getD (h .desk .jobs) k none)
+  pub budget : (k : ℕ) → k < h .desk .count → getD (live h) k noEntry .budget ≡ budget (getD (h .desk .jobs) k none)
+  pub deadline : (k : ℕ) → k < h .desk .count → getD (live h) k noEntry .deadline ≡ deadline (getD (h .desk .jobs) k none)
 
 abbrev pub StoryTells : Type 0
-StoryTells = InEveryStory (λ h. Tells h)
+StoryTells = InEveryStory (λ h. Matches h)
 
 -- "no job starts before its opening start (a job taken in later: before its request time), no two overlap, each ends by its deadline"
 abbrev pub KeepsPromise : Type 0

@@ -1,11 +1,12 @@
 -- The drop pass against the desk's `kept`. Assumes nothing.
-use Prim.Native.Nat.{ℕ, zero, suc, _-_, _<_, _≤_}
+use Prim.Native.Nat.{ℕ, suc, _-_, _<_, _≤_}
 use mathlib.Core.Path.{_≡_, refl, sym, ap, _∙_}
 use mathlib.Core.Bool.{Bool, true, false}
 use mathlib.Core.List.{List, [], _∷_, _++_, append-assoc}
 use native.Mathlib.Omega.{arith}
 use lib.Dec.{leb}
 use lib.ListN.{length, drop}
+use lib.Seq.{drop-append-le}
 use borrow.Author.Tests.{lt-leb, leb-false}
 use Rattle.rules.specs.Walk.{pick}
 use Rattle.desk.specs.declared.Job.{Job}
@@ -36,11 +37,6 @@ kept-drop t e (j ∷ js) o = by-end (leb (ends j) t) refl (kept-drop t (ends j) 
       let two = gone-none t (ends j) js (leb-false _ _ e) (o .2) in
       rw (two .0, two .1)
 
-drop-front : (g : ℕ) (js z : List Job) → g ≤ length js → drop g (js ++ z) ≡ drop g js ++ z
-drop-front zero js z h = refl
-drop-front (suc g) [] z h = absurd (omega arith)
-drop-front (suc g) (j ∷ js) z h = drop-front g js z (omega arith)
-
 pub gone-few : (t : ℕ) (js : List Job) → goneBy t js ≤ length js
 gone-few t [] = omega arith
 gone-few t (j ∷ js) = by-end (leb (ends j) t) (gone-few t js) where
@@ -53,6 +49,6 @@ pub drop-law : (t e : ℕ) (js z : List Job) → Chain e js
     → movedUp (goneBy t js) (js ++ z) ≡ kept t js ++ (z ++ drop (length (js ++ z) - goneBy t js) (js ++ z))
 unfolding movedUp
 drop-law t e js z o =
-    ap (λ (r : List Job). r ++ drop (length (js ++ z) - goneBy t js) (js ++ z)) (drop-front (goneBy t js) js z (gone-few t js))
+    ap (λ (r : List Job). r ++ drop (length (js ++ z) - goneBy t js) (js ++ z)) (drop-append-le (goneBy t js) js z (gone-few t js))
     ∙ append-assoc (drop (goneBy t js) js) z (drop (length (js ++ z) - goneBy t js) (js ++ z))
     ∙ ap (λ (r : List Job). r ++ (z ++ drop (length (js ++ z) - goneBy t js) (js ++ z))) (sym (kept-drop t e js o))

@@ -1,12 +1,13 @@
 -- The shift pass against the desk's `shift`. Assumes nothing.
 use Prim.Native.Nat.{ℕ, suc, _+_, _-_, _≤_, max}
 use mathlib.Core.Path.{_≡_, refl, ap, _∙_}
-use mathlib.Core.Bool.{Bool, true, false, true≢false, _||_}
+use mathlib.Core.Bool.{Bool, true, false}
 use mathlib.Core.List.{List, [], _∷_, _++_}
 use native.Mathlib.Omega.{arith}
 use lib.Dec.{ltb}
 use lib.ListN.{length, replicate}
 use borrow.Author.Tests.{ltb-false}
+use Rattle.rules.proofs.Tests.{or-neither}
 use Rattle.desk.specs.declared.Job.{Job}
 use Rattle.desk.specs.Table.{none, ends}
 use Rattle.desk.specs.Request.{moved, shift, tooFar}
@@ -101,13 +102,9 @@ abbrev pub Lows : List Job → Type 0
 Lows [] = Unit {0}
 Lows (j ∷ js) = Low j × Lows js
 
-either-no : (a b : Bool) → (a || b) ≡ false → (a ≡ false) × (b ≡ false)
-either-no false b e = (refl, e)
-either-no true b e = absurd (true≢false e)
-
 pub near-within : (e : ℕ) (js : List Job) → Lows js → tooFar e js ≡ false → Within e js
 near-within e [] l n = tt
 near-within e (j ∷ js) l n =
-    let two = either-no (ltb (j .flex) (max e (j .start) - j .start)) (tooFar (max e (j .start) + j .budget) js) n in
+    let two = or-neither (ltb (j .flex) (max e (j .start) - j .start)) (tooFar (max e (j .start) + j .budget) js) n in
     let near : max e (j .start) - j .start ≤ j .flex = ltb-false _ _ (two .0) in
     (omega (arith, near, l .0 .last), near-within (max e (j .start) + j .budget) js (l .1) (two .1))

@@ -5,7 +5,7 @@ use mathlib.Core.Bool.{true, false}
 use mathlib.Core.List.{List, [], _∷_, _++_, append-assoc, append-nil}
 use native.Mathlib.Omega.{arith}
 use lib.ListN.{length, take, drop, replicate, length-append, length-take, length-drop, length-replicate, take-append-drop}
-use lib.Seq.{length-take-le}
+use lib.Seq.{drop-length, length-take-le}
 use Rattle.rules.specs.Limits.{places}
 use Rattle.desk.specs.declared.Job.{Job}
 use Rattle.desk.specs.Table.{none, filled, flexes, tableOk, ends}
@@ -20,14 +20,10 @@ use Rattle.desk_engine.proofs.Fitted.{fit-law, fit-still}
 use Rattle.desk_engine.proofs.Shifted.{shift-law, clear-law, shift-still, Within}
 use Rattle.desk_engine.proofs.Dropped.{goneBy, drop-law, gone-few}
 
-drop-all : (l : List Job) → drop (length l) l ≡ []
-drop-all [] = refl
-drop-all (j ∷ l) = drop-all l
-
 -- nothing changes
 moved-none : (l : List Job) → movedUp 0 l ≡ l
 unfolding movedUp
-moved-none l = let e : length l - 0 ≡ length l = omega arith in ap (λ (m : ℕ). l ++ drop m l) e ∙ ap (λ (r : List Job). l ++ r) (drop-all l) ∙ append-nil l
+moved-none l = let e : length l - 0 ≡ length l = omega arith in ap (λ (m : ℕ). l ++ drop m l) e ∙ ap (λ (r : List Job). l ++ r) (drop-length l) ∙ append-nil l
 
 pub still-table : (l : List Job) → fittedAll stillFit (shifted stillShift (movedUp 0 l)) ≡ l
 still-table l = fit-still (shifted stillShift (movedUp 0 l)) ∙ shift-still (movedUp 0 l) ∙ moved-none l

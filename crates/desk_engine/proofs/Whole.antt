@@ -15,7 +15,8 @@ use Rattle.desk.specs.declared.Job.{Job}
 use Rattle.desk.specs.declared.Answer.the-variants.{Opened, Taken, Refused}
 use Rattle.desk.specs.Table.{job, xOf, filled, flexes, outcome, rightX, tableOk, deskOk, openOf, ends, Outcome}
 use Rattle.desk.specs.Request.{kept, busy, early, room, find, findFrom, taking, insertAt, tooFar, numbersOk, requestOf, Place, At, Nowhere, dropping}
-use Rattle.desk.proofs.Check.{xOf-le, both-left, both-right, numbers-small, listed-of, desk-table, desk-right}
+use Rattle.rules.proofs.Tests.{and-parts}
+use Rattle.desk.proofs.Check.{xOf-le, numbers-small, listed-of, desk-table, desk-right}
 use Rattle.desk.proofs.Chain.{Chain, chain-of, chain-kept, right-kept}
 use Rattle.desk.proofs.Rules.{room-never-far}
 use Rattle.desk_steps.specs.Folds.{fold}
@@ -64,8 +65,8 @@ ends-of t c d e (j ∷ js) g = (omega (arith, g .1 .in-time, g .1 .low), ends-of
 lows-of : (e : ℕ) (js : List Job) → Chain e js → rightX js ≡ true → Lows js
 lows-of e [] g r = tt
 lows-of e (j ∷ js) g r =
-    let x : j .flex ≡ xOf j js = eqb-true _ _ (both-left _ (rightX js) r) in
-    (record { last = omega (arith, x, xOf-le j js, g .1 .in-time, g .1 .low) }, lows-of (ends j) js (g .2) (both-right (eqb (j .flex) (xOf j js)) _ r))
+    let x : j .flex ≡ xOf j js = eqb-true _ _ (and-parts _ (rightX js) r .0) in
+    (record { last = omega (arith, x, xOf-le j js, g .1 .in-time, g .1 .low) }, lows-of (ends j) js (g .2) (and-parts (eqb (j .flex) (xOf j js)) _ r .1))
 
 lows-drop : (i : ℕ) (js : List Job) → Lows js → Lows (drop i js)
 lows-drop zero js h = h

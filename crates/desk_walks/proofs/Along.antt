@@ -5,18 +5,10 @@ use mathlib.Core.List.{List, [], _∷_, _++_, append-assoc, append-nil}
 use native.Mathlib.Omega.{arith}
 use native.Mathlib.Numerals.{add-one}
 use lib.ListN.{length, take, drop, getD, set, length-append, length-take, length-drop}
-use lib.Seq.{take-suc, drop-cons, set-at, getD-at, length-take-le, getD-append-add, getD-drop}
+use lib.Seq.{take-length, drop-length, take-suc, drop-cons, set-at, getD-at, length-take-le, getD-append-add, getD-drop}
 use Rattle.desk.specs.declared.Job.{Job}
 use Rattle.desk.specs.Table.{none}
 use Rattle.desk_steps.specs.Folds.{fold, forth, foldBack, back, movedUp}
-
-pub take-all : (l : List Job) → take (length l) l ≡ l
-take-all [] = refl
-take-all (j ∷ l) = ap (λ (m : List Job). j ∷ m) (take-all l)
-
-pub drop-all : (l : List Job) → drop (length l) l ≡ []
-drop-all [] = refl
-drop-all (j ∷ l) = drop-all l
 
 pub take-none : (l : List Job) → take 0 l ≡ []
 take-none [] = refl
@@ -33,14 +25,14 @@ module _ {S : Type 0} (step : S → Job → S) where
   fold-zero s l = ap (fold step s) (take-none l)
 
   pub fold-end : (s : S) (l : List Job) → fold step s (take (length l) l) ≡ fold step s l
-  fold-end s l = ap (fold step s) (take-all l)
+  fold-end s l = ap (fold step s) (take-length l)
 
   pub fold-more : (s : S) (l : List Job) (i : ℕ) → i < length l → step (fold step s (take i l)) (getD l i none) ≡ fold step s (take (i + 1) l)
   fold-more s l i h = sym (fold-snoc s (take i l) (getD l i none)) ∙ ap (fold step s) (sym (take-suc l i none h)) ∙ ap (λ (m : ℕ). fold step s (take m l)) (sym (add-one i))
 
   pub foldBack-start : (s : S) (l : List Job) → foldBack step s (drop (length l) l) ≡ s
   unfolding foldBack
-  foldBack-start s l = ap (foldBack step s) (drop-all l)
+  foldBack-start s l = ap (foldBack step s) (drop-length l)
 
   pub foldBack-more : (s : S) (l : List Job) (i : ℕ) → i < length l → step (foldBack step s (drop (i + 1) l)) (getD l i none) ≡ foldBack step s (drop i l)
   unfolding foldBack
@@ -67,7 +59,7 @@ module _ {S : Type 0} (step : S → Job → S) where
 
     pub forthAt-end : (s : S) (l : List Job) → forthAt s l (length l) ≡ forth step out s l
     unfolding forthAt
-    forthAt-end s l = rw (take-all l, drop-all l) (append-nil _)
+    forthAt-end s l = rw (take-length l, drop-length l) (append-nil _)
 
     pub forthAt-length : (s : S) (l : List Job) (i : ℕ) → i ≤ length l → length (forthAt s l i) ≡ length l
     unfolding forthAt
@@ -96,7 +88,7 @@ module _ {S : Type 0} (step : S → Job → S) where
 
     pub backAt-start : (s : S) (l : List Job) → backAt s l (length l) ≡ l
     unfolding backAt back
-    backAt-start s l = rw (take-all l, drop-all l) (append-nil _)
+    backAt-start s l = rw (take-length l, drop-length l) (append-nil _)
 
     pub backAt-end : (s : S) (l : List Job) → backAt s l 0 ≡ back step out s l
     unfolding backAt
@@ -163,4 +155,4 @@ unfolding moveAt movedUp
 moveAt-end k l i h g =
     let e : i ≡ length l - k = omega (arith, h, g) in
     let f : i ≡ length (drop k l) = omega (arith, h, g, length-drop k l) in
-    ap (λ (m : ℕ). take i (drop k l) ++ drop m l) e ∙ ap (λ (m : ℕ). take m (drop k l) ++ drop (length l - k) l) f ∙ ap (λ (m : List Job). m ++ drop (length l - k) l) (take-all (drop k l))
+    ap (λ (m : ℕ). take i (drop k l) ++ drop m l) e ∙ ap (λ (m : ℕ). take m (drop k l) ++ drop (length l - k) l) f ∙ ap (λ (m : List Job). m ++ drop (length l - k) l) (take-length (drop k l))

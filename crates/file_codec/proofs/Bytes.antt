@@ -10,11 +10,11 @@ use lib.Seq.{take-suc, drop-cons, set-at, length-take-le, take-all, take-at, dro
 use Rattle.file_codec.specs.Bytes.{numsOf, bytesOf, Bytes}
 use Rattle.file_codec.specs.Contracts.{over}
 
-double : (k : ℕ) → 2 * suc k ≡ suc (suc (2 * k))
+pub double : (k : ℕ) → 2 * suc k ≡ suc (suc (2 * k))
 double k = omega arith
 
-double-one : (k : ℕ) → 2 * suc k + 1 ≡ suc (suc (2 * k + 1))
-double-one k = omega arith
+pub double-more : (k f : ℕ) → 2 * suc k + f ≡ suc (suc (2 * k + f))
+double-more k f = omega arith
 
 pub numsOf-length : (b : List ℕ) → length (numsOf b) ≡ length b / 2
 unfolding numsOf
@@ -27,7 +27,7 @@ unfolding numsOf
 numsOf-at [] k h = absurd (omega arith)
 numsOf-at (x ∷ []) k h = absurd (omega arith)
 numsOf-at (x ∷ y ∷ bs) zero h = refl
-numsOf-at (x ∷ y ∷ bs) (suc k) h = rw (double-one, double) (numsOf-at bs k (omega arith))
+numsOf-at (x ∷ y ∷ bs) (suc k) h = rw (double-more k 1, double k) (numsOf-at bs k (omega arith))
 
 pub bytesOf-length : (ns : List ℕ) → length (bytesOf ns) ≡ 2 * length ns
 unfolding bytesOf
@@ -44,7 +44,7 @@ pub bytesOf-low : (ns : List ℕ) (k : ℕ) → k < length ns → getD (bytesOf 
 unfolding bytesOf
 bytesOf-low [] k h = absurd (not-suc-le-zero h)
 bytesOf-low (n ∷ ns) zero h = refl
-bytesOf-low (n ∷ ns) (suc k) h = rw double-one (bytesOf-low ns k (le-of-suc-le-suc h))
+bytesOf-low (n ∷ ns) (suc k) h = rw (double-more k 1) (bytesOf-low ns k (le-of-suc-le-suc h))
 
 pub bytesOf-append : (ms ns : List ℕ) → bytesOf (ms ++ ns) ≡ bytesOf ms ++ bytesOf ns
 unfolding bytesOf

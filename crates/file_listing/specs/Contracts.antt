@@ -9,12 +9,12 @@ use Rattle.plan_check.specs.Check.{scanOf, checkOf}
 use Rattle.file_runs.specs.Ticks.{ticksOf}
 
 -- few enough records for a page
-abbrev pub Short : List ℕ → List ℕ → Type 0
-Short ps ts = (partitions ps ≤ mostPartitions) × (tasks ts ≤ mostTasks)
+abbrev pub FewRecords : List ℕ → List ℕ → Type 0
+FewRecords ps ts = (partitions ps ≤ mostPartitions) × (tasks ts ≤ mostTasks)
 
 -- the tables of a file that was read: of its plan only 9 is still to be judged
 pub record Listable (frame : ℕ) (ps ts rs : List ℕ) : Type 0 where
-  pub short : Short ps ts
+  pub short : FewRecords ps ts
   pub few : length rs ≤ runWidth * longest
   pub in-frame : frame ≤ longest
   pub ticks : length (ticksOf rs) ≡ frame

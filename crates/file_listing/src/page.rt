@@ -6,7 +6,7 @@ ghost use Rattle.rules.specs.Walk.{gathered};
 ghost use Rattle.rules.specs.Table.{partitions, tasks};
 ghost use Rattle.output.specs.Put.{Put};
 ghost use Rattle.file_listing.specs.Listing.{partLine, taskLine, pageOf};
-ghost use Rattle.file_listing.specs.Contracts.{Short};
+ghost use Rattle.file_listing.specs.Contracts.{FewRecords};
 use file_lines::put_fail;
 use file_lines::put_frame;
 use file_lines::put_partition;
@@ -72,7 +72,7 @@ fn put_tasks(plan: &[u16], table: &[u16], out: &mut [u8], start: usize) -> usize
 
 // The listing of a plan that serves: at most 1 + 16 + 128 lines.
 pub fn put_page(frame: usize, plan: &[u16], parts: &[u16], table: &[u16], out: &mut [u8]) -> usize
-    requires { ⌜ Short (now parts) (now table) ⌝ }
+    requires { ⌜ FewRecords (now parts) (now table) ⌝ }
     ensures { λ r. ⌜ Put (now (out .entry)) 0
         (pageOf frame (now (plan .entry)) (now (parts .entry)) (now (table .entry))) r (now (out .exit))
         × (r ≤ longestListing) ⌝ }

@@ -7,7 +7,7 @@ use native.Mathlib.Omega.{arith}
 use lib.ListN.{length, getD, take, replicate, length-append, length-replicate}
 use lib.Dec.{leb, ltb, eqb}
 use borrow.Author.Tests.{le-leb, leb-true, eq-eqb, eqb-false, ne-eqb, lt-ltb, le-ltb, ltb-false, not-true}
-use Rattle.rules.specs.Limits.{longest, runWidth}
+use Rattle.rules.specs.Limits.{longest}
 use Rattle.rules.specs.Walk.{pick, sum, Every}
 use Rattle.rules.specs.Table.{goodTick}
 use Rattle.rules.specs.Tables.{countedIn}
@@ -15,6 +15,7 @@ use Rattle.rules.proofs.Tests.{and-parts}
 use Rattle.rules.proofs.Sum.{sum-mono}
 use Rattle.file_codec.specs.Runs.{runOwner, runLength, runs, repeats, reached, goodRun}
 use Rattle.file_codec.specs.Contracts.{runsCounted}
+use Rattle.file_codec.proofs.Bytes.{double-more}
 use Rattle.file_runs.specs.Ticks.{ticksOf, joined, runsOf}
 use Rattle.file_runs.proofs.Ticks.{ticks-more, ticks-all, begins, runs-ended, runs-last, ticks-back}
 
@@ -68,9 +69,6 @@ ticks-length rs = ap length (sym (ticks-all rs (runs rs) refl)) ∙ ticks-sum rs
 
 -- ---- runs that are not refused
 
-shift : (i f : ℕ) → 2 * suc i + f ≡ suc (suc (2 * i + f))
-shift i f = omega arith
-
 chain-from : (np : ℕ) (rs : List ℕ) (n : ℕ) → length rs ≡ 2 * n → ((i : ℕ) → i < n → getD rs (2 * i + 0) 0 ≤ np) → ((i : ℕ) → i < n → 1 ≤ getD rs (2 * i + 1) 0)
     → ((i : ℕ) → suc i < n → getD rs (2 * suc i + 0) 0 ≡ getD rs (2 * i + 0) 0 → ⊥) → Chain np rs
 unfolding Chain
@@ -81,8 +79,8 @@ chain-from np (o ∷ l ∷ rs) (suc n) e ho hl hd = (
   ho 0 (omega arith),
   hl 0 (omega arith),
   other rs n (omega arith) (hd 0),
-  chain-from np rs n (omega arith) (λ i h. rw (shift i 0) at (ho (suc i) (omega arith))) (λ i h. rw (shift i 1) at (hl (suc i) (omega arith)))
-      (λ i h q. hd (suc i) (omega arith) (rw (shift (suc i) 0, shift i 0) (rw (shift i 0) at q))),
+  chain-from np rs n (omega arith) (λ i h. rw (double-more i 0) at (ho (suc i) (omega arith))) (λ i h. rw (double-more i 1) at (hl (suc i) (omega arith)))
+      (λ i h q. hd (suc i) (omega arith) (rw (double-more (suc i) 0, double-more i 0) (rw (double-more i 0) at q))),
 )
   where
     other : (rs : List ℕ) (n : ℕ) → length rs ≡ 2 * n → (1 < suc n → getD rs 0 0 ≡ o → ⊥) → Other o rs
@@ -174,7 +172,7 @@ unfolding Chain
 chain-at np [] g i l = absurd (omega arith)
 chain-at np (o ∷ []) g i l = absurd g
 chain-at np (o ∷ m ∷ rs) g zero l = (g .0, g .1)
-chain-at np (o ∷ m ∷ rs) g (suc i) l = rw (shift i 0, shift i 1) (chain-at np rs (g .3) i (omega arith))
+chain-at np (o ∷ m ∷ rs) g (suc i) l = rw (double-more i 0, double-more i 1) (chain-at np rs (g .3) i (omega arith))
 
 chain-other : (np : ℕ) (rs : List ℕ) → Chain np rs → (i : ℕ) → suc i < length rs / 2 → getD rs (2 * suc i + 0) 0 ≡ getD rs (2 * i + 0) 0 → ⊥
 unfolding Chain
@@ -182,7 +180,7 @@ chain-other np [] g i l e = absurd (omega arith)
 chain-other np (o ∷ []) g i l e = absurd g
 chain-other np (o ∷ m ∷ []) g i l e = absurd (omega arith)
 chain-other np (o ∷ m ∷ p ∷ rs) g zero l e = g .2 e
-chain-other np (o ∷ m ∷ p ∷ rs) g (suc i) l e = chain-other np (p ∷ rs) (g .3) i (omega arith) (rw (shift i 0) (rw (shift (suc i) 0, shift i 0) at e))
+chain-other np (o ∷ m ∷ p ∷ rs) g (suc i) l e = chain-other np (p ∷ rs) (g .3) i (omega arith) (rw (double-more i 0) (rw (double-more (suc i) 0, double-more i 0) at e))
 
 repeats-not : (np : ℕ) (rs : List ℕ) → Chain np rs → (k : ℕ) → k < length rs / 2 → repeats rs k ≡ false
 unfolding repeats runOwner

@@ -11,6 +11,7 @@ use lib.Dec.{eqb}
 use borrow.Author.Tests.{le-leb, lt-leb, eqb-true, eqb-false, eq-eqb, ne-eqb}
 use Rattle.rules.specs.Walk.{pick}
 use Rattle.output.specs.Put.{Put}
+use Rattle.file_codec.proofs.Bytes.{double, double-more}
 use Rattle.file_runs.specs.Ticks.{ticksOf, joined, runsOf, ticksPut, runsPut}
 use Rattle.output.proofs.Put.{Rest, rest-more, rest-none}
 
@@ -19,14 +20,8 @@ use Rattle.output.proofs.Put.{Rest, rest-more, rest-none}
 pub rep-more : (k x : ℕ) → replicate k x ++ (x ∷ []) ≡ replicate (k + 1) x
 rep-more k x = replicate-append-replicate k 1 x
 
-d0 : (i : ℕ) → 2 * suc i ≡ suc (suc (2 * i))
-d0 i = omega arith
-
-d1 : (i : ℕ) → 2 * suc i + 1 ≡ suc (suc (2 * i + 1))
-d1 i = omega arith
-
-d2 : (i : ℕ) → 2 * (suc i + 1) ≡ suc (suc (2 * (i + 1)))
-d2 i = omega arith
+double-next : (i : ℕ) → 2 * (suc i + 1) ≡ suc (suc (2 * (i + 1)))
+double-next i = omega arith
 
 -- a turn at run i
 pub ticks-more : (rs : List ℕ) (i : ℕ) → 2 * i + 1 < length rs
@@ -35,7 +30,7 @@ unfolding ticksOf
 ticks-more [] i h = absurd (omega arith)
 ticks-more (o ∷ []) i h = absurd (omega arith)
 ticks-more (o ∷ l ∷ rs) zero h = sym (append-nil (replicate l o))
-ticks-more (o ∷ l ∷ rs) (suc i) h = rw (d1 i, d0 i, d2 i, ← ticks-more rs i (omega arith)) (append-assoc (replicate l o) (ticksOf (take (2 * i) rs)) (replicate (getD rs (2 * i + 1) 0) (getD rs (2 * i) 0)))
+ticks-more (o ∷ l ∷ rs) (suc i) h = rw (double-more i 1, double i, double-next i, ← ticks-more rs i (omega arith)) (append-assoc (replicate l o) (ticksOf (take (2 * i) rs)) (replicate (getD rs (2 * i + 1) 0) (getD rs (2 * i) 0)))
 
 -- all the runs, an odd number at the end left out
 pub ticks-all : (rs : List ℕ) (i : ℕ) → i ≡ length rs / 2 → ticksOf (take (2 * i) rs) ≡ ticksOf rs
@@ -43,7 +38,7 @@ unfolding ticksOf
 ticks-all [] i e = let z : i ≡ 0 = omega arith in rw z
 ticks-all (o ∷ []) i e = let z : i ≡ 0 = omega arith in rw z
 ticks-all (o ∷ l ∷ rs) zero e = absurd (omega arith)
-ticks-all (o ∷ l ∷ rs) (suc i) e = rw (d0 i, ticks-all rs i (omega arith))
+ticks-all (o ∷ l ∷ rs) (suc i) e = rw (double i, ticks-all rs i (omega arith))
 
 pub ticks-none : (rs : List ℕ) → 8192 < length rs → ticksPut rs ≡ []
 unfolding ticksPut

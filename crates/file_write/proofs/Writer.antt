@@ -12,6 +12,7 @@ use Rattle.rules.specs.declared.Refusal.{Refusal}
 use Rattle.rules.specs.declared.Refusal.the-variants.{Output}
 use Rattle.rules.specs.declared.Finding.the-variants as found
 use Rattle.rules.proofs.Tests.{pick-second}
+use Rattle.rules.proofs.Chain.{no-filling}
 use Rattle.file_codec.specs.Bytes.{bytesOf}
 use Rattle.file_codec.specs.Runs.{fileTablesOf}
 use Rattle.file_codec.specs.Contents.{tasksAt, runsAt, contents}
@@ -68,14 +69,11 @@ pub record Fit (frame : ℕ) (ps ts rs : List ℕ) (room n : ℕ) : Type 0 where
   pub room-left : sizeFor ps ts rs ≤ room
   pub is-size : n ≡ sizeFor ps ts rs
 
-none : (n : ℕ) (x : Refusal) → ¬ (Refused x ≡ Fills n)
-none n x e = let z : _≡_ {A = ℕ} 0 1 = cc in absurd (omega arith)
-
 pub fit : (n frame : ℕ) (ps ts rs : List ℕ) (room : ℕ) → writeOf frame ps ts rs room ≡ Fills n → Fit frame ps ts rs room n
 unfolding writeOf
 fit n frame ps ts rs room e =
-    let a = follows frame ps ts rs Refused (pick (ltb room (sizeFor ps ts rs)) (Refused Output) (Fills (sizeFor ps ts rs))) (Fills n) (none n) e in
-    let b = pick-second (ltb room (sizeFor ps ts rs)) (Refused Output) (Fills (sizeFor ps ts rs)) (Fills n) (none n Output) (a .1) in
+    let a = follows frame ps ts rs Refused (pick (ltb room (sizeFor ps ts rs)) (Refused Output) (Fills (sizeFor ps ts rs))) (Fills n) (no-filling n) e in
+    let b = pick-second (ltb room (sizeFor ps ts rs)) (Refused Output) (Fills (sizeFor ps ts rs)) (Fills n) (no-filling n Output) (a .1) in
     let q : Fills (sizeFor ps ts rs) ≡ Fills n = b .1 in
     record { good = a .0; room-left = ltb-false _ _ (b .0); is-size = cc }
 

@@ -20,7 +20,7 @@ use Rattle.theory.specs.Plan.{own, held, Serves}
 use Rattle.theory.proofs.Plan.{serves-in-frame}
 use Rattle.plan_check.specs.Check.{shortAt, scanOf, planCheckOf, checkOf}
 use Rattle.plan_check.proofs.Orders.{shortIn, shortStart, shortPart, shortfall}
-use Rattle.plan_check.specs.Theorems.{CheckServes, Short, CheckShort, CheckOne, Proved}
+use Rattle.plan_check.specs.Theorems.{CheckServes, FallsShort, CheckShort, CheckOne, Proved}
 
 -- a plan with good tables has ticks
 pub frame-some : {f : ℕ} (ps ts : List ℕ) → GoodTables f ps ts → 0 < f
@@ -86,7 +86,7 @@ module _ (plan ps : List ℕ) where
         let d = lowest-none Tick (goodTick (partitions ps) plan) (length plan) Refused (scanOf plan ps) nine (λ q. let z : _≡_ {A = ℕ} 0 1 = cc in absurd (omega arith)) (a .1) in
         (frame-some ps [] (a .0), d .1)
 
-    stopped : (k : ℕ) → k ≡ shortPart plan ps → 0 < length plan → k < partitions ps → Refused (shortfall plan ps k (shortStart plan ps k)) ≡ nine → Short plan ps p s h w
+    stopped : (k : ℕ) → k ≡ shortPart plan ps → 0 < length plan → k < partitions ps → Refused (shortfall plan ps k (shortStart plan ps k)) ≡ nine → FallsShort plan ps p s h w
     unfolding shortAt
     stopped k ek full inside e =
         let here : shortIn plan ps k ≡ true = rw ek (first-at (shortIn plan ps) (partitions ps) (rw (← ek) inside)) in
@@ -107,7 +107,7 @@ module _ (plan ps : List ℕ) where
           lowest-partition = λ j l. fed-all full j (first-before (shortIn plan ps) (partitions ps) j (rw (← ek) l));
         }
 
-    short : checkOf plan ps ≡ nine → Short plan ps p s h w
+    short : checkOf plan ps ≡ nine → FallsShort plan ps p s h w
     unfolding scanOf
     short e =
         let a = scanned e in

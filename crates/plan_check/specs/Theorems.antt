@@ -21,7 +21,7 @@ CheckServes =
     ↔ (GoodTables (length plan) ps [] × Every (goodTick (partitions ps) plan) (length plan) × Serves own plan ps)
 
 -- "partition, start, held, wanted": the stretch falls short, and is the lowest partition's lowest start that does
-pub record Short (plan ps : List ℕ) (p s h w : ℕ) : Type 0 where
+pub record FallsShort (plan ps : List ℕ) (p s h w : ℕ) : Type 0 where
   pub place : ℕ
   pub partition : p ≡ place + 1
   pub inside : place < partitions ps
@@ -34,7 +34,7 @@ pub record Short (plan ps : List ℕ) (p s h w : ℕ) : Type 0 where
 
 -- 9 says what stands in the plan
 abbrev pub CheckShort : Type 0
-CheckShort = (plan ps : List ℕ) (p s h w : ℕ) → checkOf plan ps ≡ Refused (Shortfall p s h w) → Short plan ps p s h w
+CheckShort = (plan ps : List ℕ) (p s h w : ℕ) → checkOf plan ps ≡ Refused (Shortfall p s h w) → FallsShort plan ps p s h w
 
 -- "any two outcomes it permits are equal"
 abbrev pub CheckOne : Type 0

@@ -18,6 +18,7 @@ use Rattle.rules.specs.declared.Refusal.{Refusal}
 use Rattle.rules.specs.declared.Refusal.the-variants.{Limits, Partition, Task}
 use Rattle.rules.specs.declared.Finding.{Finding}
 use Rattle.rules.specs.declared.Finding.the-variants.{Good, Refused}
+use Rattle.rules.specs.declared.Filling.the-variants as filling
 use Rattle.rules.proofs.First.{every-first, first-every}
 use Rattle.rules.proofs.Tests.{pick-first, pick-second, and-parts, good-share}
 
@@ -223,3 +224,9 @@ unless-parts-hold frame ps P refused next three six h = at (withinLimits frame (
     at false b = three
     at true true = six _
     at true false = h
+
+-- ---- fillings
+
+-- a refusal is none
+pub no-filling : (n : ℕ) (x : Refusal) → ¬ (filling.Refused x ≡ filling.Fills n)
+no-filling n x e = let z : _≡_ {A = ℕ} 0 1 = cc in absurd (omega arith)

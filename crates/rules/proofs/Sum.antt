@@ -74,9 +74,6 @@ only-ne x y z h = go (eqb x y) refl
     go true e = absurd (h (eqb→eq x y (subst T (sym e) tt)))
     go false e = refl
 
-pub eq→eqb : (x y : ℕ) → x ≡ y → T (eqb x y)
-eq→eqb x y e = subst (λ (k : ℕ). T (eqb x k)) e (eqb-refl x)
-
 -- ---- sums
 
 pub sum-zero : (f : ℕ → ℕ) → sum f 0 ≡ 0

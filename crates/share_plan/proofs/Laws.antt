@@ -12,7 +12,7 @@ use Rattle.rules.specs.Limits.{mostPartitions, mostTasks, longest, partWidth, t
 use Rattle.rules.specs.Tables.{GoodTables}
 use Rattle.rules.specs.declared.Refusal.{Refusal}
 use Rattle.rules.specs.declared.Refusal.the-variants.{Limits, Partition, Task}
-use Rattle.rules.proofs.Chain.{unless-given}
+use Rattle.rules.proofs.Chain.{unless-given, no-filling}
 use Rattle.theory.specs.Harmonic.{frame, harmonicPlan}
 use Rattle.theory.proofs.Harmonic.{ticks-length}
 use Rattle.rules.specs.declared.Filling.{Filling}
@@ -33,7 +33,7 @@ use Rattle.share_line.specs.declared.What.{What}
 use Rattle.share_text.specs.declared.Kind.the-variants.{Partitions, Tasks}
 use Rattle.share_text.specs.declared.TableReading.{TableReading}
 use Rattle.share_text.specs.declared.TableReading.the-variants as table
-use Rattle.share_text.specs.Table.{tableOf, readOf}
+use Rattle.share_text.specs.Table.{recordsOf, readTextOf}
 use Rattle.share_text.specs.Table as text
 use Rattle.share_text.proofs.Order.{fits}
 use Rattle.share_plan.specs.Answer.{planRuns, planFile, writtenBy, writeBuiltOf, writePlanOf, fileOrLine, expectedLine, answerOf}
@@ -111,18 +111,15 @@ pub record Planned (ps ts : List ℕ) (room n : ℕ) : Type 0 where
   pub built : buildOf ps longest ≡ filling.Fills (frame ps)
   pub written : writeOf (frame ps) ps ts (planRuns ps) room ≡ Fills n
 
-no-bytes : (n : ℕ) (x : Refusal) → ¬ (Refused x ≡ Fills n)
-no-bytes n x e = let z : _≡_ {A = ℕ} 0 1 = cc in absurd (omega arith)
-
 pub planned-so : (ps ts : List ℕ) (room n : ℕ) → writePlanOf ps ts room ≡ Fills n → Planned ps ts room n
 unfolding writePlanOf writeBuiltOf
 planned-so ps ts room n e =
-    let g = unless-given longest ps ts Refused (writtenBy (buildOf ps longest) ps ts room) (Fills n) (no-bytes n Limits) (λ k. no-bytes n (Partition k)) (λ j. no-bytes n (Task j)) e in
+    let g = unless-given longest ps ts Refused (writtenBy (buildOf ps longest) ps ts room) (Fills n) (no-filling n Limits) (λ k. no-filling n (Partition k)) (λ j. no-filling n (Task j)) e in
     building (g .0) (buildOf ps longest) refl (g .1)
   where
     building : GoodTables longest ps ts → (b : Filling) → buildOf ps longest ≡ b → writtenBy b ps ts room ≡ Fills n → Planned ps ts room n
     building g (filling.Fills h) f w = let a = laid ps longest h f in record { good = g; built = rw (a .is-frame) at f; written = rw (a .is-frame) at w }
-    building g (filling.Refused x) f w = absurd (no-bytes n x w)
+    building g (filling.Refused x) f w = absurd (no-filling n x w)
 
 -- how long the file is
 pub file-fits : (ps ts : List ℕ) (room n : ℕ) → writePlanOf ps ts room ≡ Fills n → (n ≡ length (planFile ps ts)) × (n ≤ room)
@@ -152,25 +149,25 @@ line-put ps ts out o w x ew eo e p =
 
 -- ---- a text's tables
 
-pub parts-front : (t l o : List ℕ) (r : TableReading) (a b p q : ℕ) → length l ≡ a → r ≡ readOf t a b → o ≡ text.leftBy r (tableOf Partitions t) l → r ≡ table.Numbers p q
-    → (p ≤ length o) × (take p o ≡ tableOf Partitions t)
-parts-front t l o r a b p q el er eo e = let f = fits t a b p q (sym er ∙ e) in front (tableOf Partitions t) l o p (f .parts-are) (rw el (f .parts-fit)) (rw e at eo)
+pub parts-front : (t l o : List ℕ) (r : TableReading) (a b p q : ℕ) → length l ≡ a → r ≡ readTextOf t a b → o ≡ text.tableLeft r (recordsOf Partitions t) l → r ≡ table.Numbers p q
+    → (p ≤ length o) × (take p o ≡ recordsOf Partitions t)
+parts-front t l o r a b p q el er eo e = let f = fits t a b p q (sym er ∙ e) in front (recordsOf Partitions t) l o p (f .parts-are) (rw el (f .parts-fit)) (rw e at eo)
 
-pub tasks-front : (t l o : List ℕ) (r : TableReading) (a b p q : ℕ) → length l ≡ b → r ≡ readOf t a b → o ≡ text.leftBy r (tableOf Tasks t) l → r ≡ table.Numbers p q
-    → (q ≤ length o) × (take q o ≡ tableOf Tasks t)
-tasks-front t l o r a b p q el er eo e = let f = fits t a b p q (sym er ∙ e) in front (tableOf Tasks t) l o q (f .tasks-are) (rw el (f .tasks-fit)) (rw e at eo)
+pub tasks-front : (t l o : List ℕ) (r : TableReading) (a b p q : ℕ) → length l ≡ b → r ≡ readTextOf t a b → o ≡ text.tableLeft r (recordsOf Tasks t) l → r ≡ table.Numbers p q
+    → (q ≤ length o) × (take q o ≡ recordsOf Tasks t)
+tasks-front t l o r a b p q el er eo e = let f = fits t a b p q (sym er ∙ e) in front (recordsOf Tasks t) l o q (f .tasks-are) (rw el (f .tasks-fit)) (rw e at eo)
 
-pub answer-tables : (t ps ts out : List ℕ) {o : List ℕ} {n : ℕ} (r : TableReading) (p q : ℕ) → r ≡ readOf t (partWidth * mostPartitions) (taskWidth * mostTasks) → r ≡ table.Numbers p q → ps ≡ tableOf Partitions t → ts ≡ tableOf Tasks t
+pub answer-tables : (t ps ts out : List ℕ) {o : List ℕ} {n : ℕ} (r : TableReading) (p q : ℕ) → r ≡ readTextOf t (partWidth * mostPartitions) (taskWidth * mostTasks) → r ≡ table.Numbers p q → ps ≡ recordsOf Partitions t → ts ≡ recordsOf Tasks t
     → Put out 0 (fileOrLine ps ts (length out)) n o → Put out 0 (answerOf t (length out)) n o
 unfolding answerOf
 answer-tables t ps ts out r p q er e ep et s = rw (sym er ∙ e, ← ep, ← et) s
 
-pub answer-line : (t out : List ℕ) {o : List ℕ} {n : ℕ} (r : TableReading) (k : ℕ) (what : What) → r ≡ readOf t (partWidth * mostPartitions) (taskWidth * mostTasks) → r ≡ table.Expected k what
+pub answer-line : (t out : List ℕ) {o : List ℕ} {n : ℕ} (r : TableReading) (k : ℕ) (what : What) → r ≡ readTextOf t (partWidth * mostPartitions) (taskWidth * mostTasks) → r ≡ table.Expected k what
     → Put out 0 (expectedLine k what) n o → Put out 0 (answerOf t (length out)) n o
 unfolding answerOf
 answer-line t out r k what er e s = rw (sym er ∙ e) s
 
-pub answer-refused : (t out : List ℕ) {o : List ℕ} {n : ℕ} (r : TableReading) (x : Refusal) → r ≡ readOf t (partWidth * mostPartitions) (taskWidth * mostTasks) → r ≡ table.Refused x
+pub answer-refused : (t out : List ℕ) {o : List ℕ} {n : ℕ} (r : TableReading) (x : Refusal) → r ≡ readTextOf t (partWidth * mostPartitions) (taskWidth * mostTasks) → r ≡ table.Refused x
     → Put out 0 (refusedLine x) n o → Put out 0 (answerOf t (length out)) n o
 unfolding answerOf
 answer-refused t out r x er e s = rw (sym er ∙ e) s

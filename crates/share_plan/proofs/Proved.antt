@@ -1,7 +1,6 @@
 -- Every promise of specs/Theorems.antt, proved. Assumes nothing.
 use Prim.Native.Nat.{ℕ, _≤_}
 use mathlib.Core.Path.{_≡_, refl, sym, _∙_}
-use mathlib.Core.Bool.{true}
 use mathlib.Core.List.{List}
 use lib.ListN.{length, drop, replicate, length-replicate}
 use lib.Seq.{take-at}

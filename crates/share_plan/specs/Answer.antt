@@ -18,7 +18,7 @@ use Rattle.share_line.specs.declared.What.the-variants.{Record, Number, Slash, 
 use Rattle.share_text.specs.declared.Kind.the-variants.{Partitions, Tasks}
 use Rattle.share_text.specs.declared.TableReading.{TableReading}
 use Rattle.share_text.specs.declared.TableReading.the-variants as table
-use Rattle.share_text.specs.Table.{tableOf, readOf}
+use Rattle.share_text.specs.Table.{recordsOf, readTextOf}
 
 -- what was expected, and the newline
 abbrev pub whatText : What → List ℕ
@@ -66,4 +66,4 @@ answerBy (table.Refused r) ofTables = refusedLine r
 
 -- the tables have room for as many records as there may be
 unfoldable pub answerOf : List ℕ → ℕ → List ℕ
-answerOf t room = answerBy (readOf t (partWidth * mostPartitions) (taskWidth * mostTasks)) (fileOrLine (tableOf Partitions t) (tableOf Tasks t) room)
+answerOf t room = answerBy (readTextOf t (partWidth * mostPartitions) (taskWidth * mostTasks)) (fileOrLine (recordsOf Partitions t) (recordsOf Tasks t) room)

@@ -1,13 +1,13 @@
 -- Laws of lines and of what is gathered from them. Assumes nothing.
-use Prim.Native.Nat.{ℕ, zero, suc, _+_, _-_, _≤_, _<_}
+use Prim.Native.Nat.{ℕ, _+_, _-_, _≤_, _<_}
 use mathlib.Core.Path.{_≡_, refl, sym, ap, _∙_}
 use mathlib.Core.Bool.{Bool, false}
-use mathlib.Core.List.{List, [], _∷_, _++_, append-nil}
+use mathlib.Core.List.{List, [], _++_, append-nil}
 use native.Mathlib.Numerals.{add-one}
 use native.Mathlib.Decide.{le-ind}
 use native.Mathlib.Omega.{arith}
-use lib.ListN.{length, take, drop}
-use lib.Seq.{drop-drop}
+use lib.ListN.{length, take, drop, drop-of-length-le}
+use lib.Seq.{drop-length, drop-drop}
 use Rattle.share_line.proofs.WordLaws.{tail}
 use lib.Dec.{ltb}
 use borrow.Author.Tests.{lt-ltb, le-ltb, ltb-false}
@@ -29,13 +29,7 @@ use Rattle.share_text.specs.declared.TableReading.{TableReading}
 use Rattle.share_text.specs.declared.TableReading.the-variants.{Numbers, Refused}
 use Rattle.share_line.specs.Words.{found, width, wordOf}
 use Rattle.share_line.specs.Rows.{recordOf, rowOf, isWrong, whatOf}
-use Rattle.share_text.specs.Table.{lineOf, afterLine, fromLine, rowAt, wrongAt, firstWrong, numsIn, numsAt, tableOf, longestText, seenOf, sizedOf, readBy, readOf}
-
-pub drop-all : (n : ℕ) (l : List ℕ) → length l ≤ n → drop n l ≡ []
-drop-all zero [] h = refl
-drop-all (suc n) [] h = refl
-drop-all zero (x ∷ l) h = absurd (omega arith)
-drop-all (suc n) (x ∷ l) h = drop-all n l (omega arith)
+use Rattle.share_text.specs.Table.{lineOf, afterLine, fromLine, rowAt, wrongAt, firstWrong, numsIn, numsAt, recordsOf, longestText, seenOf, sizedOf, readBy, readTextOf}
 
 -- the line that begins at a place, and where the next one does
 pub line-is : (t : List ℕ) (at e : ℕ) → e ≡ found mark.Line (take (length t - at) (drop at t)) → take e (take (length t - at) (drop at t)) ≡ lineOf (drop at t)
@@ -51,7 +45,7 @@ unfolding afterLine
 after-none t at e h l =
     let f : e ≡ found mark.Line (drop at t) = rw (tail at t) at h in
     let m : length (drop at t) ≤ e = rw (tail at t) at l in
-    drop-all (length t) t (omega arith) ∙ sym (rw (← f) (drop-all (e + 1) (drop at t) (omega arith)))
+    drop-length t ∙ sym (rw (← f) (drop-of-length-le (drop at t) {i = e + 1} (omega arith)))
 
 from-more : (t : List ℕ) (k : ℕ) → fromLine t (k + 1) ≡ afterLine (fromLine t k)
 unfolding fromLine
@@ -91,7 +85,7 @@ unfolding rowAt
 row-empty t k j h e = rw (left-empty t k j h e) empty-row
 
 past : {t : List ℕ} {at k : ℕ} → Reached t at k → length t ≤ at → fromLine t k ≡ []
-past {t} {at} a l = sym (a .from) ∙ drop-all at t l
+past {t} {at} a l = sym (a .from) ∙ drop-of-length-le t l
 
 -- ---- wrong lines
 
@@ -125,17 +119,13 @@ gathered-rest : (f : ℕ → List ℕ) (k n : ℕ) → k ≤ n → ((j : ℕ) �
 unfolding gathered
 gathered-rest f k n h g = le-ind {n = k} (λ m. gathered f m ≡ gathered f k) refl (λ m l i. ap (λ (x : List ℕ). gathered f m ++ x) (g m l) ∙ append-nil (gathered f m) ∙ i) n h
 
-pub gather-start : (f : ℕ → List ℕ) → gathered f 0 ≡ []
-unfolding gathered
-gather-start f = refl
-
 pub gather-turn : (kind : Kind) (t : List ℕ) (k : ℕ) {out m o : List ℕ} {i r : ℕ} {row : Row} → row ≡ rowAt t k → Put out 0 (gathered (numsAt kind t) k) i m → Put m i (numsIn kind row) r o
     → Put out 0 (gathered (numsAt kind t) (k + 1)) r o
 unfolding numsAt
 gather-turn kind t k e p q = rw (gathered-more (numsAt kind t) k, ← e) (and-then p q)
 
-pub gather-end : (kind : Kind) {t : List ℕ} {at k : ℕ} → Reached t at k → at ≤ length t → length t ≤ at → gathered (numsAt kind t) k ≡ tableOf kind t
-unfolding tableOf numsAt
+pub gather-end : (kind : Kind) {t : List ℕ} {at k : ℕ} → Reached t at k → at ≤ length t → length t ≤ at → gathered (numsAt kind t) k ≡ recordsOf kind t
+unfolding recordsOf numsAt
 gather-end kind {t} {at} {k} a h l = sym (gathered-rest (numsAt kind t) k (length t) (omega (arith, a .within)) (λ j m. ap (numsIn kind) (row-empty t k j m (past a l)) ∙ nums-nothing kind))
 
 -- ---- what an answer of numbers says
@@ -143,9 +133,9 @@ gather-end kind {t} {at} {k} a h l = sym (gathered-rest (numsAt kind t) k (lengt
 -- the text is no longer than a text may be, and both tables fit
 pub record Fits (t : List ℕ) (parts tasks p q : ℕ) : Type 0 where
   pub short : length t ≤ longestText
-  pub parts-are : p ≡ length (tableOf Partitions t)
+  pub parts-are : p ≡ length (recordsOf Partitions t)
   pub parts-fit : p ≤ parts
-  pub tasks-are : q ≡ length (tableOf Tasks t)
+  pub tasks-are : q ≡ length (recordsOf Tasks t)
   pub tasks-fit : q ≤ tasks
 
 seen-good : (s : Seen) (x : TableReading) (p q : ℕ) → readBy s x ≡ Numbers p q → x ≡ Numbers p q
@@ -155,11 +145,11 @@ seen-good (Line number what) x p q e = let z : _≡_ {A = ℕ} 0 1 = cc in absur
 not-refused : (p q : ℕ) → ¬ (Refused Limits ≡ Numbers p q)
 not-refused p q e = let z : _≡_ {A = ℕ} 0 1 = cc in omega arith
 
-pub fits : (t : List ℕ) (parts tasks p q : ℕ) → readOf t parts tasks ≡ Numbers p q → Fits t parts tasks p q
-unfolding readOf sizedOf
+pub fits : (t : List ℕ) (parts tasks p q : ℕ) → readTextOf t parts tasks ≡ Numbers p q → Fits t parts tasks p q
+unfolding readTextOf sizedOf
 fits t parts tasks p q e =
-    let n = length (tableOf Partitions t) in
-    let m = length (tableOf Tasks t) in
+    let n = length (recordsOf Partitions t) in
+    let m = length (recordsOf Tasks t) in
     let y2 : TableReading = pick (ltb tasks m) (Refused Limits) (Numbers n m) in
     let y1 : TableReading = pick (ltb parts n) (Refused Limits) y2 in
     let e1 = pick-second (ltb longestText (length t)) (Refused Limits) (readBy (seenOf t) y1) (Numbers p q) (not-refused p q) e in

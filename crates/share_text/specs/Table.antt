@@ -57,8 +57,8 @@ unfoldable pub numsAt : Kind → List ℕ → ℕ → List ℕ
 numsAt kind t k = numsIn kind (rowAt t k)
 
 -- the table of a kind: its records in the order of their lines
-unfoldable pub tableOf : Kind → List ℕ → List ℕ
-tableOf kind t = gathered (numsAt kind t) (length t)
+unfoldable pub recordsOf : Kind → List ℕ → List ℕ
+recordsOf kind t = gathered (numsAt kind t) (length t)
 
 -- in bytes: a longer text is not read
 abbrev pub longestText : ℕ
@@ -71,20 +71,20 @@ seenOf t = pick (ltb (firstWrong t) (length t)) (Line (firstWrong t + 1) (whatOf
 -- how many numbers there are of each kind, where the lent tables have room for so many; "a count outside its limits" where they have not
 unfoldable pub sizedOf : List ℕ → ℕ → ℕ → TableReading
 sizedOf t parts tasks =
-    pick (ltb parts (length (tableOf Partitions t))) (Refused Limits)
-    (pick (ltb tasks (length (tableOf Tasks t))) (Refused Limits)
-    (Numbers (length (tableOf Partitions t)) (length (tableOf Tasks t))))
+    pick (ltb parts (length (recordsOf Partitions t))) (Refused Limits)
+    (pick (ltb tasks (length (recordsOf Tasks t))) (Refused Limits)
+    (Numbers (length (recordsOf Partitions t)) (length (recordsOf Tasks t))))
 
 abbrev pub readBy : Seen → TableReading → TableReading
 readBy Good sized = sized
 readBy (Line number what) sized = Expected number what
 
 -- the answer: a text too long to be read, a wrong line, or the numbers
-unfoldable pub readOf : List ℕ → ℕ → ℕ → TableReading
-readOf t parts tasks = pick (ltb longestText (length t)) (Refused Limits) (readBy (seenOf t) (sizedOf t parts tasks))
+unfoldable pub readTextOf : List ℕ → ℕ → ℕ → TableReading
+readTextOf t parts tasks = pick (ltb longestText (length t)) (Refused Limits) (readBy (seenOf t) (sizedOf t parts tasks))
 
 -- what a lent table then holds: its kind's records in front, where all of them fit
-abbrev pub leftBy : TableReading → List ℕ → List ℕ → List ℕ
-leftBy (Numbers p t) nums out = sets out 0 nums
-leftBy (Expected line what) nums out = out
-leftBy (Refused r) nums out = out
+abbrev pub tableLeft : TableReading → List ℕ → List ℕ → List ℕ
+tableLeft (Numbers p t) nums out = sets out 0 nums
+tableLeft (Expected line what) nums out = out
+tableLeft (Refused r) nums out = out

@@ -5,7 +5,7 @@ use tables::gather;
 use tables::read_of;
 ghost use mathlib.Core.Path.{_≡_};
 ghost use lib.ListN.{length};
-ghost use Rattle.share_text.specs.Table.{tableOf, readOf, leftBy};
+ghost use Rattle.share_text.specs.Table.{recordsOf, readTextOf, tableLeft};
 
 mod lines; // lines.rt: the lines of a text in order, and the first that is wrong
 mod tables; // tables.rt: the numbers of each kind
@@ -33,9 +33,9 @@ pub enum TableReading {
 // The table's records, put into the lent tables where all of them fit.
 pub fn read(text: &[u8], parts: &mut [u16], tasks: &mut [u16]) -> TableReading
     ensures { λ r. ⌜
-        (r ≡ readOf (now (text .entry)) (length (now (parts .entry))) (length (now (tasks .entry))))
-        × (now (parts .exit) ≡ leftBy r (tableOf Kind.Partitions (now (text .entry))) (now (parts .entry)))
-        × (now (tasks .exit) ≡ leftBy r (tableOf Kind.Tasks (now (text .entry))) (now (tasks .entry)))
+        (r ≡ readTextOf (now (text .entry)) (length (now (parts .entry))) (length (now (tasks .entry))))
+        × (now (parts .exit) ≡ tableLeft r (recordsOf Kind.Partitions (now (text .entry))) (now (parts .entry)))
+        × (now (tasks .exit) ≡ tableLeft r (recordsOf Kind.Tasks (now (text .entry))) (now (tasks .entry)))
         ⌝ }
 {
     let t = read_of(text, parts.len(), tasks.len());

@@ -15,7 +15,7 @@ ghost use Prim.Native.Nat.{_+_, _≤_, _<_, _^_};
 ghost use lib.ListN.{length};
 ghost use Rattle.rules.specs.Limits.{taskWidth};
 ghost use Rattle.output.specs.Put.{Put};
-ghost use Rattle.share_text.specs.Table.{numsIn, tableOf, longestText, sizedOf, readOf};
+ghost use Rattle.share_text.specs.Table.{numsIn, recordsOf, longestText, sizedOf, readTextOf};
 
 fn put_three(out: &mut [u16], at: usize, x: u16, y: u16, z: u16) -> usize
     requires { ⌜ at < 2 ^ 40 ⌝ }
@@ -56,7 +56,7 @@ fn put_row(out: &mut [u16], at: usize, kind: Kind, row: Row) -> usize
 // The numbers of every row of a kind, as far as there is room. The answer is how many there are.
 pub fn gather(text: &[u8], kind: Kind, out: &mut [u16]) -> usize
     requires { ⌜ length (now text) ≤ longestText ⌝ }
-    ensures { λ r. ⌜ Put (now (out .entry)) 0 (tableOf kind (now (text .entry))) r (now (out .exit)) ⌝ }
+    ensures { λ r. ⌜ Put (now (out .entry)) 0 (recordsOf kind (now (text .entry))) r (now (out .exit)) ⌝ }
 {
     let n = text.len();
     let mut put = 0;
@@ -71,7 +71,7 @@ pub fn gather(text: &[u8], kind: Kind, out: &mut [u16]) -> usize
 // How many numbers the rows of a kind have.
 fn numbers_in(text: &[u8], kind: Kind) -> usize
     requires { ⌜ length (now text) ≤ longestText ⌝ }
-    ensures { λ r. ⌜ r ≡ length (tableOf kind (now (text .entry))) ⌝ }
+    ensures { λ r. ⌜ r ≡ length (recordsOf kind (now (text .entry))) ⌝ }
 {
     let mut none = [0u16; 1];
     gather(text, kind, &mut none)
@@ -98,7 +98,7 @@ fn sized(text: &[u8], parts: usize, tasks: usize) -> TableReading
 
 // What `read` answers, for lent tables of so many numbers.
 pub fn read_of(text: &[u8], parts: usize, tasks: usize) -> TableReading
-    ensures { λ r. ⌜ r ≡ readOf (now (text .entry)) parts tasks ⌝ }
+    ensures { λ r. ⌜ r ≡ readTextOf (now (text .entry)) parts tasks ⌝ }
 {
     if LONGEST_TEXT < text.len() {
         return TableReading::Refused(Refusal::Limits);

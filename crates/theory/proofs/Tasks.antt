@@ -9,7 +9,8 @@ use lib.Dec.{T, eqb, leb, eqb→eq, eqb-refl}
 use lib.ListN.{length}
 use Rattle.rules.specs.Walk.{only, first, some, sum, count, roundUp, Every}
 use Rattle.rules.specs.Table.{partition, budget, deadline, period, tasks, goodTask}
-use Rattle.rules.proofs.Sum.{eq→eqb, count-ext}
+use mir.Facts.{yes-eqb}
+use Rattle.rules.proofs.Sum.{count-ext}
 use Rattle.rules.proofs.Tests.{good-times}
 use Rattle.theory.specs.Plan.{Rule, service, owned, held}
 use Rattle.theory.specs.Run.{Ran, nothing, job, Waiting, atArrival, Before, Runs, Releases, LegalTo}
@@ -91,7 +92,7 @@ module _ (rule : Rule) (plan ts : List ℕ) (i : ℕ) where
 
       rivals : (n j : ℕ) → T (sv n) → Mine n j → T (rival ts i j)
       unfolding rival
-      rivals n j o m = eq→eqb _ _ (m ∙ eqb→eq _ _ o)
+      rivals n j o m = yes-eqb (m ∙ eqb→eq _ _ o)
 
       waiting : (n j a : ℕ) → n < N → ran n ≡ job j a → Waiting atArrival work ran n j a
       waiting n j a u e = let w = subst (Runs (Mine n) (Waiting atArrival work ran n)) e (R .runs n u) in w .1

@@ -8,7 +8,7 @@ use lib.ListN.{length, getD}
 use Rattle.rules.specs.Limits.{longest}
 use Rattle.rules.specs.Walk.{Every}
 use Rattle.rules.specs.Table.{cycle, partitions, wants, goodShare, goodPart, deadline, tasks, goodTask}
-use Rattle.theory.specs.Plan.{Rule, own, owner, held, least, Serves}
+use Rattle.theory.specs.Plan.{Rule, own, held, least, Serves}
 use Rattle.theory.specs.Harmonic.{Harmonic, pairs, frame, allWanted, rank, taken, harmonicPlan}
 use Rattle.theory.specs.Run.{Ran, done, Releases, LegalTo, Legal}
 use Rattle.theory.specs.Load.{Load, demand, lastPoint, point, firstPoint}

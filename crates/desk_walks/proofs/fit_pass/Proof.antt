@@ -50,7 +50,8 @@ use Rattle.desk_steps.specs.Folds.{foldBack}
 use Rattle.desk_steps.specs.Writing.{fitOut, fitStep, fittedAll}
 use Rattle.desk.specs.declared.Job.{Job}
 use Rattle.desk_steps.specs.declared.fit.Fit.{Fit}
-use Rattle.desk_walks.proofs.Up.{byte-fits, fits-of, fewer, down, down-le, back-up, at-zero, at-least-one}
+use borrow.Author.Count.{falls-down}
+use Rattle.desk_walks.proofs.Up.{byte-fits, fits-of, down, down-le, back-up, at-zero, at-least-one}
 use Rattle.desk_walks.proofs.Along.{foldBack-start, foldBack-more, backAt, backAt-start, backAt-end, backAt-length, backAt-read, backAt-more}
 use Rattle.desk.proofs.Job as J
 use Rattle.desk.proofs.Job.Laws as J′
@@ -272,7 +273,7 @@ module _ {M : Type 1} (𝓤 : URA M) (H : Heap 𝓤) (A : Atoms 𝓤) (W : Given
         next-length = backAt-length fitStep fitOut s ys i next-le
 
         next-near : i < x .0
-        next-near = fewer (x .0) some-left
+        next-near = falls-down (x .0) some-left
 
         within′ : i < length tbl
         within′ = subst (λ (k : ℕ). i < k) (sym this-length) within

@@ -49,7 +49,8 @@ use Rattle.desk_steps.specs.Folds.{fold}
 use Rattle.desk_engine.specs.Scanning.{scanStep, scanned}
 use Rattle.desk.specs.declared.Job.{Job}
 use Rattle.desk_engine.specs.declared.scan.Scan.{Scan}
-use Rattle.desk_walks.proofs.Up.{byte-fits, nearer, up, fits-of, at-end}
+use borrow.Author.Count.{falls}
+use Rattle.desk_walks.proofs.Up.{byte-fits, up, fits-of, at-end}
 use Rattle.desk_walks.proofs.Along.{fold-zero, fold-end, fold-more}
 use Rattle.desk.proofs.Job as J
 use Rattle.desk.proofs.Job.Laws as J′
@@ -198,7 +199,7 @@ module _ {M : Type 1} (𝓤 : URA M) (H : Heap 𝓤) (A : Atoms 𝓤) (W : Given
         forget ! 2 refl $ forget ! 4 refl $ forget ! 6 refl $ forget ! 8 refl $ forget ! 10 refl $
         rewrite ! 14 (λ (v : Val). ‵ (fat fullShare S′.mir l₃ 0 v)) (ap only (LL.tells S.the-type S′.the-laws r (w ∷ []) isr) ∙ ap smach (er ∙ one-more i within)) refl $
         move ! (2 ∷ 3 ∷ 4 ∷ 5 ∷ 6 ∷ 7 ∷ 8 ∷ 9 ∷ 10 ∷ 11 ∷ 12 ∷ 13 ∷ 14 ∷ 15 ∷ 16 ∷ 17 ∷ 18 ∷ 19 ∷ 20 ∷ 21 ∷ []) $
-        again ! Nearer At x (i + 1, (up n i within, subst (λ (u : Scan). Is S.the-row u (smach u ∷ [])) (er ∙ one-more i within) (subst (Is S.the-row r) (LL.tells S.the-type S′.the-laws r (w ∷ []) isr) isr))) (nearer n i within)))))))
+        again ! Nearer At x (i + 1, (up n i within, subst (λ (u : Scan). Is S.the-row u (smach u ∷ [])) (er ∙ one-more i within) (subst (Is S.the-row r) (LL.tells S.the-type S′.the-laws r (w ∷ []) isr) isr))) (falls n i within)))))))
       where
         i : ℕ
         i = x .0

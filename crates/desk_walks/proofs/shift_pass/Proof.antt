@@ -49,7 +49,8 @@ use Rattle.desk_steps.specs.Folds.{fold}
 use Rattle.desk_steps.specs.Writing.{shiftOut, shiftStep, shifted}
 use Rattle.desk.specs.declared.Job.{Job}
 use Rattle.desk_steps.specs.declared.shift.Shift.{Shift}
-use Rattle.desk_walks.proofs.Up.{byte-fits, nearer, up, fits-of, at-end}
+use borrow.Author.Count.{falls}
+use Rattle.desk_walks.proofs.Up.{byte-fits, up, fits-of, at-end}
 use Rattle.desk_walks.proofs.Along.{fold-zero, fold-more, forthAt, forthAt-zero, forthAt-end, forthAt-length, forthAt-read, forthAt-more}
 use Rattle.desk.proofs.Job as J
 use Rattle.desk.proofs.Job.Laws as J′
@@ -266,7 +267,7 @@ module _ {M : Type 1} (𝓤 : URA M) (H : Heap 𝓤) (A : Atoms 𝓤) (W : Given
         next-length = forthAt-length shiftStep shiftOut s ys (i + 1) next-le
 
         next-near : n - (i + 1) < n - i
-        next-near = nearer n i within
+        next-near = falls n i within
 
         within′ : i < length tbl
         within′ = subst (λ (k : ℕ). i < k) (sym this-length) within

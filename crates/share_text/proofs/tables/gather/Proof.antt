@@ -1,5 +1,6 @@
-use Rattle.share_text.proofs.Order.{Reached, reached-start, reached-next, reached-row, gather-start, gather-turn, gather-end}
+use Rattle.share_text.proofs.Order.{Reached, reached-start, reached-next, reached-row, gather-turn, gather-end}
 use Rattle.rules.specs.Walk.{gathered}
+use Rattle.rules.proofs.First.{gathered-zero}
 use Rattle.share_text.specs.Table.{numsAt}
 use Rattle.output.proofs.Put.{put-none}
 use Rattle.output.specs.Put.{Put}
@@ -17,7 +18,7 @@ abbrev μ-loop : tie.MeasureT-loop
 μ-loop text kind out₀ n put₀ at₀ out put at = n - at
 
 loop-holds : tie.Need-loop-holds Inv-loop μ-loop
-loop-holds c = (search needs, search needs, refl, (0, reached-start _, rw gather-start (put-none _ _)))
+loop-holds c = (search needs, search needs, refl, (0, reached-start _, rw gathered-zero (put-none _ _)))
 
 row-at-requires : tie.Need-row-at-requires Inv-loop μ-loop
 row-at-requires c κs = search needs

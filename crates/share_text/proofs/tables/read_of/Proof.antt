@@ -1,11 +1,11 @@
-use Rattle.share_text.specs.Table.{readOf}
+use Rattle.share_text.specs.Table.{readTextOf}
 use borrow.Author.Tests.{lt-ltb, le-ltb}
 use borrow.Author.Needs.{needs}
 use Rattle.share_text.proofs.tables.read_of.Statement.{statement}
 use Rattle.share_text.proofs.tables.read_of.Tie as tie
 
 returns : tie.Need-returns
-unfolding readOf
+unfolding readTextOf
 returns c = rw (lt-ltb _ _ (c .if1 .taken))
 
 first-wrong-requires : tie.Need-first-wrong-requires
@@ -21,11 +21,11 @@ sized-requires : tie.Need-sized-requires
 sized-requires c κs = search needs
 
 returns-2 : tie.Need-returns-2
-unfolding readOf
+unfolding readTextOf
 returns-2 c = rw (le-ltb _ _ (c .before .before .before .before .if1 .left), ← c .before .before .before .first-wrong .ensures, c .before .seen .given .1)
 
 returns-3 : tie.Need-returns-3
-unfolding readOf
+unfolding readTextOf
 returns-3 c = rw (le-ltb _ _ (c .before .before .before .before .if1 .left), ← c .before .before .before .first-wrong .ensures, c .before .enum-told .given .1) (c .sized .ensures)
 
 pub read-of-spec : {M : Type 1} → statement M
