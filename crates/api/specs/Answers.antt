@@ -10,8 +10,8 @@ use Rattle.rules.specs.declared.Finding.{Finding}
 use Rattle.rules.specs.declared.Finding.the-variants as found
 use Rattle.rules.specs.declared.Filling.{Filling}
 use Rattle.rules.specs.declared.Filling.the-variants as filling
-use Rattle.task_verdict.specs.declared.Judged.{Judged}
-use Rattle.task_verdict.specs.declared.Judged.the-variants as judged
+use Rattle.task_points.specs.declared.Judged.{Judged}
+use Rattle.task_points.specs.declared.Judged.the-variants as judged
 use Rattle.file_read.specs.declared.Reading.{Reading}
 use Rattle.file_read.specs.declared.Reading.the-variants as reading
 use Rattle.file_read.specs.declared.Stretch.{Stretch}

@@ -9,7 +9,7 @@ use file_read::Reading;
 use rules::Filling;
 use rules::Finding;
 use rules::Told;
-use task_verdict::Judged;
+use task_points::Judged;
 ghost use mathlib.Core.Path.{_≡_};
 ghost use lib.ListN.{length};
 ghost use Rattle.rules.specs.Table.{wants};

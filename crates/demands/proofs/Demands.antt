@@ -8,10 +8,10 @@ use lib.ListN.{length, take, drop}
 use Rattle.rules.specs.Walk.{pick}
 use Rattle.rules.specs.Limits.{longest, places}
 use Rattle.rules.specs.Table.{partitions, tasks, deadline}
-use Rattle.rules.specs.Tables.{unless}
-use Rattle.rules.specs.Contracts.{firstBadTick}
+use Rattle.tables.specs.Tables.{unless}
+use Rattle.tables.specs.Contracts.{firstBadTick}
 use Rattle.rules.specs.declared.Refusal.the-variants.{Task, Tick, Shortfall, Unharmonic, Want, Output, Rules, TooFar}
-use Rattle.rules.proofs.Chain.{unless-holds, unless-parts-hold}
+use Rattle.tables.proofs.Chain.{unless-holds, unless-parts-hold}
 use Rattle.output.proofs.Proved as output
 use Rattle.theory.specs.Plan.{own}
 use Rattle.theory.specs.Harmonic.{frame, allWanted}
@@ -26,9 +26,10 @@ use Rattle.rules.specs.declared.Filling.{Filling}
 use Rattle.rules.specs.declared.Filling.the-variants as filling
 use Rattle.plan_build.specs.Build.{unharmonic, laidOf, buildOf}
 use Rattle.plan_build.proofs.Answers as builder
-use Rattle.task_verdict.specs.declared.Judged.{Judged}
-use Rattle.task_verdict.specs.declared.Judged.the-variants as judged
-use Rattle.task_verdict.specs.Verdict.{taskOf, placeOf, verdictOf}
+use Rattle.task_points.specs.declared.Judged.{Judged}
+use Rattle.task_points.specs.declared.Judged.the-variants as judged
+use Rattle.task_points.specs.Task.{taskOf}
+use Rattle.task_verdict.specs.Verdict.{placeOf, verdictOf}
 use Rattle.task_verdict.proofs.Answers as verdict
 use Rattle.file_codec.proofs.Chain.{file-holds}
 use Rattle.file_read.specs.declared.Reading.{Reading}

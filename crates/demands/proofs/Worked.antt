@@ -2,21 +2,23 @@
 use mathlib.Core.Path.{refl}
 use Rattle.rules.specs.Walk.{only, fails, first, sum, count, smallest, largest, walk, gathered, roundUp}
 use Rattle.rules.specs.Table.{wants, goodShare, goodTimes}
-use Rattle.rules.specs.Tables.{countedIn, withinLimits, tablesOf}
+use Rattle.tables.specs.Tables.{countedIn, withinLimits, tablesOf}
 use Rattle.theory.specs.Plan.{owner, owned, least}
 use Rattle.theory.specs.Harmonic.{pairs, frame, allWanted, sooner, rank, give, turn, planned, ticks}
 use Rattle.theory.specs.Load.{asked, demand, multiple, point, pointFits, firstPoint}
 use Rattle.theory.specs.Task.{rival, taskLoad}
 use Rattle.plan_check.specs.Check.{shortAt, scanOf, planCheckOf, checkOf}
 use Rattle.plan_build.specs.Build.{unharmonic, laidOf, buildOf}
-use Rattle.task_verdict.specs.Verdict.{taskOf, placeOf, verdictOf}
+use Rattle.task_points.specs.Task.{taskOf}
+use Rattle.task_verdict.specs.Verdict.{placeOf, verdictOf}
 use Rattle.file_codec.specs.Bytes.{numsOf}
 use Rattle.file_codec.specs.Runs.{runOwner, runLength, repeats, goodRun, runsJudged, fileTablesOf}
 use Rattle.file_read.specs.Reader.{tableBy, countsOf, contentsOf, readOf}
 use Rattle.file_runs.specs.Ticks.{ticksOf}
 use Rattle.output.specs.Decimal.{digits, decimal}
 use Rattle.file_lines.specs.Lines.{frameLine, partitionLine, passLine}
-use Rattle.file_listing.specs.Listing.{partLine, taskLine, pageOf, tablesLines, listingOf}
+use Rattle.file_page.specs.Page.{partLine, taskLine, pageOf}
+use Rattle.file_listing.specs.Listing.{tablesLines, listingOf}
 use Rattle.desk.specs.Table.{openOf}
 use Rattle.desk.specs.Request.{requestOf}
 use Rattle.demands.specs.Document01.{Document01}

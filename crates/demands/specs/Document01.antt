@@ -12,7 +12,7 @@ use Rattle.rules.specs.declared.Finding.the-variants as found
 use Rattle.plan_check.specs.Check.{checkOf}
 use Rattle.rules.specs.declared.Filling.the-variants as filling
 use Rattle.plan_build.specs.Build.{buildOf}
-use Rattle.task_verdict.specs.declared.Judged.the-variants as judged
+use Rattle.task_points.specs.declared.Judged.the-variants as judged
 use Rattle.task_verdict.specs.Verdict.{verdictOf}
 use Rattle.file_read.specs.declared.Reading.the-variants.{Contents}
 use Rattle.file_read.specs.Reader.{readOf}

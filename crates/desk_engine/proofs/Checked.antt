@@ -10,13 +10,14 @@ use borrow.Author.Tests.{le-leb}
 use Rattle.desk.specs.declared.Job.{Job}
 use Rattle.rules.specs.Limits.{places, latest}
 use Rattle.desk.specs.Table.{none, jobOk, ordered, zeros, allZeros, xOf, rightX, tableOk, deskOk, ends}
-use Rattle.desk_steps.specs.Folds.{fold}
+use Rattle.desk_records.specs.Folds.{fold}
 use Rattle.desk_engine.proofs.Counts.{some-more, one-less}
 use Rattle.desk.specs.declared.Desk.{Desk}
-use Rattle.desk_steps.specs.declared.checking.Checking.{Checking}
-use Rattle.desk_engine.specs.declared.scan.Scan.{Scan}
-use Rattle.desk_engine.specs.Scanning.{scanStep, scanned, sizesOk, openingOf, askingOf}
-use Rattle.desk_steps.specs.Reading.{listedOk, checkStep, checkEnd, searchStep}
+use Rattle.desk_reading.specs.declared.checking.Checking.{Checking}
+use Rattle.desk_reading.specs.declared.scan.Scan.{Scan}
+use Rattle.desk_reading.specs.Reading.{scanStep, scanned}
+use Rattle.desk_engine.specs.Beginning.{sizesOk, openingOf, askingOf}
+use Rattle.desk_reading.specs.Reading.{listedOk, checkStep, checkEnd, searchStep}
 
 -- the pass is two passes at once
 pub scan-both : (s : Scan) (l : List Job) → scanned s l ≡ record { checking = fold checkStep (s .checking) l; searching = fold searchStep (s .searching) l; desk = s .desk }

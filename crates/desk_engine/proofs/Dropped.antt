@@ -13,7 +13,7 @@ use Rattle.desk.specs.declared.Job.{Job}
 use Rattle.desk.specs.Table.{ends}
 use Rattle.desk.specs.Request.{kept}
 use Rattle.desk.proofs.Chain.{Chain}
-use Rattle.desk_steps.specs.Folds.{movedUp}
+use Rattle.desk_records.specs.Folds.{movedUp}
 
 -- how many jobs end by t
 abbrev pub goneBy : ℕ → List Job → ℕ

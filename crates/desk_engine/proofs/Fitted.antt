@@ -8,9 +8,9 @@ use native.Mathlib.Nat.{add-zero}
 use lib.ListN.{length}
 use Rattle.desk.specs.declared.Job.{Job}
 use Rattle.desk.specs.Table.{job, none, xOf, refit}
-use Rattle.desk_steps.specs.declared.fit.Fit.{Fit}
-use Rattle.desk_steps.specs.Folds.{foldBack, back}
-use Rattle.desk_steps.specs.Writing.{fitFrom, stillFit, fitted, fitOut, fitStep, fittedAll}
+use Rattle.desk_writing.specs.declared.fit.Fit.{Fit}
+use Rattle.desk_records.specs.Folds.{foldBack, back}
+use Rattle.desk_writing.specs.Writing.{fitFrom, stillFit, fitted, fitOut, fitStep, fittedAll}
 use Rattle.desk_engine.proofs.Counts.{some-more, one-less}
 
 abbrev some : List Job → Bool

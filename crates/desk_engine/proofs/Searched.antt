@@ -10,11 +10,11 @@ use borrow.Author.Tests.{lt-ltb, le-ltb, lt-leb, leb-true, leb-false, ne-eqb}
 use Rattle.rules.specs.Walk.{pick}
 use Rattle.desk.specs.declared.Job.{Job}
 use Rattle.desk_records.specs.Sums.{most32}
-use Rattle.desk_steps.specs.declared.searching.Searching.{Searching}
+use Rattle.desk_reading.specs.declared.searching.Searching.{Searching}
 use Rattle.desk.specs.Request.{kept, busy, early, room, findFrom, Place, At, Nowhere}
 use Rattle.desk.proofs.Chain.{Chain}
-use Rattle.desk_steps.specs.Folds.{fold}
-use Rattle.desk_steps.specs.Reading.{searchStep}
+use Rattle.desk_records.specs.Folds.{fold}
+use Rattle.desk_reading.specs.Reading.{searchStep}
 use Rattle.desk_engine.proofs.Counts.{some-more, one-less, sum-is}
 use Rattle.desk_engine.proofs.Dropped.{goneBy}
 use Rattle.desk.specs.Table.{ends}

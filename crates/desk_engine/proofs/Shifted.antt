@@ -11,10 +11,10 @@ use Rattle.rules.proofs.Tests.{or-neither}
 use Rattle.desk.specs.declared.Job.{Job}
 use Rattle.desk.specs.Table.{none, ends}
 use Rattle.desk.specs.Request.{moved, shift, tooFar}
-use Rattle.desk_steps.specs.declared.shift.Shift.{Shift}
-use Rattle.desk_steps.specs.Folds.{forth}
+use Rattle.desk_writing.specs.declared.shift.Shift.{Shift}
+use Rattle.desk_records.specs.Folds.{forth}
 use Rattle.desk_records.specs.Sums.{most32, sumTo}
-use Rattle.desk_steps.specs.Writing.{shiftFrom, stillShift, shiftOut, shiftStep, shifted}
+use Rattle.desk_writing.specs.Writing.{shiftFrom, stillShift, shiftOut, shiftStep, shifted}
 use Rattle.desk_engine.proofs.Counts.{some-more, one-less, sum-is}
 
 abbrev shiftAt : ℕ → Bool → ℕ → ℕ → Job → Shift

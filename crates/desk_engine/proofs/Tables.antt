@@ -13,9 +13,9 @@ use Rattle.desk.specs.Request.{shift, insertAt, kept}
 use Rattle.desk.proofs.Check.{listed-of, length-refit, opened-is}
 use Rattle.desk.proofs.Chain.{Chain}
 use Rattle.desk.proofs.Spot.{length-shift}
-use Rattle.desk_steps.specs.Folds.{movedUp}
+use Rattle.desk_records.specs.Folds.{movedUp}
 use Rattle.desk_records.specs.Sums.{most32}
-use Rattle.desk_steps.specs.Writing.{shiftFrom, stillShift, shifted, fitFrom, stillFit, fittedAll}
+use Rattle.desk_writing.specs.Writing.{shiftFrom, stillShift, shifted, fitFrom, stillFit, fittedAll}
 use Rattle.desk_engine.proofs.Fitted.{fit-law, fit-still}
 use Rattle.desk_engine.proofs.Shifted.{shift-law, clear-law, shift-still, Within}
 use Rattle.desk_engine.proofs.Dropped.{goneBy, drop-law, gone-few}

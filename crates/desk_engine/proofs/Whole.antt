@@ -19,7 +19,7 @@ use Rattle.rules.proofs.Tests.{and-parts}
 use Rattle.desk.proofs.Check.{xOf-le, numbers-small, listed-of, desk-table, desk-right}
 use Rattle.desk.proofs.Chain.{Chain, chain-of, chain-kept, right-kept}
 use Rattle.desk.proofs.Rules.{room-never-far}
-use Rattle.desk_steps.specs.Folds.{fold}
+use Rattle.desk_records.specs.Folds.{fold}
 use Rattle.desk_records.specs.Sums.{sumTo}
 use Rattle.desk_engine.proofs.Shifted.{Lows, near-within}
 use Rattle.desk_engine.proofs.Dropped.{goneBy}
@@ -27,14 +27,15 @@ use Rattle.desk_engine.proofs.Tables.{still-table, open-table, drop-tab
 use Rattle.desk.specs.declared.Desk.{Desk}
 use Rattle.desk.specs.declared.Ask.{Ask}
 use Rattle.desk.specs.declared.Ask.the-variants.{Open, Request}
-use Rattle.desk_steps.specs.declared.checking.Checking.{Checking}
-use Rattle.desk_steps.specs.declared.searching.Searching.{Searching}
-use Rattle.desk_engine.specs.declared.scan.Scan.{Scan}
+use Rattle.desk_reading.specs.declared.checking.Checking.{Checking}
+use Rattle.desk_reading.specs.declared.searching.Searching.{Searching}
+use Rattle.desk_reading.specs.declared.scan.Scan.{Scan}
 use Rattle.desk_engine.specs.declared.effect.Effect.{Effect}
 use Rattle.desk_engine.specs.declared.decision.Decision.{Decision}
 use Rattle.desk_engine.specs.declared.decision.Decision.the-variants.{Opens, Keeps, Drops, Takes}
-use Rattle.desk_engine.specs.Scanning.{scanned, searchingFrom, openingOf, askingOf, scanFor}
-use Rattle.desk_steps.specs.Reading.{checkStep, searchStep}
+use Rattle.desk_reading.specs.Reading.{scanned}
+use Rattle.desk_engine.specs.Beginning.{searchingFrom, openingOf, askingOf, scanFor}
+use Rattle.desk_reading.specs.Reading.{checkStep, searchStep}
 use Rattle.desk_engine.specs.Deciding.{decisionOf, keepEffect, dropEffect, takeEffect, effectBy, effectOf, applied}
 use Rattle.desk.specs.Call.{callOf, Leaves}
 use Rattle.desk_engine.proofs.Checked.{scan-both, opening-law, asking-law}

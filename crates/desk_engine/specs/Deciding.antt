@@ -12,14 +12,14 @@ use Rattle.desk.specs.declared.Answer.the-variants.{Opened, Taken, Refused}
 use Rattle.rules.specs.Limits.{places}
 use Rattle.desk.specs.Table.{job, none}
 use Rattle.desk.specs.Request.{numbersOk}
-use Rattle.desk_steps.specs.Folds.{movedUp}
+use Rattle.desk_records.specs.Folds.{movedUp}
 use Rattle.desk_records.specs.Sums.{sumTo}
-use Rattle.desk_steps.specs.Writing.{shiftFrom, stillShift, shifted, fitFrom, stillFit, fittedAll}
-use Rattle.desk_engine.specs.declared.scan.Scan.{Scan}
+use Rattle.desk_writing.specs.Writing.{shiftFrom, stillShift, shifted, fitFrom, stillFit, fittedAll}
+use Rattle.desk_reading.specs.declared.scan.Scan.{Scan}
 use Rattle.desk_engine.specs.declared.effect.Effect.{Effect}
 use Rattle.desk_engine.specs.declared.decision.Decision.{Decision}
 use Rattle.desk_engine.specs.declared.decision.Decision.the-variants.{Opens, Keeps, Drops, Takes}
-use Rattle.desk_steps.specs.Reading.{checkEnd}
+use Rattle.desk_reading.specs.Reading.{checkEnd}
 
 -- the decision: a request's refusals 14 to 18 in their order, once the table keeps the rules
 abbrev pub requestDecision : Scan → Decision

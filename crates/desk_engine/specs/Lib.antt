@@ -1,2 +1,2 @@
-pub mod Scanning
+pub mod Beginning
 pub mod Deciding

@@ -1,10 +1,10 @@
 // What is decided at the end of the reading pass: refusals 13 to 18 in their order.
 ghost use mathlib.Core.Path.{_≡_};
 ghost use Rattle.desk_engine.specs.Deciding.{requestDecision, decisionOf};
-use crate::scan::Scan;
+use desk_reading::checking::check_end;
+use desk_reading::scan::Scan;
 use desk_records::numbers::ALL_PLACES;
 use desk_records::numbers::numbers_ok;
-use desk_steps::checking::check_end;
 use rules::Refusal;
 
 // A call opens the desk, refuses and keeps all, refuses and drops the finished jobs, or takes the job in.

@@ -3,18 +3,18 @@ ghost use mathlib.Core.Path.{_≡_};
 ghost use Rattle.desk_engine.specs.Deciding.{openEffect, keepEffect, dropEffect, takeEffect, effectBy, effectOf};
 use crate::decision::Decision;
 use crate::decision::decide;
-use crate::scan::Scan;
 use desk::Answer;
 use desk::Desk;
 use desk::Job;
+use desk_reading::scan::Scan;
 use desk_records::numbers::ALL_PLACES;
 use desk_records::numbers::less;
 use desk_records::numbers::sum;
 use desk_records::records::no_job;
-use desk_steps::fit::Fit;
-use desk_steps::fit::still_fit;
-use desk_steps::shift::Shift;
-use desk_steps::shift::still_shift;
+use desk_writing::fit::Fit;
+use desk_writing::fit::still_fit;
+use desk_writing::shift::Shift;
+use desk_writing::shift::still_shift;
 use rules::Refusal;
 
 // The answer, the record at exit, and what each writing pass begins with.

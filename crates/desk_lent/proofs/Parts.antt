@@ -24,12 +24,12 @@ use Rattle.desk.specs.declared.Job.{Job}
 use Rattle.desk.specs.declared.Answer.{Answer}
 use Rattle.desk.proofs.Job as J
 use Rattle.desk.specs.declared.Desk.{Desk}
-use Rattle.desk_engine.specs.declared.scan.Scan.{Scan}
+use Rattle.desk_reading.specs.declared.scan.Scan.{Scan}
 use Rattle.desk_engine.specs.declared.effect.Effect.{Effect}
 use Rattle.desk.proofs.Desk as D
 use Rattle.desk.proofs.Desk.Laws as D′
-use Rattle.desk_engine.proofs.scan.Scan as S
-use Rattle.desk_engine.proofs.scan.Scan.Laws as S′
+use Rattle.desk_reading.proofs.scan.Scan as S
+use Rattle.desk_reading.proofs.scan.Scan.Laws as S′
 use Rattle.desk_engine.proofs.effect.Effect as P
 use Rattle.desk_engine.proofs.effect.Effect.Laws as P′
 use Rattle.desk_lent.proofs.serve as serve

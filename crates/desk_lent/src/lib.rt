@@ -2,12 +2,13 @@
 // The passes walk the table where it lies; every decision is made by value.
 ghost use mathlib.Core.Path.{_≡_};
 ghost use Rattle.desk.specs.Call.{callOf, Leaves};
-ghost use Rattle.desk_engine.specs.Scanning.{scanned};
+ghost use Rattle.desk_reading.specs.Reading.{scanned};
 ghost use Rattle.desk_engine.specs.Deciding.{effectOf, applied};
 use desk::Answer;
 use desk::Ask;
 use desk::Desk;
 use desk::Job;
+use desk_engine::begin::scan_for;
 use desk_engine::effect::Effect;
 use desk_engine::effect::answer_of;
 use desk_engine::effect::desk_of;
@@ -15,8 +16,7 @@ use desk_engine::effect::drop_of;
 use desk_engine::effect::effect_of;
 use desk_engine::effect::fit_of;
 use desk_engine::effect::shift_of;
-use desk_engine::scan::Scan;
-use desk_engine::scan::scan_for;
+use desk_reading::scan::Scan;
 use desk_walks::drop_pass;
 use desk_walks::fit_pass;
 use desk_walks::scan_pass;

@@ -8,7 +8,7 @@ use lib.ListN.{length, take, drop, getD, set, length-append, length-take, length
 use lib.Seq.{take-length, drop-length, take-suc, drop-cons, set-at, getD-at, length-take-le, getD-append-add, getD-drop}
 use Rattle.desk.specs.declared.Job.{Job}
 use Rattle.desk.specs.Table.{none}
-use Rattle.desk_steps.specs.Folds.{fold, forth, foldBack, back, movedUp}
+use Rattle.desk_records.specs.Folds.{fold, forth, foldBack, back, movedUp}
 
 pub take-none : (l : List Job) → take 0 l ≡ []
 take-none [] = refl

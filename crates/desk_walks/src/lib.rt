@@ -1,18 +1,18 @@
 // The thin passes over the lent table of jobs: one that reads it, and three that write it.
 // What becomes of each job is decided by value, in desk_engine.
 ghost use mathlib.Core.Path.{_≡_};
-ghost use Rattle.desk_steps.specs.Folds.{movedUp};
-ghost use Rattle.desk_steps.specs.Writing.{shifted, fittedAll};
-ghost use Rattle.desk_engine.specs.Scanning.{scanned};
+ghost use Rattle.desk_records.specs.Folds.{movedUp};
+ghost use Rattle.desk_writing.specs.Writing.{shifted, fittedAll};
+ghost use Rattle.desk_reading.specs.Reading.{scanned};
 use desk::Job;
-use desk_engine::scan::Scan;
-use desk_engine::scan::scan_step;
-use desk_steps::fit::Fit;
-use desk_steps::fit::fit_out;
-use desk_steps::fit::fit_step;
-use desk_steps::shift::Shift;
-use desk_steps::shift::shift_out;
-use desk_steps::shift::shift_step;
+use desk_reading::scan::Scan;
+use desk_reading::scan::scan_step;
+use desk_writing::fit::Fit;
+use desk_writing::fit::fit_out;
+use desk_writing::fit::fit_step;
+use desk_writing::shift::Shift;
+use desk_writing::shift::shift_out;
+use desk_writing::shift::shift_step;
 
 // The whole table, read once from the front.
 pub fn scan_pass(jobs: &[Job], s: Scan) -> Scan

@@ -10,14 +10,14 @@ use borrow.Author.Tests.{lt-ltb, le-ltb, lt-leb, le-leb}
 use Rattle.rules.specs.Limits.{mostPartitions, mostTasks, longest, partWidth, taskWidth, runWidth}
 use Rattle.rules.specs.Walk.{pick, fails, sum, Every}
 use Rattle.rules.specs.Table.{fieldAt, partitions, tasks}
-use Rattle.rules.specs.Tables.{tablesOf, unless, GoodTables}
+use Rattle.tables.specs.Tables.{tablesOf, unless, GoodTables}
 use Rattle.rules.specs.declared.Refusal.{Refusal}
 use Rattle.rules.specs.declared.Refusal.the-variants.{Limits, Partition, Task, Tick}
 use Rattle.rules.specs.declared.Finding.{Finding}
 use Rattle.rules.specs.declared.Finding.the-variants.{Good, Refused}
 use Rattle.rules.proofs.Sum.{sum-more}
 use Rattle.rules.proofs.Tests.{pick-first}
-use Rattle.rules.proofs.Chain.{not-good, lowest-good, good-lowest, counted-parts, within, unless-given, unless-good, unless-holds}
+use Rattle.tables.proofs.Chain.{not-good, lowest-good, good-lowest, counted-parts, within, unless-given, unless-good, unless-holds}
 use Rattle.file_codec.specs.Contracts.{runsCounted, firstBadRun}
 use Rattle.file_codec.specs.Runs.{runOwner, runLength, runs, repeats, reached, goodRun, runsJudged, fileTablesOf}
 

@@ -5,7 +5,7 @@ use mathlib.Core.List.{List, _++_}
 use lib.ListN.{take, drop}
 use Rattle.rules.specs.Limits.{longest, runWidth}
 use Rattle.rules.specs.Walk.{fails, first}
-use Rattle.rules.specs.Tables.{countedIn}
+use Rattle.tables.specs.Tables.{countedIn}
 use Rattle.file_codec.specs.Runs.{runs, goodRun}
 
 -- "runs 1 to 4,096", of a table of r numbers

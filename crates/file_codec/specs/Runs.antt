@@ -7,7 +7,7 @@ use lib.Dec.{ltb, leb, eqb}
 use Rattle.rules.specs.Limits.{longest, runWidth}
 use Rattle.rules.specs.Walk.{pick, sum}
 use Rattle.rules.specs.Table.{fieldAt, partitions}
-use Rattle.rules.specs.Tables.{countedIn, lowest, unless, tablesOf}
+use Rattle.tables.specs.Tables.{countedIn, lowest, unless, tablesOf}
 use Rattle.rules.specs.declared.Refusal.the-variants.{Limits, Tick}
 use Rattle.rules.specs.declared.Finding.{Finding}
 use Rattle.rules.specs.declared.Finding.the-variants.{Refused}

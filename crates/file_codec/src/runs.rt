@@ -85,7 +85,7 @@ fn judge_runs(table: &[u16], parts: usize, frame: usize) -> Finding
 pub fn runs_counted(numbers: usize) -> bool
     ensures { λ r. ⌜ r ≡ runsCounted numbers ⌝ }
 {
-    rules::judge::counted_in(1, LONGEST, RUN_WIDTH, numbers)
+    tables::counted_in(1, LONGEST, RUN_WIDTH, numbers)
 }
 
 // What tells against a frame and three tables: 3, 6, 7 and 8.
@@ -95,7 +95,7 @@ pub fn judge_file(frame: usize, parts: &[u16], tasks: &[u16], runs: &[u16]) -> F
     if !runs_counted(runs.len()) {
         return Finding::Refused(Refusal::Limits);
     }
-    let tables = rules::judge::judge_tables(frame, parts, tasks);
+    let tables = tables::judge_tables(frame, parts, tasks);
     match tables {
         Finding::Refused(r) => Finding::Refused(r),
         Finding::Good => judge_runs(runs, rules::records::partitions(parts), frame),

@@ -10,10 +10,10 @@ use borrow.Author.Tests.{lt-ltb, le-ltb, ltb-false}
 use Rattle.rules.specs.Limits.{longest, mostPartitions, mostTasks, partWidth, taskWidth, runWidth}
 use Rattle.rules.specs.Walk.{Every}
 use Rattle.rules.specs.Table.{partitions, tasks, goodTick}
-use Rattle.rules.specs.Tables.{GoodTables}
+use Rattle.tables.specs.Tables.{GoodTables}
 use Rattle.rules.specs.declared.Refusal.the-variants.{Tick, Output}
 use Rattle.rules.proofs.Tests.{pick-second}
-use Rattle.rules.proofs.Chain.{good-lowest, without-tasks, unless-good}
+use Rattle.tables.proofs.Chain.{good-lowest, without-tasks, unless-good}
 use Rattle.rules.specs.declared.Finding.the-variants as found
 use Rattle.plan_check.specs.Check.{scanOf, planCheckOf, checkOf}
 use Rattle.file_codec.proofs.Chain.{sizes}

@@ -3,14 +3,10 @@ use Prim.Native.Nat.{ℕ, _*_, _≤_}
 use mathlib.Core.Path.{_≡_}
 use mathlib.Core.List.{List}
 use lib.ListN.{length}
-use Rattle.rules.specs.Limits.{longest, mostPartitions, mostTasks, runWidth}
-use Rattle.rules.specs.Table.{partitions, tasks}
+use Rattle.rules.specs.Limits.{longest, runWidth}
 use Rattle.plan_check.specs.Check.{scanOf, checkOf}
 use Rattle.file_runs.specs.Ticks.{ticksOf}
-
--- few enough records for a page
-abbrev pub FewRecords : List ℕ → List ℕ → Type 0
-FewRecords ps ts = (partitions ps ≤ mostPartitions) × (tasks ts ≤ mostTasks)
+use Rattle.file_page.specs.Contracts.{FewRecords}
 
 -- the tables of a file that was read: of its plan only 9 is still to be judged
 pub record Listable (frame : ℕ) (ps ts rs : List ℕ) : Type 0 where

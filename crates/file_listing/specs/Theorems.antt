@@ -9,8 +9,9 @@ use Rattle.rules.specs.Refusals.{told}
 use Rattle.rules.specs.declared.Refusal.{Refusal}
 use Rattle.rules.specs.declared.Finding.the-variants as found
 use Rattle.plan_check.specs.Check.{checkOf}
-use Rattle.task_verdict.specs.declared.Judged.the-variants as judged
-use Rattle.task_verdict.specs.Verdict.{taskOf, verdictOf}
+use Rattle.task_points.specs.declared.Judged.the-variants as judged
+use Rattle.task_points.specs.Task.{taskOf}
+use Rattle.task_verdict.specs.Verdict.{verdictOf}
 use Rattle.file_read.specs.declared.Reading.the-variants.{Contents}
 use Rattle.file_read.specs.declared.Body.the-variants.{Partitions, Tasks, Runs}
 use Rattle.file_read.specs.Reader.{readOf, tableOf}

@@ -1,7 +1,6 @@
 // The listing of a plan file: read and judged once, its plan checked once for all its tasks.
 use file_read::Reading;
 use file_read::load::load_file;
-use page::put_page;
 use rules::Filling;
 use rules::Finding;
 use rules::Refusal;
@@ -21,9 +20,8 @@ ghost use Rattle.plan_check.specs.Check.{scanOf, checkOf};
 ghost use Rattle.file_runs.specs.Ticks.{ticksOf};
 ghost use Rattle.output.specs.Put.{Put};
 ghost use Rattle.file_listing.specs.Listing.{tablesLines, listingOf, listOf, listedLeft};
-ghost use Rattle.file_listing.specs.Contracts.{FewRecords, Listable};
-
-mod page; // page.rt: the lines of a plan that serves
+ghost use Rattle.file_page.specs.Contracts.{FewRecords};
+ghost use Rattle.file_listing.specs.Contracts.{Listable};
 
 // The file's tables are judged already: of the plan only 9 is left.
 fn put_checked(frame: usize, plan: &[u16], parts: &[u16], table: &[u16], out: &mut [u8]) -> usize
@@ -36,7 +34,7 @@ fn put_checked(frame: usize, plan: &[u16], parts: &[u16], table: &[u16], out: &m
     let checked = plan_check::scan(plan, parts);
     match checked {
         Finding::Refused(r) => output::put_refusal(out, r),
-        Finding::Good => put_page(frame, plan, parts, table, out),
+        Finding::Good => file_page::put_page(frame, plan, parts, table, out),
     }
 }
 

@@ -10,11 +10,11 @@ use lib.Dec.{ltb, eqb}
 use borrow.Author.Tests.{lt-ltb, le-ltb, eq-eqb, ne-eqb, eqb-true, not-false}
 use Rattle.rules.specs.Limits.{longest, mostPartitions, mostTasks, partWidth, taskWidth, runWidth, headBytes, numberBytes}
 use Rattle.rules.specs.Walk.{pick}
-use Rattle.rules.specs.Tables.{withinLimits}
+use Rattle.tables.specs.Tables.{withinLimits}
 use Rattle.rules.specs.declared.Refusal.{Refusal}
 use Rattle.rules.specs.declared.Refusal.the-variants.{Short, Edition, Limits, Offset, Length}
 use Rattle.rules.proofs.Tests.{pick-second, and-parts}
-use Rattle.rules.proofs.Chain.{within}
+use Rattle.tables.proofs.Chain.{within}
 use Rattle.file_codec.specs.Bytes.{numsOf, part}
 use Rattle.file_codec.specs.Contracts.{runsCounted, over}
 use Rattle.file_codec.specs.Contents.{tasksAt, runsAt, sizeOf}

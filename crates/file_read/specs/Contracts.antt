@@ -5,7 +5,7 @@ use mathlib.Core.Bool.{Bool, _&&_}
 use lib.Dec.{eqb}
 use lib.ListN.{length, take}
 use Rattle.rules.specs.Limits.{longest, mostPartitions, mostTasks, partWidth, taskWidth, runWidth, headBytes}
-use Rattle.rules.specs.Tables.{withinLimits, unless}
+use Rattle.tables.specs.Tables.{withinLimits, unless}
 use Rattle.file_codec.specs.Contracts.{runsCounted, over}
 use Rattle.file_codec.specs.Runs.{fileTablesOf}
 use Rattle.file_codec.specs.Contents.{tasksAt, runsAt}

@@ -6,7 +6,7 @@ use lib.ListN.{length, getD}
 use lib.Dec.{ltb, eqb}
 use Rattle.rules.specs.Limits.{longest, partWidth, taskWidth, runWidth, headBytes}
 use Rattle.rules.specs.Walk.{pick}
-use Rattle.rules.specs.Tables.{countedIn, withinLimits, unless}
+use Rattle.tables.specs.Tables.{countedIn, withinLimits, unless}
 use Rattle.rules.specs.declared.Refusal.the-variants.{Short, Edition, Limits, Offset, Length}
 use Rattle.file_codec.specs.Bytes.{numsOf, part}
 use Rattle.file_codec.specs.Runs.{fileTablesOf}

@@ -21,7 +21,7 @@ fn counts_right(frame: usize, np: usize, nt: usize, nr: usize) -> bool
     requires { ⌜ (np < 65536) × (nt < 65536) × (nr < 65536) ⌝ }
     ensures { λ r. ⌜ r ≡ countsRight frame np nt nr ⌝ }
 {
-    if !rules::judge::within_limits(frame, PART_WIDTH * np, TASK_WIDTH * nt) {
+    if !tables::within_limits(frame, PART_WIDTH * np, TASK_WIDTH * nt) {
         return false;
     }
     file_codec::runs::runs_counted(RUN_WIDTH * nr)

@@ -10,7 +10,7 @@ use borrow.Author.Tests.{le-leb, leb-true, eq-eqb, eqb-false, ne-eqb, lt-ltb, le
 use Rattle.rules.specs.Limits.{longest}
 use Rattle.rules.specs.Walk.{pick, sum, Every}
 use Rattle.rules.specs.Table.{goodTick}
-use Rattle.rules.specs.Tables.{countedIn}
+use Rattle.tables.specs.Tables.{countedIn}
 use Rattle.rules.proofs.Tests.{and-parts}
 use Rattle.rules.proofs.Sum.{sum-mono}
 use Rattle.file_codec.specs.Runs.{runOwner, runLength, runs, repeats, reached, goodRun}

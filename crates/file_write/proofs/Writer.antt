@@ -12,7 +12,7 @@ use Rattle.rules.specs.declared.Refusal.{Refusal}
 use Rattle.rules.specs.declared.Refusal.the-variants.{Output}
 use Rattle.rules.specs.declared.Finding.the-variants as found
 use Rattle.rules.proofs.Tests.{pick-second}
-use Rattle.rules.proofs.Chain.{no-filling}
+use Rattle.rules.proofs.Answers.{no-filling}
 use Rattle.file_codec.specs.Bytes.{bytesOf}
 use Rattle.file_codec.specs.Runs.{fileTablesOf}
 use Rattle.file_codec.specs.Contents.{tasksAt, runsAt, contents}

@@ -4,7 +4,7 @@ use mathlib.Core.List.{List, _++_}
 use lib.ListN.{length}
 use lib.Dec.{ltb}
 use Rattle.rules.specs.Walk.{pick}
-use Rattle.rules.specs.Tables.{unless}
+use Rattle.tables.specs.Tables.{unless}
 use Rattle.rules.specs.Filling.{leftBy}
 use Rattle.rules.specs.declared.Refusal.the-variants.{Output}
 use Rattle.file_codec.specs.Bytes.{bytesOf}

@@ -13,10 +13,10 @@ use borrow.Author.Tests.{eq-eqb, le-ltb, le-leb, ltb-true, not-false}
 use Rattle.rules.specs.Walk.{pick, fails}
 use Rattle.rules.specs.Limits.{longest}
 use Rattle.rules.specs.Table.{cycle, partitions}
-use Rattle.rules.specs.Tables.{GoodTables}
+use Rattle.tables.specs.Tables.{GoodTables}
 use Rattle.rules.specs.declared.Refusal.the-variants.{Unharmonic, Want, Output}
 use Rattle.rules.proofs.First.{first-none, some-none}
-use Rattle.rules.proofs.Chain.{good-exactly, unless-given, other-frame}
+use Rattle.tables.proofs.Chain.{good-exactly, unless-given, other-frame}
 use Rattle.rules.proofs.Sum.{le-or-lt}
 use Rattle.rules.proofs.Tests.{pick-second}
 use Rattle.theory.specs.Plan.{own}

@@ -1,4 +1,3 @@
 pub mod Sizes
-pub mod Passes
 pub mod Orders
 pub mod Answers

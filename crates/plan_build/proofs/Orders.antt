@@ -9,17 +9,18 @@ use borrow.Author.Tests.{lt-ltb, le-ltb, ltb-false}
 use native.Mathlib.Omega.{arith}
 use Rattle.rules.specs.Limits.{longest, mostPartitions}
 use Rattle.rules.specs.Table.{partitions, cycle, num, den}
-use Rattle.rules.specs.Tables.{tablesOf, GoodTables}
+use Rattle.tables.specs.Tables.{tablesOf, GoodTables}
 use Rattle.rules.specs.declared.Finding.the-variants as found
 use Rattle.rules.specs.declared.Refusal.{Refusal}
 use Rattle.rules.specs.declared.Refusal.the-variants.{Limits, Partition, Task, Unharmonic, Want, Output}
-use Rattle.rules.proofs.Chain.{within, good-exactly, unless-given}
+use Rattle.tables.proofs.Chain.{within, good-exactly, unless-given}
 use Rattle.rules.proofs.Tests.{pick-second, good-share}
+use Rattle.rules.proofs.Answers.{no-filling}
 use Rattle.theory.specs.Harmonic.{frame, allWanted}
 use Rattle.rules.specs.declared.Filling.{Filling}
 use Rattle.rules.specs.declared.Filling.the-variants.{Fills, Refused}
 use Rattle.plan_build.specs.Build.{unharmonic, laidOf, buildOf}
-use Rattle.plan_build.specs.Contracts.{Layable}
+use Rattle.plan_lay.specs.Contracts.{Layable}
 
 -- how many records a good table has
 pub counted-few : (ps ts : List ℕ) → GoodTables longest ps ts → (1 ≤ partitions ps) × (partitions ps ≤ mostPartitions)
@@ -63,17 +64,14 @@ pub record Laid (ps : List ℕ) (room h : ℕ) : Type 0 where
   pub is-frame : h ≡ frame ps
   pub fits : h ≤ room
 
-no-frame : (r : Refusal) (h : ℕ) → ¬ (_≡_ {A = Filling} (Refused r) (Fills h))
-no-frame r h e = let z : _≡_ {A = ℕ} 0 1 = cc in absurd (omega arith)
-
 module _ (ps : List ℕ) (room : ℕ) where
   pub laid : (h : ℕ) → buildOf ps room ≡ Fills h → Laid ps room h
   unfolding buildOf laidOf
   laid h e =
-      let a = unless-given longest ps [] Refused (laidOf ps room) (Fills h) (no-frame Limits h) (λ k. no-frame (Partition k) h) (λ j. no-frame (Task j) h) e in
-      let d = pick-second (unharmonic ps) _ _ (Fills h) (no-frame _ h) (a .1) in
-      let w = pick-second (ltb (frame ps) (allWanted ps (frame ps))) _ _ (Fills h) (no-frame _ h) (d .1) in
-      let o = pick-second (ltb room (frame ps)) _ _ (Fills h) (no-frame _ h) (w .1) in
+      let a = unless-given longest ps [] Refused (laidOf ps room) (Fills h) (no-filling h Limits) (λ k. no-filling h (Partition k)) (λ j. no-filling h (Task j)) e in
+      let d = pick-second (unharmonic ps) _ _ (Fills h) (no-filling h _) (a .1) in
+      let w = pick-second (ltb (frame ps) (allWanted ps (frame ps))) _ _ (Fills h) (no-filling h _) (d .1) in
+      let o = pick-second (ltb room (frame ps)) _ _ (Fills h) (no-filling h _) (w .1) in
       let eh : h ≡ frame ps = cc (o .1) in
       record {
         good = a .0;

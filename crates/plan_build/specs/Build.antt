@@ -6,7 +6,7 @@ use lib.Dec.{ltb}
 use Rattle.rules.specs.Walk.{pick, fails, some}
 use Rattle.rules.specs.Limits.{longest}
 use Rattle.rules.specs.Table.{partitions}
-use Rattle.rules.specs.Tables.{tablesOf, unless}
+use Rattle.tables.specs.Tables.{tablesOf, unless}
 use Rattle.rules.specs.declared.Refusal.the-variants.{Unharmonic, Want, Output}
 use Rattle.theory.specs.Harmonic.{pairs, frame, allWanted}
 use Rattle.rules.specs.declared.Filling.{Filling}

@@ -1,34 +1,10 @@
 -- Words that only inner contracts use: no statement and no entry's contract cites them. Assumes nothing.
-use Prim.Native.Nat.{ℕ, _≤_, _<_}
-use mathlib.Core.Path.{_≡_}
-use mathlib.Core.Bool.{Bool, _&&_}
+use Prim.Native.Nat.{ℕ}
+use mathlib.Core.Bool.{Bool}
 use mathlib.Core.List.{List}
-use lib.Dec.{eqb, ltb}
-use lib.ListN.{length, getD}
-use Rattle.rules.specs.Walk.{pick, fails, some}
-use Rattle.rules.specs.Limits.{mostPartitions}
-use Rattle.rules.specs.Table.{partitions, cycle}
+use Rattle.rules.specs.Walk.{fails, some}
 use Rattle.theory.specs.Harmonic.{pairs}
 
 -- some place before k whose cycle doesn't pair with place k's
 abbrev pub clashes : List ℕ → ℕ → Bool
 clashes ps k = some (fails (pairs ps k)) k
-
--- tick t of an output
-abbrev pub tickOf : List ℕ → ℕ → ℕ
-tickOf l t = getD l t 0
-
--- what a tick of owner o becomes when p is given its q, where `seen` idle ticks lie before it in its cycle
-abbrev pub givenTick : ℕ → ℕ → ℕ → ℕ → ℕ
-givenTick p q seen o = pick (eqb o 0 && ltb seen q) p o
-
--- what a pass leaves: the first h ticks are as o names them, the others as they were
-pub record AsNamed (o : ℕ → ℕ) (h : ℕ) (before after : List ℕ) : Type 0 where
-  pub as-long : length after ≡ length before
-  pub done : (t : ℕ) → t < h → tickOf after t ≡ o t
-  pub rest : (t : ℕ) → h ≤ t → tickOf after t ≡ tickOf before t
-
--- a table that the passes can lay out
-pub record Layable (ps : List ℕ) : Type 0 where
-  pub few : partitions ps ≤ mostPartitions
-  pub cycles : (k : ℕ) → k < partitions ps → 0 < cycle ps k

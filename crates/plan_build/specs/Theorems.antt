@@ -5,7 +5,7 @@ use mathlib.Core.Logic.{_↔_}
 use mathlib.Core.List.{List, []}
 use lib.ListN.{length, take}
 use Rattle.rules.specs.Limits.{longest}
-use Rattle.rules.specs.Tables.{GoodTables}
+use Rattle.tables.specs.Tables.{GoodTables}
 use Rattle.rules.specs.declared.Refusal.the-variants.{Unharmonic, Want}
 use Rattle.rules.specs.Filling.{leftBy}
 use Rattle.theory.specs.Plan.{Rule, Serves}

@@ -6,7 +6,6 @@ use rules::limits::LONGEST;
 use table::all_wanted;
 use table::frame;
 use table::unharmonic;
-use ticks::lay;
 ghost use mathlib.Core.Path.{_≡_};
 ghost use Prim.Native.Nat.{_≤_};
 ghost use lib.ListN.{length};
@@ -16,9 +15,7 @@ ghost use Rattle.plan_build.specs.Build.{laidOf, buildOf};
 ghost use Rattle.rules.specs.Filling.{leftBy};
 ghost use Rattle.theory.specs.Harmonic.{harmonicPlan};
 
-mod order; // order.rt: by rising cycle, equal cycles by place
 mod table; // table.rt: what a table asks for
-mod ticks; // ticks.rt: the plan laid into the output, turn by turn
 
 // The answer for a good table and an output of so many ticks.
 fn lay_answer(parts: &[u16], room: usize) -> Filling
@@ -42,7 +39,7 @@ fn lay_answer(parts: &[u16], room: usize) -> Filling
 fn build_answer(parts: &[u16], room: usize) -> Filling
     ensures { λ r. ⌜ r ≡ buildOf (now (parts .entry)) room ⌝ }
 {
-    let tables = rules::judge::judge_partitions(LONGEST, parts);
+    let tables = tables::judge_partitions(LONGEST, parts);
     match tables {
         Finding::Refused(r) => Filling::Refused(r),
         Finding::Good => lay_answer(parts, room),
@@ -57,7 +54,7 @@ pub fn build(parts: &[u16], out: &mut [u16]) -> Filling
     let built = build_answer(parts, out.len());
     match built {
         Filling::Fills(h) => {
-            lay(parts, out, h);
+            plan_lay::lay(parts, out, h);
             Filling::Fills(h)
         }
         Filling::Refused(r) => Filling::Refused(r),

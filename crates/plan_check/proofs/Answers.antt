@@ -9,13 +9,13 @@ use borrow.Author.Tests.{le-ltb, ltb-true, ltb-false}
 use native.Mathlib.Omega.{arith}
 use Rattle.rules.specs.Walk.{Every}
 use Rattle.rules.specs.Table.{partitions, cycle, wanted, goodTick}
-use Rattle.rules.specs.Tables.{GoodTables}
+use Rattle.tables.specs.Tables.{GoodTables}
 use Rattle.rules.specs.declared.Finding.{Finding}
 use Rattle.rules.specs.declared.Finding.the-variants.{Good, Refused}
 use Rattle.rules.specs.declared.Refusal.the-variants.{Limits, Partition, Task, Tick, Shortfall}
 use Rattle.rules.proofs.First.{first-none, first-past, first-before, first-at}
 use Rattle.rules.proofs.Tests.{pick-first, pick-second}
-use Rattle.rules.proofs.Chain.{not-good, lowest-none, good-lowest, within, unless-given, unless-good}
+use Rattle.tables.proofs.Chain.{not-good, lowest-none, good-lowest, within, unless-given, unless-good}
 use Rattle.theory.specs.Plan.{own, held, Serves}
 use Rattle.theory.proofs.Plan.{serves-in-frame}
 use Rattle.plan_check.specs.Check.{shortAt, scanOf, planCheckOf, checkOf}

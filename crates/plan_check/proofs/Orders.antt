@@ -8,8 +8,8 @@ use borrow.Author.Tests.{lt-ltb, le-ltb}
 use native.Mathlib.Omega.{arith}
 use Rattle.rules.specs.Walk.{first, some}
 use Rattle.rules.specs.Table.{partitions, cycle, wanted}
-use Rattle.rules.specs.Contracts.{firstBadTick}
-use Rattle.rules.specs.Tables.{tablesOf}
+use Rattle.tables.specs.Contracts.{firstBadTick}
+use Rattle.tables.specs.Tables.{tablesOf}
 use Rattle.rules.specs.declared.Finding.{Finding}
 use Rattle.rules.specs.declared.Finding.the-variants.{Good, Refused}
 use Rattle.rules.specs.declared.Refusal.{Refusal}

@@ -6,7 +6,7 @@ use lib.ListN.{length}
 use lib.Dec.{ltb}
 use Rattle.rules.specs.Walk.{pick, first, some}
 use Rattle.rules.specs.Table.{partitions, cycle, wanted, goodTick}
-use Rattle.rules.specs.Tables.{lowest, unless, tablesOf}
+use Rattle.tables.specs.Tables.{lowest, unless, tablesOf}
 use Rattle.rules.specs.declared.Finding.{Finding}
 use Rattle.rules.specs.declared.Finding.the-variants.{Good, Refused}
 use Rattle.rules.specs.declared.Refusal.the-variants.{Tick, Shortfall}

@@ -39,7 +39,7 @@ pub fn scan(plan: &[u16], parts: &[u16]) -> Finding
 pub fn check_plan(plan: &[u16], parts: &[u16]) -> Finding
     ensures { λ r. ⌜ r ≡ planCheckOf (now (plan .entry)) (now (parts .entry)) ⌝ }
 {
-    let t = rules::judge::first_bad_tick(plan, rules::records::partitions(parts));
+    let t = tables::first_bad_tick(plan, rules::records::partitions(parts));
     if t < plan.len() {
         return Finding::Refused(Refusal::Tick(t + 1));
     }
@@ -50,7 +50,7 @@ pub fn check_plan(plan: &[u16], parts: &[u16]) -> Finding
 pub fn check(plan: &[u16], parts: &[u16]) -> Finding
     ensures { λ r. ⌜ r ≡ checkOf (now (plan .entry)) (now (parts .entry)) ⌝ }
 {
-    let tables = rules::judge::judge_partitions(plan.len(), parts);
+    let tables = tables::judge_partitions(plan.len(), parts);
     match tables {
         Finding::Refused(r) => Finding::Refused(r),
         Finding::Good => check_plan(plan, parts),

@@ -3,4 +3,4 @@ pub mod Sum
 pub mod Least
 pub mod Round
 pub mod Tests
-pub mod Chain
+pub mod Answers

@@ -2,7 +2,6 @@
 ghost use mathlib.Core.Path.{_≡_};
 ghost use Rattle.rules.specs.Refusals.{told, placed};
 
-pub mod judge; // judge.rt: limits, good records, the chain of table refusals
 pub mod limits; // limits.rt: every limit and width by name
 pub mod numbers; // numbers.rt: what numbers need everywhere
 pub mod records; // records.rt: the tables behind accessors, and ticks wanted

@@ -9,10 +9,11 @@ use lib.Seq.{sets, sets-eq, take-at}
 use lib.Dec.{eqb}
 use Rattle.rules.specs.Walk.{pick}
 use Rattle.rules.specs.Limits.{mostPartitions, mostTasks, longest, partWidth, taskWidth, runWidth}
-use Rattle.rules.specs.Tables.{GoodTables}
+use Rattle.tables.specs.Tables.{GoodTables}
 use Rattle.rules.specs.declared.Refusal.{Refusal}
 use Rattle.rules.specs.declared.Refusal.the-variants.{Limits, Partition, Task}
-use Rattle.rules.proofs.Chain.{unless-given, no-filling}
+use Rattle.rules.proofs.Answers.{no-filling}
+use Rattle.tables.proofs.Chain.{unless-given}
 use Rattle.theory.specs.Harmonic.{frame, harmonicPlan}
 use Rattle.theory.proofs.Harmonic.{ticks-length}
 use Rattle.rules.specs.declared.Filling.{Filling}

@@ -6,8 +6,8 @@ use lib.ListN.{length, drop, replicate, length-replicate}
 use lib.Seq.{take-at}
 use Rattle.rules.specs.Limits.{longest}
 use Rattle.rules.specs.Table.{partitions}
-use Rattle.rules.specs.Tables.{GoodTables}
-use Rattle.rules.proofs.Chain.{other-frame, without-tasks, unless-good}
+use Rattle.tables.specs.Tables.{GoodTables}
+use Rattle.tables.proofs.Chain.{other-frame, without-tasks, unless-good}
 use Rattle.file_codec.proofs.Chain.{GoodFile, of-good}
 use Rattle.theory.specs.Harmonic.{Harmonic, frame, allWanted, planned, harmonicPlan}
 use Rattle.theory.proofs.Harmonic.{ticks-length}

@@ -2,7 +2,7 @@
 use Prim.Native.Nat.{ℕ, _*_}
 use mathlib.Core.List.{List, _++_}
 use Rattle.rules.specs.Limits.{mostPartitions, mostTasks, longest, partWidth, taskWidth}
-use Rattle.rules.specs.Tables.{tablesOf, unless}
+use Rattle.tables.specs.Tables.{tablesOf, unless}
 use Rattle.theory.specs.Harmonic.{frame, harmonicPlan}
 use Rattle.rules.specs.declared.Filling.{Filling}
 use Rattle.rules.specs.declared.Filling.the-variants as filling

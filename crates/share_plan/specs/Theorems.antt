@@ -6,7 +6,7 @@ use mathlib.Core.List.{List}
 use lib.ListN.{length}
 use Rattle.rules.specs.Limits.{longest}
 use Rattle.rules.specs.Table.{partitions, tasks}
-use Rattle.rules.specs.Tables.{GoodTables}
+use Rattle.tables.specs.Tables.{GoodTables}
 use Rattle.theory.specs.Harmonic.{Harmonic, frame, allWanted, harmonicPlan}
 use Rattle.rules.specs.declared.Finding.the-variants.{Good}
 use Rattle.plan_check.specs.Check.{checkOf}

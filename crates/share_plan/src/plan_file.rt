@@ -51,7 +51,7 @@ fn write_plan(parts: &[u16], tasks: &[u16], out: &mut [u8]) -> Filling
         × (now (out .exit) ≡ leftBy r (planFile (now (parts .entry)) (now (tasks .entry))) (now (out .entry)))
         ⌝ }
 {
-    let judged = rules::judge::judge_tables(LONGEST, parts, tasks);
+    let judged = tables::judge_tables(LONGEST, parts, tasks);
     match judged {
         Finding::Good => write_built(parts, tasks, out),
         Finding::Refused(r) => Filling::Refused(r),

@@ -9,10 +9,10 @@ use lib.ListN.{length}
 use borrow.Author.Tests.{le-leb, lt-leb, leb-true, leb-false}
 use Rattle.rules.specs.Walk.{pick}
 use Rattle.rules.specs.Table.{partitions, tasks, deadline}
-use Rattle.rules.specs.Tables.{unless, GoodTables}
+use Rattle.tables.specs.Tables.{unless, GoodTables}
 use Rattle.rules.specs.declared.Refusal.{Refusal}
 use Rattle.rules.specs.declared.Refusal.the-variants.{Limits, Partition, Task}
-use Rattle.rules.proofs.Chain.{without-tasks, unless-given, unless-good}
+use Rattle.tables.proofs.Chain.{without-tasks, unless-given, unless-good}
 use Rattle.rules.proofs.Tests.{pick-first, pick-second, and-parts}
 use Rattle.theory.specs.Plan.{own}
 use Rattle.theory.specs.Task.{taskLoad, TaskPasses, taskPoint}
@@ -22,9 +22,10 @@ use Rattle.rules.specs.declared.Finding.{Finding}
 use Rattle.rules.specs.declared.Finding.the-variants as found
 use Rattle.plan_check.specs.Check.{planCheckOf, checkOf}
 use Rattle.plan_check.proofs.Answers.{frame-some}
-use Rattle.task_verdict.specs.declared.Judged.{Judged}
-use Rattle.task_verdict.specs.declared.Judged.the-variants.{Pass, Fail, Refused}
-use Rattle.task_verdict.specs.Verdict.{taskOf, placeOf, verdictOf}
+use Rattle.task_points.specs.declared.Judged.{Judged}
+use Rattle.task_points.specs.declared.Judged.the-variants.{Pass, Fail, Refused}
+use Rattle.task_points.specs.Task.{taskOf}
+use Rattle.task_verdict.specs.Verdict.{placeOf, verdictOf}
 use Rattle.task_verdict.specs.Theorems.{Answered, AnsweredExactly, PassExactly, FailExactly, PassPoint, EndsInTime, EndsInTimeForEver, VerdictOne, Proved}
 use Rattle.theory.specs.Contracts.{leastFor}
 

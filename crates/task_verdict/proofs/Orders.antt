@@ -6,15 +6,16 @@ use lib.ListN.{length}
 use borrow.Author.Tests.{lt-leb, le-leb}
 use Rattle.rules.specs.Limits.{mostTasks}
 use Rattle.rules.specs.Table.{tasks}
-use Rattle.rules.specs.Tables.{tablesOf}
+use Rattle.tables.specs.Tables.{tablesOf}
 use Rattle.rules.specs.declared.Refusal.{Refusal}
 use Rattle.rules.specs.declared.Refusal.the-variants.{Task}
-use Rattle.rules.proofs.Chain.{within, good-exactly}
+use Rattle.tables.proofs.Chain.{within, good-exactly}
 use Rattle.rules.specs.declared.Finding.the-variants as found
 use Rattle.plan_check.specs.Check.{planCheckOf}
-use Rattle.task_verdict.specs.declared.Judged.{Judged}
-use Rattle.task_verdict.specs.declared.Judged.the-variants.{Refused}
-use Rattle.task_verdict.specs.Verdict.{taskOf, placeOf, verdictOf}
+use Rattle.task_points.specs.declared.Judged.{Judged}
+use Rattle.task_points.specs.declared.Judged.the-variants.{Refused}
+use Rattle.task_points.specs.Task.{taskOf}
+use Rattle.task_verdict.specs.Verdict.{placeOf, verdictOf}
 
 pub few-tasks : (frame : ℕ) (ps ts : List ℕ) → tablesOf frame ps ts ≡ found.Good → tasks ts ≤ mostTasks
 few-tasks frame ps ts e = within frame (length ps) (length ts) (good-exactly frame ps ts .0 e .limits) .few-tasks

@@ -6,15 +6,15 @@ use mathlib.Core.Bool.{true}
 use mathlib.Core.List.{List}
 use lib.ListN.{length}
 use Rattle.rules.specs.Table.{partition, tasks, deadline}
-use Rattle.rules.specs.Tables.{GoodTables}
+use Rattle.tables.specs.Tables.{GoodTables}
 use Rattle.theory.specs.Plan.{own, least}
 use Rattle.theory.specs.Run.{Ran, done, LegalTo, Legal}
 use Rattle.theory.specs.Load.{demand, point}
 use Rattle.theory.specs.Task.{taskLoad, TaskPasses}
 use Rattle.rules.specs.declared.Finding.the-variants as found
 use Rattle.plan_check.specs.Check.{checkOf}
-use Rattle.task_verdict.specs.declared.Judged.{Judged}
-use Rattle.task_verdict.specs.declared.Judged.the-variants.{Pass, Fail, Refused}
+use Rattle.task_points.specs.declared.Judged.{Judged}
+use Rattle.task_points.specs.declared.Judged.the-variants.{Pass, Fail, Refused}
 use Rattle.task_verdict.specs.Verdict.{verdictOf}
 
 -- nothing is refused: the plan is accepted, the tables are good, and the place is in the table

@@ -5,20 +5,13 @@ use mathlib.Core.Bool.{_&&_}
 use lib.ListN.{length}
 use lib.Dec.{leb}
 use Rattle.rules.specs.Walk.{pick}
-use Rattle.rules.specs.Table.{tasks, deadline}
-use Rattle.rules.specs.Tables.{tablesOf, unless}
+use Rattle.rules.specs.Table.{tasks}
+use Rattle.tables.specs.Tables.{tablesOf, unless}
 use Rattle.rules.specs.declared.Refusal.the-variants.{Task}
-use Rattle.theory.specs.Plan.{own}
-use Rattle.theory.specs.Task.{taskPoint}
 use Rattle.plan_check.specs.Check.{planCheckOf}
-use Rattle.task_verdict.specs.declared.Judged.{Judged}
-use Rattle.task_verdict.specs.declared.Judged.the-variants.{Pass, Fail, Refused}
-
--- "A pass reports the smallest scheduling point that holds", of the task at place i from 0
-unfoldable pub taskOf : List ℕ → List ℕ → ℕ → Judged
-taskOf plan ts i =
-    let t = taskPoint own plan ts i in
-    pick (leb t (deadline ts i)) (Pass t) Fail
+use Rattle.task_points.specs.declared.Judged.{Judged}
+use Rattle.task_points.specs.declared.Judged.the-variants.{Refused}
+use Rattle.task_points.specs.Task.{taskOf}
 
 -- "a place outside the table is 7 with place 0, after the other 7s"; then 8 and 9, then the task's own answer
 unfoldable pub placeOf : List ℕ → List ℕ → List ℕ → ℕ → Judged

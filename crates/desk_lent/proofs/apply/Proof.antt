@@ -43,18 +43,18 @@ use denote.Triple.Clauses.{ensured, lasts}
 use denote.Triple.Table.{entered, cited}
 use denote.Triple.Walked.{says, Stays, stay-none, stay-slice, walkOf, goes-none, goes-slice, Walks, ends-at, walked, walk-meets}
 use denote.Exit.{yes}
-use Rattle.desk_steps.specs.Folds.{movedUp}
-use Rattle.desk_steps.specs.Writing.{shifted, fittedAll}
+use Rattle.desk_records.specs.Folds.{movedUp}
+use Rattle.desk_writing.specs.Writing.{shifted, fittedAll}
 use Rattle.desk_engine.specs.Deciding.{applied}
 use Rattle.desk.specs.declared.Job.{Job}
-use Rattle.desk_steps.specs.declared.shift.Shift.{Shift}
-use Rattle.desk_steps.specs.declared.fit.Fit.{Fit}
+use Rattle.desk_writing.specs.declared.shift.Shift.{Shift}
+use Rattle.desk_writing.specs.declared.fit.Fit.{Fit}
 use Rattle.desk_engine.specs.declared.effect.Effect.{Effect}
 use Rattle.desk.proofs.Job as J
-use Rattle.desk_steps.proofs.shift.Shift as Sh
-use Rattle.desk_steps.proofs.shift.Shift.Laws as Sh′
-use Rattle.desk_steps.proofs.fit.Fit as B
-use Rattle.desk_steps.proofs.fit.Fit.Laws as B′
+use Rattle.desk_writing.proofs.shift.Shift as Sh
+use Rattle.desk_writing.proofs.shift.Shift.Laws as Sh′
+use Rattle.desk_writing.proofs.fit.Fit as B
+use Rattle.desk_writing.proofs.fit.Fit.Laws as B′
 use Rattle.desk_engine.proofs.effect.Effect as S
 use Rattle.desk_engine.proofs.effect.Effect.Laws as S′
 use Rattle.desk_engine.proofs.effect.drop_of as drop_of

@@ -50,9 +50,10 @@ use Rattle.desk.proofs.Answer as N
 use Rattle.desk.proofs.Answer.Laws as N′
 use Rattle.desk.specs.declared.Desk.{Desk}
 use Rattle.desk.specs.declared.Ask.{Ask}
-use Rattle.desk_engine.specs.declared.scan.Scan.{Scan}
+use Rattle.desk_reading.specs.declared.scan.Scan.{Scan}
 use Rattle.desk_engine.specs.declared.effect.Effect.{Effect}
-use Rattle.desk_engine.specs.Scanning.{scanned, scanFor}
+use Rattle.desk_reading.specs.Reading.{scanned}
+use Rattle.desk_engine.specs.Beginning.{scanFor}
 use Rattle.desk_engine.specs.Deciding.{effectOf, applied}
 use Rattle.desk_lent.proofs.Parts.{tellS, isS, tellP, isP, dmach, tellD, isD, ServeC, to-serve, goes-serve, DeskC, to-desk, goes-desk, said-desk, AnswerC, to-answer, goes-answer, said-answer}
 use Rattle.desk_engine.proofs.Whole.{Made, call-law}
@@ -60,14 +61,14 @@ use Rattle.desk.proofs.Desk as D
 use Rattle.desk.proofs.Desk.Laws as D′
 use Rattle.desk.proofs.Ask as K
 use Rattle.desk.proofs.Ask.Laws as K′
-use Rattle.desk_engine.proofs.scan.Scan as S
-use Rattle.desk_engine.proofs.scan.Scan.Laws as S′
+use Rattle.desk_reading.proofs.scan.Scan as S
+use Rattle.desk_reading.proofs.scan.Scan.Laws as S′
 use Rattle.desk_engine.proofs.effect.Effect as P
 use Rattle.desk_engine.proofs.effect.Effect.Laws as P′
-use Rattle.desk_engine.proofs.scan.scan_for as start
-use Rattle.desk_engine.proofs.scan.scan_for.Symbol as start-def
-use Rattle.desk_engine.proofs.scan.scan_for.Symbol.{name as #desk-engine·scan-for}
-use Rattle.desk_engine.proofs.scan.scan_for.Met as start-thm
+use Rattle.desk_engine.proofs.begin.scan_for as start
+use Rattle.desk_engine.proofs.begin.scan_for.Symbol as start-def
+use Rattle.desk_engine.proofs.begin.scan_for.Symbol.{name as #desk-engine·scan-for}
+use Rattle.desk_engine.proofs.begin.scan_for.Met as start-thm
 use Rattle.desk_lent.proofs.serve as serve
 use Rattle.desk_lent.proofs.serve.Symbol as serve-def
 use Rattle.desk_lent.proofs.serve.Symbol.{name as #desk-lent·serve}
@@ -217,7 +218,7 @@ call-spec 𝓤 H 𝓜 𝓖 𝓡 =
     entered 𝓤 H (tripleOf 𝓤 H (𝓖 .A) f.signature (f.spec 𝓤 H (𝓖 .A) (𝓜 .mem) (𝓡 .run)))
     (tables 𝓤 H 𝓜 𝓡 code.env .C) (tables 𝓤 H 𝓜 𝓡 code.env .Λ) #desk-lent·call code.function (code.unfolded 𝓤 H 𝓜 𝓡)
     (call-meets 𝓤 H (𝓖 .A) (givenOf 𝓤 H 𝓜 𝓖) (𝓜 .mem) (𝓡 .run) (tablesOf 𝓤 H 𝓜 (tables 𝓤 H 𝓜 𝓡 code.env))
-    (cited 𝓤 H (StartC 𝓤 H (𝓖 .A) (𝓜 .mem) (𝓡 .run)) 𝓜 𝓡 code.env #desk-engine·scan-for start-def.routine code.calls-desk-engine·scan·scan-for (start-thm.met 𝓤 H 𝓜 𝓖 𝓡))
+    (cited 𝓤 H (StartC 𝓤 H (𝓖 .A) (𝓜 .mem) (𝓡 .run)) 𝓜 𝓡 code.env #desk-engine·scan-for start-def.routine code.calls-desk-engine·begin·scan-for (start-thm.met 𝓤 H 𝓜 𝓖 𝓡))
     (cited 𝓤 H (ServeC 𝓤 H (𝓖 .A) (𝓜 .mem) (𝓡 .run)) 𝓜 𝓡 code.env #desk-lent·serve serve-def.routine code.calls-desk-lent·serve (serve-thm.met 𝓤 H 𝓜 𝓖 𝓡))
     (cited 𝓤 H (DeskC 𝓤 H (𝓖 .A) (𝓜 .mem) (𝓡 .run)) 𝓜 𝓡 code.env #desk-engine·desk-of desk-of-def.routine code.calls-desk-engine·effect·desk-of (desk-of-thm.met 𝓤 H 𝓜 𝓖 𝓡))
     (cited 𝓤 H (AnswerC 𝓤 H (𝓖 .A) (𝓜 .mem) (𝓡 .run)) 𝓜 𝓡 code.env #desk-engine·answer-of answer-of-def.routine code.calls-desk-engine·effect·answer-of (answer-of-thm.met 𝓤 H 𝓜 𝓖 𝓡)))

@@ -44,14 +44,14 @@ use denote.Triple.Clauses.{ensured, lasts}
 use denote.Triple.Table.{entered, cited}
 use denote.Triple.Walked.{says, Stays, stay-none, gave-slice, walkOf, goes-none, goes-gave-slice, Walks, ends-at, walked, walk-meets}
 use denote.Exit.{yes}
-use Rattle.desk_engine.specs.Scanning.{scanned}
+use Rattle.desk_reading.specs.Reading.{scanned}
 use Rattle.desk_engine.specs.Deciding.{effectOf, applied}
 use Rattle.desk.specs.declared.Job.{Job}
-use Rattle.desk_engine.specs.declared.scan.Scan.{Scan}
+use Rattle.desk_reading.specs.declared.scan.Scan.{Scan}
 use Rattle.desk_engine.specs.declared.effect.Effect.{Effect}
 use Rattle.desk.proofs.Job as J
-use Rattle.desk_engine.proofs.scan.Scan as S
-use Rattle.desk_engine.proofs.scan.Scan.Laws as S′
+use Rattle.desk_reading.proofs.scan.Scan as S
+use Rattle.desk_reading.proofs.scan.Scan.Laws as S′
 use Rattle.desk_engine.proofs.effect.Effect as P
 use Rattle.desk_engine.proofs.effect.Effect.Laws as P′
 use Rattle.desk_walks.proofs.scan_pass as scan

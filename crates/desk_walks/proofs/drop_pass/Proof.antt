@@ -44,7 +44,7 @@ use denote.Triple.Walked.{says, Stays, stay-none, stay-slice, walkOf, goes-none,
 use denote.Exit.{yes}
 use borrow.Author.Tests.{ltb-true, ltb-false}
 use Rattle.desk.specs.Table.{none}
-use Rattle.desk_steps.specs.Folds.{movedUp}
+use Rattle.desk_records.specs.Folds.{movedUp}
 use Rattle.desk.specs.declared.Job.{Job}
 use Rattle.desk_walks.proofs.Up.{byte-fits, ahead-start, ahead-up, ahead-nearer, ahead-one, ahead-zero, behind, next-fits}
 use Rattle.desk_walks.proofs.Along.{moveAt, moveAt-zero, moveAt-length, moveAt-more, moveAt-read, moveAt-end}

@@ -45,21 +45,21 @@ use denote.Triple.Walked.{says, Stays, stay-none, stay-none-slice, walkOf, goes-
 use denote.Exit.{yes}
 use borrow.Author.Tests.{ltb-true, ltb-false}
 use Rattle.desk.specs.Table.{none}
-use Rattle.desk_steps.specs.Folds.{fold}
-use Rattle.desk_engine.specs.Scanning.{scanStep, scanned}
+use Rattle.desk_records.specs.Folds.{fold}
+use Rattle.desk_reading.specs.Reading.{scanStep, scanned}
 use Rattle.desk.specs.declared.Job.{Job}
-use Rattle.desk_engine.specs.declared.scan.Scan.{Scan}
+use Rattle.desk_reading.specs.declared.scan.Scan.{Scan}
 use borrow.Author.Count.{falls}
 use Rattle.desk_walks.proofs.Up.{byte-fits, up, fits-of, at-end}
 use Rattle.desk_walks.proofs.Along.{fold-zero, fold-end, fold-more}
 use Rattle.desk.proofs.Job as J
 use Rattle.desk.proofs.Job.Laws as J′
-use Rattle.desk_engine.proofs.scan.Scan as S
-use Rattle.desk_engine.proofs.scan.Scan.Laws as S′
-use Rattle.desk_engine.proofs.scan.scan_step as step
-use Rattle.desk_engine.proofs.scan.scan_step.Symbol as step-def
-use Rattle.desk_engine.proofs.scan.scan_step.Symbol.{name as #desk-engine·scan_step}
-use Rattle.desk_engine.proofs.scan.scan_step.Met as step-thm
+use Rattle.desk_reading.proofs.scan.Scan as S
+use Rattle.desk_reading.proofs.scan.Scan.Laws as S′
+use Rattle.desk_reading.proofs.scan.scan_step as step
+use Rattle.desk_reading.proofs.scan.scan_step.Symbol as step-def
+use Rattle.desk_reading.proofs.scan.scan_step.Symbol.{name as #desk-reading·scan_step}
+use Rattle.desk_reading.proofs.scan.scan_step.Met as step-thm
 use Rattle.desk_walks.proofs.scan_pass.Key.{name as #desk-walks·scan_pass}
 use Rattle.desk_walks.proofs.scan_pass as f
 use Rattle.desk_walks.proofs.scan_pass.Statement as stated
@@ -146,7 +146,7 @@ module _ {M : Type 1} (𝓤 : URA M) (H : Heap 𝓤) (A : Atoms 𝓤) (W : Given
   one-more : (i : ℕ) → i < n → scanStep (st i) (getD ys i none) ≡ st (i + 1)
   one-more i h = fold-more scanStep s ys i h
 
-  module _ (𝓣 : Tables 𝓤 H) (fm : FmC 𝓤 H (W .laws) (𝓣 .C)) (known : Triple 𝓤 (𝓣 .C #desk-engine·scan_step) (StepC 𝓤 H A mem run)) (l₀ l₁ l₂ l₃ l₄ l₅ l₆ l₇ l₈ l₉ : ℕ) where
+  module _ (𝓣 : Tables 𝓤 H) (fm : FmC 𝓤 H (W .laws) (𝓣 .C)) (known : Triple 𝓤 (𝓣 .C #desk-reading·scan_step) (StepC 𝓤 H A mem run)) (l₀ l₁ l₂ l₃ l₄ l₅ l₆ l₇ l₈ l₉ : ℕ) where
     abbrev C : Calls 𝓤 H
     C = 𝓣 .C
 
@@ -234,7 +234,7 @@ module _ {M : Type 1} (𝓤 : URA M) (H : Heap 𝓤) (A : Atoms 𝓤) (W : Given
     looped : Sq W (At start) (runs C Λ En code-mir.t-3 (atRet En Post))
     looped = first ! $ blocks ! $ loops ! 𝓣 Nearer Nearer-wf At turns start
 
-  walk : (𝓣 : Tables 𝓤 H) → FmC 𝓤 H (W .laws) (𝓣 .C) → Triple 𝓤 (𝓣 .C #desk-engine·scan_step) (StepC 𝓤 H A mem run)
+  walk : (𝓣 : Tables 𝓤 H) → FmC 𝓤 H (W .laws) (𝓣 .C) → Triple 𝓤 (𝓣 .C #desk-reading·scan_step) (StepC 𝓤 H A mem run)
       → ent 𝓤 (onEntry 𝓤 H A f.signature (κ, tt) (q, tt) a at) (WpFn 𝓤 H (𝓣 .C) (𝓣 .Λ) code.function (sv ∷ smach s ∷ []) Post)
   walk 𝓣 fm known =
       qed W ((‵ (flft κ q) ⊛ ‵ ftrue) ∷ ‵ (owns (ShrSlice (named 0) κ J.the-row ∷ S.the-row ∷ []) a at) ∷ []) ∵ enter ! (𝓣 .C) (𝓣 .Λ) code.function (sv ∷ smach s ∷ []) _ $
@@ -250,13 +250,13 @@ module _ {M : Type 1} (𝓤 : URA M) (H : Heap 𝓤) (A : Atoms 𝓤) (W : Given
       looped 𝓣 fm known l₀ l₁ l₂ l₃ l₄ l₅ l₆ l₇ l₈ l₉))))))))))
 
 module _ {M : Type 1} (𝓤 : URA M) (H : Heap 𝓤) (A : Atoms 𝓤) (W : Given 𝓤 H A) (mem : Memory → SProp 𝓤) (run : Routine → Fun 𝓤) where
-  scan-walks : (𝓣 : Tables 𝓤 H) → Triple 𝓤 (𝓣 .C #desk-engine·scan_step) (StepC 𝓤 H A mem run) → Walks 𝓤 H A f.ended stayed (WpFn 𝓤 H (𝓣 .C) (𝓣 .Λ) code.function) (f.clauses 𝓤 H A mem run)
+  scan-walks : (𝓣 : Tables 𝓤 H) → Triple 𝓤 (𝓣 .C #desk-reading·scan_step) (StepC 𝓤 H A mem run) → Walks 𝓤 H A f.ended stayed (WpFn 𝓤 H (𝓣 .C) (𝓣 .Λ) code.function) (f.clauses 𝓤 H A mem run)
   scan-walks 𝓣 known = walked 𝓤 H A f.ended stayed (f.clauses 𝓤 H A mem run) (WpFn 𝓤 H (𝓣 .C) (𝓣 .Λ) code.function)
       (λ κs. (slice-vals, (LL.vals S.the-type S′.the-laws, tt))) (λ κs. (shr-slice-tells (named 0) (κs .0) J.the-row, (LL.tells S.the-type S′.the-laws, tt)))
       (λ κs qs bounds a g are. via 𝓤 _ (fst∗ 𝓤 _ (emp 𝓤))
       (walk 𝓤 H A W mem run (κs .0) (qs .0) (a .0 .ptr .0) (a .0 .ptr .1) (a .0 .name) (a .0 .now) (a .1 .0) (are .0 .0 .1) (are .1 .0) 𝓣 (fmOf 𝓤 H (W .laws) 𝓣) known))
 
-scan-meets : {M : Type 1} (𝓤 : URA M) (H : Heap 𝓤) (A : Atoms 𝓤) → Given 𝓤 H A → (mem : Memory → SProp 𝓤) (run : Routine → Fun 𝓤) (𝓣 : Tables 𝓤 H) → Triple 𝓤 (𝓣 .C #desk-engine·scan_step) (StepC 𝓤 H A mem run)
+scan-meets : {M : Type 1} (𝓤 : URA M) (H : Heap 𝓤) (A : Atoms 𝓤) → Given 𝓤 H A → (mem : Memory → SProp 𝓤) (run : Routine → Fun 𝓤) (𝓣 : Tables 𝓤 H) → Triple 𝓤 (𝓣 .C #desk-reading·scan_step) (StepC 𝓤 H A mem run)
     → Meets 𝓤 H A f.signature (WpFn 𝓤 H (𝓣 .C) (𝓣 .Λ) code.function) (f.spec 𝓤 H A mem run)
 scan-meets 𝓤 H A W mem run 𝓣 known =
     walk-meets 𝓤 H A f.ended stayed W (goes-none-slice 𝓤 H A W 1 (0 ∷ []) tt (plain (λ _. J.the-row)) yes, (goes-none 𝓤 H A W 1 (λ _. S.the-row) yes (λ κs x f. refl), tt)) (f.clauses 𝓤 H A mem run)
@@ -268,4 +268,4 @@ scan-pass-spec 𝓤 H 𝓜 𝓖 𝓡 =
     entered 𝓤 H (tripleOf 𝓤 H (𝓖 .A) f.signature (f.spec 𝓤 H (𝓖 .A) (𝓜 .mem) (𝓡 .run)))
     (tables 𝓤 H 𝓜 𝓡 code.env .C) (tables 𝓤 H 𝓜 𝓡 code.env .Λ) #desk-walks·scan_pass code.function (code.unfolded 𝓤 H 𝓜 𝓡)
     (scan-meets 𝓤 H (𝓖 .A) (givenOf 𝓤 H 𝓜 𝓖) (𝓜 .mem) (𝓡 .run) (tablesOf 𝓤 H 𝓜 (tables 𝓤 H 𝓜 𝓡 code.env))
-    (cited 𝓤 H (StepC 𝓤 H (𝓖 .A) (𝓜 .mem) (𝓡 .run)) 𝓜 𝓡 code.env #desk-engine·scan_step step-def.routine code.calls-desk-engine·scan·scan-step (step-thm.met 𝓤 H 𝓜 𝓖 𝓡)))
+    (cited 𝓤 H (StepC 𝓤 H (𝓖 .A) (𝓜 .mem) (𝓡 .run)) 𝓜 𝓡 code.env #desk-reading·scan_step step-def.routine code.calls-desk-reading·scan·scan-step (step-thm.met 𝓤 H 𝓜 𝓖 𝓡)))

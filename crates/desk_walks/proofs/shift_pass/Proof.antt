@@ -45,25 +45,25 @@ use denote.Triple.Walked.{says, Stays, stay-none, stay-slice, walkOf, goes-none,
 use denote.Exit.{yes}
 use borrow.Author.Tests.{ltb-true, ltb-false}
 use Rattle.desk.specs.Table.{none}
-use Rattle.desk_steps.specs.Folds.{fold}
-use Rattle.desk_steps.specs.Writing.{shiftOut, shiftStep, shifted}
+use Rattle.desk_records.specs.Folds.{fold}
+use Rattle.desk_writing.specs.Writing.{shiftOut, shiftStep, shifted}
 use Rattle.desk.specs.declared.Job.{Job}
-use Rattle.desk_steps.specs.declared.shift.Shift.{Shift}
+use Rattle.desk_writing.specs.declared.shift.Shift.{Shift}
 use borrow.Author.Count.{falls}
 use Rattle.desk_walks.proofs.Up.{byte-fits, up, fits-of, at-end}
 use Rattle.desk_walks.proofs.Along.{fold-zero, fold-more, forthAt, forthAt-zero, forthAt-end, forthAt-length, forthAt-read, forthAt-more}
 use Rattle.desk.proofs.Job as J
 use Rattle.desk.proofs.Job.Laws as J′
-use Rattle.desk_steps.proofs.shift.Shift as S
-use Rattle.desk_steps.proofs.shift.Shift.Laws as S′
-use Rattle.desk_steps.proofs.shift.shift_out as shift_out
-use Rattle.desk_steps.proofs.shift.shift_out.Symbol as shift_out-def
-use Rattle.desk_steps.proofs.shift.shift_out.Symbol.{name as #desk-steps·shift_out}
-use Rattle.desk_steps.proofs.shift.shift_out.Met as shift_out-thm
-use Rattle.desk_steps.proofs.shift.shift_step as shift_step
-use Rattle.desk_steps.proofs.shift.shift_step.Symbol as shift_step-def
-use Rattle.desk_steps.proofs.shift.shift_step.Symbol.{name as #desk-steps·shift_step}
-use Rattle.desk_steps.proofs.shift.shift_step.Met as shift_step-thm
+use Rattle.desk_writing.proofs.shift.Shift as S
+use Rattle.desk_writing.proofs.shift.Shift.Laws as S′
+use Rattle.desk_writing.proofs.shift.shift_out as shift_out
+use Rattle.desk_writing.proofs.shift.shift_out.Symbol as shift_out-def
+use Rattle.desk_writing.proofs.shift.shift_out.Symbol.{name as #desk-writing·shift_out}
+use Rattle.desk_writing.proofs.shift.shift_out.Met as shift_out-thm
+use Rattle.desk_writing.proofs.shift.shift_step as shift_step
+use Rattle.desk_writing.proofs.shift.shift_step.Symbol as shift_step-def
+use Rattle.desk_writing.proofs.shift.shift_step.Symbol.{name as #desk-writing·shift_step}
+use Rattle.desk_writing.proofs.shift.shift_step.Met as shift_step-thm
 use Rattle.desk_walks.proofs.shift_pass.Key.{name as #desk-walks·shift_pass}
 use Rattle.desk_walks.proofs.shift_pass as f
 use Rattle.desk_walks.proofs.shift_pass.Statement as stated
@@ -172,7 +172,7 @@ module _ {M : Type 1} (𝓤 : URA M) (H : Heap 𝓤) (A : Atoms 𝓤) (W : Given
   is-here : (u v : Shift) → u ≡ v → Is S.the-row u (smach u ∷ []) → Is S.the-row v (smach v ∷ [])
   is-here u v e is = subst (λ (z : Shift). Is S.the-row z (smach z ∷ [])) e is
 
-  module _ (𝓣 : Tables 𝓤 H) (fm : FmC 𝓤 H (W .laws) (𝓣 .C)) (known-out : Triple 𝓤 (𝓣 .C #desk-steps·shift_out) (out-C 𝓤 H A mem run)) (known-step : Triple 𝓤 (𝓣 .C #desk-steps·shift_step) (step-C 𝓤 H A mem run)) (l₀ l₁ l₂ l₃ l₄ l₅ l₆ l₇ l₈ l₉ m₀ m₁ : ℕ) where
+  module _ (𝓣 : Tables 𝓤 H) (fm : FmC 𝓤 H (W .laws) (𝓣 .C)) (known-out : Triple 𝓤 (𝓣 .C #desk-writing·shift_out) (out-C 𝓤 H A mem run)) (known-step : Triple 𝓤 (𝓣 .C #desk-writing·shift_step) (step-C 𝓤 H A mem run)) (l₀ l₁ l₂ l₃ l₄ l₅ l₆ l₇ l₈ l₉ m₀ m₁ : ℕ) where
     abbrev C : Calls 𝓤 H
     C = 𝓣 .C
 
@@ -303,7 +303,7 @@ module _ {M : Type 1} (𝓤 : URA M) (H : Heap 𝓤) (A : Atoms 𝓤) (W : Given
     looped : Sq W (At (0, (zero-le, is-here s (st 0) (sym (fold-zero shiftStep s ys)) is₀))) (runs C Λ En code-mir.t-3 (atRet En Post))
     looped = first ! $ blocks ! $ loops ! 𝓣 Nearer Nearer-wf At turns (0, (zero-le, is-here s (st 0) (sym (fold-zero shiftStep s ys)) is₀))
 
-  walk : (𝓣 : Tables 𝓤 H) → FmC 𝓤 H (W .laws) (𝓣 .C) → Triple 𝓤 (𝓣 .C #desk-steps·shift_out) (out-C 𝓤 H A mem run) → Triple 𝓤 (𝓣 .C #desk-steps·shift_step) (step-C 𝓤 H A mem run)
+  walk : (𝓣 : Tables 𝓤 H) → FmC 𝓤 H (W .laws) (𝓣 .C) → Triple 𝓤 (𝓣 .C #desk-writing·shift_out) (out-C 𝓤 H A mem run) → Triple 𝓤 (𝓣 .C #desk-writing·shift_step) (step-C 𝓤 H A mem run)
       → ent 𝓤 (onEntry 𝓤 H A f.signature (κ, tt) (q, tt) a at) (WpFn 𝓤 H (𝓣 .C) (𝓣 .Λ) code.function (sv ∷ smach s ∷ []) Post)
   walk 𝓣 fm known-out known-step =
       qed W ((‵ (flft κ q) ⊛ ‵ ftrue) ∷ ‵ (owns (MutSlice (named 0) κ J.the-row ∷ S.the-row ∷ []) a at) ∷ []) ∵ enter ! (𝓣 .C) (𝓣 .Λ) code.function (sv ∷ smach s ∷ []) _ $
@@ -320,13 +320,13 @@ module _ {M : Type 1} (𝓤 : URA M) (H : Heap 𝓤) (A : Atoms 𝓤) (W : Given
       looped 𝓣 fm known-out known-step l₀ l₁ l₂ l₃ l₄ l₅ l₆ l₇ l₈ l₉ m₀ m₁))))))))))))
 
 module _ {M : Type 1} (𝓤 : URA M) (H : Heap 𝓤) (A : Atoms 𝓤) (W : Given 𝓤 H A) (mem : Memory → SProp 𝓤) (run : Routine → Fun 𝓤) where
-  walks : (𝓣 : Tables 𝓤 H) → Triple 𝓤 (𝓣 .C #desk-steps·shift_out) (out-C 𝓤 H A mem run) → Triple 𝓤 (𝓣 .C #desk-steps·shift_step) (step-C 𝓤 H A mem run) → Walks 𝓤 H A f.ended stayed (WpFn 𝓤 H (𝓣 .C) (𝓣 .Λ) code.function) (f.clauses 𝓤 H A mem run)
+  walks : (𝓣 : Tables 𝓤 H) → Triple 𝓤 (𝓣 .C #desk-writing·shift_out) (out-C 𝓤 H A mem run) → Triple 𝓤 (𝓣 .C #desk-writing·shift_step) (step-C 𝓤 H A mem run) → Walks 𝓤 H A f.ended stayed (WpFn 𝓤 H (𝓣 .C) (𝓣 .Λ) code.function) (f.clauses 𝓤 H A mem run)
   walks 𝓣 known-out known-step = walked 𝓤 H A f.ended stayed (f.clauses 𝓤 H A mem run) (WpFn 𝓤 H (𝓣 .C) (𝓣 .Λ) code.function)
       (λ κs. (slice-vals, (LL.vals S.the-type S′.the-laws, tt))) (λ κs. (mut-slice-tells (named 0) (κs .0) J.the-row, (LL.tells S.the-type S′.the-laws, tt)))
       (λ κs qs bounds a g are. via 𝓤 _ (fst∗ 𝓤 _ (emp 𝓤))
       (walk 𝓤 H A W mem run (κs .0) (qs .0) (a .0 .ptr .0) (a .0 .ptr .1) (a .0 .name) (a .0 .now) (a .1 .0) (are .0 .0 .1) (are .1 .0) 𝓣 (fmOf 𝓤 H (W .laws) 𝓣) known-out known-step))
 
-meets : {M : Type 1} (𝓤 : URA M) (H : Heap 𝓤) (A : Atoms 𝓤) → Given 𝓤 H A → (mem : Memory → SProp 𝓤) (run : Routine → Fun 𝓤) (𝓣 : Tables 𝓤 H) → Triple 𝓤 (𝓣 .C #desk-steps·shift_out) (out-C 𝓤 H A mem run) → Triple 𝓤 (𝓣 .C #desk-steps·shift_step) (step-C 𝓤 H A mem run)
+meets : {M : Type 1} (𝓤 : URA M) (H : Heap 𝓤) (A : Atoms 𝓤) → Given 𝓤 H A → (mem : Memory → SProp 𝓤) (run : Routine → Fun 𝓤) (𝓣 : Tables 𝓤 H) → Triple 𝓤 (𝓣 .C #desk-writing·shift_out) (out-C 𝓤 H A mem run) → Triple 𝓤 (𝓣 .C #desk-writing·shift_step) (step-C 𝓤 H A mem run)
     → Meets 𝓤 H A f.signature (WpFn 𝓤 H (𝓣 .C) (𝓣 .Λ) code.function) (f.spec 𝓤 H A mem run)
 meets 𝓤 H A W mem run 𝓣 known-out known-step =
     walk-meets 𝓤 H A f.ended stayed W (goes-slice 𝓤 H A W 1 0 tt (plain (λ _. J.the-row)), (goes-none 𝓤 H A W 1 (λ _. S.the-row) yes (λ κs x f. refl), tt)) (f.clauses 𝓤 H A mem run)
@@ -338,5 +338,5 @@ shift-pass-spec 𝓤 H 𝓜 𝓖 𝓡 =
     entered 𝓤 H (tripleOf 𝓤 H (𝓖 .A) f.signature (f.spec 𝓤 H (𝓖 .A) (𝓜 .mem) (𝓡 .run)))
     (tables 𝓤 H 𝓜 𝓡 code.env .C) (tables 𝓤 H 𝓜 𝓡 code.env .Λ) #desk-walks·shift_pass code.function (code.unfolded 𝓤 H 𝓜 𝓡)
     (meets 𝓤 H (𝓖 .A) (givenOf 𝓤 H 𝓜 𝓖) (𝓜 .mem) (𝓡 .run) (tablesOf 𝓤 H 𝓜 (tables 𝓤 H 𝓜 𝓡 code.env))
-    (cited 𝓤 H (out-C 𝓤 H (𝓖 .A) (𝓜 .mem) (𝓡 .run)) 𝓜 𝓡 code.env #desk-steps·shift_out shift_out-def.routine code.calls-desk-steps·shift·shift-out (shift_out-thm.met 𝓤 H 𝓜 𝓖 𝓡))
-    (cited 𝓤 H (step-C 𝓤 H (𝓖 .A) (𝓜 .mem) (𝓡 .run)) 𝓜 𝓡 code.env #desk-steps·shift_step shift_step-def.routine code.calls-desk-steps·shift·shift-step (shift_step-thm.met 𝓤 H 𝓜 𝓖 𝓡)))
+    (cited 𝓤 H (out-C 𝓤 H (𝓖 .A) (𝓜 .mem) (𝓡 .run)) 𝓜 𝓡 code.env #desk-writing·shift_out shift_out-def.routine code.calls-desk-writing·shift·shift-out (shift_out-thm.met 𝓤 H 𝓜 𝓖 𝓡))
+    (cited 𝓤 H (step-C 𝓤 H (𝓖 .A) (𝓜 .mem) (𝓡 .run)) 𝓜 𝓡 code.env #desk-writing·shift_step shift_step-def.routine code.calls-desk-writing·shift·shift-step (shift_step-thm.met 𝓤 H 𝓜 𝓖 𝓡)))

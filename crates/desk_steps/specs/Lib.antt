@@ -1,3 +1,0 @@
-pub mod Folds
-pub mod Writing
-pub mod Reading

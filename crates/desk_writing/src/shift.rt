@@ -1,0 +1,81 @@
+// One step of the shift pass: the new job is put in, and later jobs are moved as far as forced.
+ghost use mathlib.Core.Path.{_≡_};
+ghost use Rattle.desk_writing.specs.Writing.{stillShift, shiftOut, shiftStep};
+use desk::Job;
+use desk_records::numbers::larger;
+use desk_records::numbers::sum;
+use desk_records::records::moved_to;
+use desk_records::records::no_job;
+
+// How far the pass is: jobs still to leave alone, whether the new job is still to put, jobs still to move behind it,
+// the end of the job put down last, and the job carried on. A still pass changes nothing.
+pub struct Shift {
+    pub still: bool,
+    pub before: u32,
+    pub put: bool,
+    pub after: u32,
+    pub end: u32,
+    pub carry: Job,
+}
+
+// The pass that changes nothing.
+pub fn still_shift() -> Shift
+    ensures { λ r. ⌜ r ≡ stillShift ⌝ }
+{
+    Shift {
+        still: true,
+        before: 0,
+        put: false,
+        after: 0,
+        end: 0,
+        carry: no_job(),
+    }
+}
+
+// What is put down where j stood.
+pub fn shift_out(s: Shift, j: Job) -> Job
+    ensures { λ r. ⌜ r ≡ shiftOut s j ⌝ }
+{
+    if s.still {
+        return j;
+    }
+    if 0 < s.before {
+        return j;
+    }
+    let k = s.carry;
+    if s.put {
+        return k;
+    }
+    if 0 < s.after {
+        return moved_to(s.end, k);
+    }
+    no_job()
+}
+
+// How far the pass is after j.
+pub fn shift_step(s: Shift, j: Job) -> Shift
+    ensures { λ r. ⌜ r ≡ shiftStep s j ⌝ }
+{
+    let mut r = s;
+    if s.still {
+        return r;
+    }
+    if 0 < s.before {
+        r.before = s.before - 1;
+        return r;
+    }
+    let k = s.carry;
+    if s.put {
+        r.put = false;
+        r.end = sum(k.start, k.budget);
+        r.carry = j;
+        return r;
+    }
+    if 0 < s.after {
+        r.after = s.after - 1;
+        r.end = sum(larger(s.end, k.start), k.budget);
+        r.carry = j;
+        return r;
+    }
+    r
+}

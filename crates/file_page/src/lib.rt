@@ -1,0 +1,83 @@
+// The page of a plan that serves: lines put from a place on, as far as there is room; the answer is the place behind them.
+ghost use mathlib.Core.Path.{_≡_};
+ghost use Prim.Native.Nat.{_+_, _*_, _≤_, _<_, _^_};
+ghost use Rattle.rules.specs.Limits.{mostPartitions, mostTasks, longestLine, longestListing};
+ghost use Rattle.rules.specs.Walk.{gathered};
+ghost use Rattle.rules.specs.Table.{partitions, tasks};
+ghost use Rattle.output.specs.Put.{Put};
+ghost use Rattle.file_page.specs.Page.{partLine, taskLine, pageOf};
+ghost use Rattle.file_page.specs.Contracts.{FewRecords};
+use file_lines::put_fail;
+use file_lines::put_frame;
+use file_lines::put_partition;
+use file_lines::put_pass;
+use task_points::Judged;
+
+fn put_part(plan: &[u16], parts: &[u16], k: usize, out: &mut [u8], at: usize) -> usize
+    requires { ⌜ (k < mostPartitions) × (at < 2 ^ 40) ⌝ }
+    ensures { λ r. ⌜ Put (now (out .entry)) at (partLine (now (plan .entry)) (now (parts .entry)) k) r (now (out .exit))
+        × (r ≤ at + longestLine) ⌝ }
+{
+    let m = rules::records::cycle(parts, k);
+    let wanted = rules::records::wanted(parts, k);
+    let least = plan_service::least(plan, (k + 1) as u16, m as u32);
+    put_partition(out, at, k + 1, wanted, rules::numbers::wide(m), least)
+}
+
+fn put_parts(plan: &[u16], parts: &[u16], out: &mut [u8], start: usize) -> usize
+    requires { ⌜ (partitions (now parts) ≤ mostPartitions) × (start < 2 ^ 32) ⌝ }
+    ensures { λ r. ⌜ Put (now (out .entry)) start
+        (gathered (partLine (now (plan .entry)) (now (parts .entry))) (partitions (now (parts .entry)))) r (now (out .exit))
+        × (r ≤ start + mostPartitions * longestLine) ⌝ }
+{
+    let n = rules::records::partitions(parts);
+    let mut at = start;
+    let mut k = 0;
+    while k < n {
+        at = put_part(plan, parts, k, out, at);
+        k += 1;
+    }
+    at
+}
+
+fn put_task(plan: &[u16], table: &[u16], j: usize, out: &mut [u8], at: usize) -> usize
+    requires { ⌜ (j < mostTasks) × (at < 2 ^ 40) ⌝ }
+    ensures { λ r. ⌜ Put (now (out .entry)) at (taskLine (now (plan .entry)) (now (table .entry)) j) r (now (out .exit))
+        × (r ≤ at + longestLine) ⌝ }
+{
+    let partition = rules::numbers::wide(rules::records::partition(table, j));
+    let judged = task_points::task(plan, table, j);
+    match judged {
+        Judged::Pass(t) => put_pass(out, at, j + 1, partition, t),
+        Judged::Fail => put_fail(out, at, j + 1, partition),
+        Judged::Refused(_) => at,
+    }
+}
+
+fn put_tasks(plan: &[u16], table: &[u16], out: &mut [u8], start: usize) -> usize
+    requires { ⌜ (tasks (now table) ≤ mostTasks) × (start < 2 ^ 32) ⌝ }
+    ensures { λ r. ⌜ Put (now (out .entry)) start
+        (gathered (taskLine (now (plan .entry)) (now (table .entry))) (tasks (now (table .entry)))) r (now (out .exit))
+        × (r ≤ start + mostTasks * longestLine) ⌝ }
+{
+    let n = rules::records::tasks(table);
+    let mut at = start;
+    let mut j = 0;
+    while j < n {
+        at = put_task(plan, table, j, out, at);
+        j += 1;
+    }
+    at
+}
+
+// The listing of a plan that serves: at most 1 + 16 + 128 lines.
+pub fn put_page(frame: usize, plan: &[u16], parts: &[u16], table: &[u16], out: &mut [u8]) -> usize
+    requires { ⌜ FewRecords (now parts) (now table) ⌝ }
+    ensures { λ r. ⌜ Put (now (out .entry)) 0
+        (pageOf frame (now (plan .entry)) (now (parts .entry)) (now (table .entry))) r (now (out .exit))
+        × (r ≤ longestListing) ⌝ }
+{
+    let a = put_frame(out, 0, frame);
+    let b = put_parts(plan, parts, out, a);
+    put_tasks(plan, table, out, b)
+}

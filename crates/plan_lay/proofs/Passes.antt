@@ -1,0 +1,146 @@
+-- What a turn of each pass leaves, and how passes follow one another. Assumes nothing.
+use Prim.Native.Nat.{ℕ, _+_, _-_, _%_, _≤_, _<_, zero-le}
+use mathlib.Core.Path.{_≡_, refl, sym, ap, _∙_}
+use mathlib.Core.Logic.{_⊎_, inl, inr}
+use mathlib.Core.Bool.{Bool, true, false}
+use mathlib.Core.List.{List, _++_}
+use native.Mathlib.Nat.{mod-le, mod-eq-of-lt, mod-add-mod}
+use native.Mathlib.Decide.{ℕ-discrete}
+use native.Mathlib.Omega.{arith}
+use lib.Dec.{eqb}
+use lib.ListN.{length, getD, set, drop, length-set, length-append, length-drop, List·getD-append}
+use lib.Seq.{getD-set-same, getD-set-other, getD-drop, getD-append-add, ext-getD}
+use borrow.Author.Tests.{eq-eqb, ne-eqb}
+use Rattle.rules.specs.Walk.{pick, only, walk}
+use Rattle.rules.proofs.First.{walk-zero, walk-more}
+use Rattle.rules.proofs.Sum.{le-or-lt, only-self, count-ext}
+use Rattle.theory.specs.Plan.{owned}
+use Rattle.rules.specs.Table.{cycle, wanted}
+use Rattle.theory.specs.Harmonic.{taken, give, turn, planned, ticks}
+use Rattle.theory.proofs.Harmonic.{seen-first, seen-next, give-at, ticks-length, ticks-at}
+use Rattle.plan_lay.specs.Contracts.{tickOf, givenTick, AsNamed}
+use Rattle.theory.specs.Contracts.{idle}
+
+-- ---- a pass
+
+pub named-none : (o : ℕ → ℕ) (l : List ℕ) → AsNamed o 0 l l
+named-none o l = record { as-long = refl; done = λ t h. absurd (omega arith); rest = λ t h. refl }
+
+-- its turn at t
+pub named-turn : (o : ℕ → ℕ) (t v : ℕ) (before cur after : List ℕ) → AsNamed o t before cur → t < length before → after ≡ set cur t v → v ≡ o t → AsNamed o (t + 1) before after
+named-turn o t v before cur after w l e f =
+    let long : length cur ≡ length before = w .as-long in
+    rw e (record {
+      as-long = length-set cur t v ∙ long;
+      done = λ u h. at u h (ℕ-discrete u t);
+      rest = λ u h. getD-set-other cur t u v 0 (λ z. absurd (omega arith)) ∙ w .rest u (omega arith);
+    })
+  where
+    at : (u : ℕ) → u < t + 1 → Dec (u ≡ t) → getD (set cur t v) u 0 ≡ o u
+    at u h (yes z) = rw z (getD-set-same cur t v 0 (omega (arith, w .as-long)) ∙ f)
+    at u h (no z) = getD-set-other cur t u v 0 z ∙ w .done u (omega arith)
+
+-- the pass ran to its end
+pub named-end : (o : ℕ → ℕ) (t h : ℕ) (before after : List ℕ) → t ≤ h → h ≤ t → AsNamed o t before after → AsNamed o h before after
+named-end o t h before after l g w = let e : t ≡ h = omega arith in rw e at w
+
+-- another namer that agrees on the first h ticks
+pub named-as : (o o′ : ℕ → ℕ) (h : ℕ) (before after : List ℕ) → ((t : ℕ) → t < h → o t ≡ o′ t) → AsNamed o h before after → AsNamed o′ h before after
+named-as o o′ h before after e w = record { as-long = w .as-long; done = λ t l. w .done t l ∙ e t l; rest = w .rest }
+
+-- one pass after another
+pub named-then : (o o′ : ℕ → ℕ) (h : ℕ) (before cur after : List ℕ) → AsNamed o h before cur → AsNamed o′ h cur after → AsNamed o′ h before after
+named-then o o′ h before cur after v w = record { as-long = w .as-long ∙ v .as-long; done = w .done; rest = λ t l. w .rest t l ∙ v .rest t l }
+
+-- what a pass left, as it stands
+pub named-self : (o : ℕ → ℕ) (h : ℕ) (before after : List ℕ) → AsNamed o h before after → AsNamed o h after after
+named-self o h before after w = record { as-long = refl; done = w .done; rest = λ t l. refl }
+
+-- all that is left is determined
+pub named-list : (o : ℕ → ℕ) (h : ℕ) (before after : List ℕ) → h ≤ length before → AsNamed o h before after → after ≡ ticks o h ++ drop h before
+named-list o h before after l w =
+    let n : length (ticks o h) ≡ h = ticks-length o h in
+    let long : length after ≡ length before = w .as-long in
+    let total : length (ticks o h ++ drop h before) ≡ length before = simp (length-append, length-drop) (omega arith) in
+    ext-getD 0 after (ticks o h ++ drop h before) (long ∙ sym total) (λ t g. at t (le-or-lt h t))
+  where
+    at : (t : ℕ) → (h ≤ t) ⊎ (t < h) → getD after t 0 ≡ getD (ticks o h ++ drop h before) t 0
+    at t (inr g) = w .done t g ∙ sym (List·getD-append (ticks o h) (drop h before) 0 t (omega (arith, ticks-length o h)) ∙ ticks-at o h t g)
+    at t (inl g) =
+        let e : t ≡ length (ticks o h) + (t - h) = omega (arith, ticks-length o h) in
+        let s : h + (t - h) ≡ t = omega arith in
+        w .rest t g ∙ sym (ap (λ (x : ℕ). getD (ticks o h ++ drop h before) x 0) e ∙ getD-append-add (ticks o h) (drop h before) (t - h) 0 ∙ getD-drop h before (t - h) 0 ∙ ap (λ (x : ℕ). getD before x 0) s)
+
+-- ---- giving
+
+-- what was seen before the next tick in its cycle
+pub seen-turn : (o : ℕ → ℕ) (m t at seen met : ℕ) → 0 < m → at ≡ (t + 1) % m → seen ≡ owned o 0 (t % m) (t - t % m) → met ≡ seen + only (eqb (o t) 0) 1
+    → pick (eqb at 0) 0 met ≡ owned o 0 ((t + 1) % m) (t + 1 - (t + 1) % m)
+seen-turn o m t at seen met pos ea es em = go (ℕ-discrete ((t + 1) % m) 0)
+  where
+    go : Dec ((t + 1) % m ≡ 0) → pick (eqb at 0) 0 met ≡ owned o 0 ((t + 1) % m) (t + 1 - (t + 1) % m)
+    go (yes z) = rw (ea, eq-eqb _ _ z) (sym (seen-first o m (t + 1) z))
+    go (no z) = rw (ea, ne-eqb _ _ z) (em ∙ ap (λ (x : ℕ). x + only (eqb (o t) 0) 1) es ∙ sym (seen-next o m t pos z))
+
+-- it looks only at ticks up to its own
+give-same : (p q m : ℕ) (o o′ : ℕ → ℕ) (t : ℕ) → ((u : ℕ) → u ≤ t → o u ≡ o′ u) → give p q m o t ≡ give p q m o′ t
+unfolding give owned
+give-same p q m o o′ t e =
+    let c = count-ext (t % m) (λ k. eqb (o (t - t % m + k)) 0) (λ k. eqb (o′ (t - t % m + k)) 0) (λ k l. ap (λ (x : ℕ). eqb x 0) (e (t - t % m + k) (omega (arith, mod-le t m)))) in
+    rw (e t (omega arith), c)
+
+-- the numbers that a turn gives by
+pub turn-is : (ps : List ℕ) (r k q m h : ℕ) (o : ℕ → ℕ) (before after : List ℕ) → k ≡ taken ps r → q ≡ wanted ps k → m ≡ cycle ps k
+    → AsNamed (give (k + 1) q m o) h before after → AsNamed (turn ps r o) h before after
+unfolding turn
+turn-is ps r k q m h o before after ek eq em w = rw (← ek, ← eq, ← em) w
+
+-- one partition's turn, on what the turns before it left
+pub planned-turn : (ps : List ℕ) (r h : ℕ) (before cur after : List ℕ) → AsNamed (planned ps r) h before cur → AsNamed (turn ps r (tickOf cur)) h cur after → AsNamed (planned ps (r + 1)) h before after
+unfolding planned turn
+planned-turn ps r h before cur after v w =
+    named-then (planned ps r) (planned ps (r + 1)) h before cur after v
+    (named-as (turn ps r (tickOf cur)) (planned ps (r + 1)) h cur after
+    (λ t l. give-same _ _ _ (tickOf cur) (planned ps r) t (λ u g. v .done u (omega arith)) ∙ sym (ap (λ (f : ℕ → ℕ). f t) (walk-more (turn ps) idle r))) w)
+
+pub planned-none : (ps : List ℕ) (h : ℕ) (before after : List ℕ) → AsNamed idle h before after → AsNamed (planned ps 0) h before after
+unfolding planned
+planned-none ps h before after w = named-as idle (walk (turn ps) idle 0) h before after (λ t l. sym (ap (λ (f : ℕ → ℕ). f t) (walk-zero (turn ps) idle))) w
+
+-- the loop that gives, at tick t: its place in its cycle, and the idle ticks seen there
+pub record Giving (p q m : ℕ) (before : List ℕ) (t at seen : ℕ) (cur : List ℕ) : Type 0 where
+  pub low : at < m
+  pub few : seen ≤ t
+  pub long : length cur ≡ length before
+  pub place : at ≡ t % m
+  pub met : seen ≡ owned (tickOf before) 0 (t % m) (t - t % m)
+  pub so-far : AsNamed (give p q m (tickOf before)) t before cur
+
+pub giving-none : (p q m : ℕ) (before : List ℕ) → 0 < m → Giving p q m before 0 0 0 before
+giving-none p q m before pos =
+    let z : 0 % m ≡ 0 = mod-eq-of-lt pos in
+    record { low = pos; few = zero-le; long = refl; place = sym z; met = sym (seen-first (tickOf before) m 0 z); so-far = named-none _ before }
+
+module _ (p q m : ℕ) (before : List ℕ) (t at seen : ℕ) (cur : List ℕ) (pos : 0 < m) (inside : t < length before) (g : Giving p q m before t at seen cur) where
+  same-tick : tickOf cur t ≡ tickOf before t
+  same-tick = g .so-far .rest t (omega arith)
+
+  pub giving-turn : (at′ met seen′ : ℕ) (after : List ℕ) → (at′ < m) × (at′ ≡ (at + 1) % m) → met ≡ seen + only (eqb (tickOf cur t) 0) 1
+      → after ≡ set cur t (givenTick p q seen (tickOf cur t)) → seen′ ≡ pick (eqb at′ 0) 0 met → Giving p q m before (t + 1) at′ seen′ after
+  giving-turn at′ met seen′ after a em ea es =
+      let o : ℕ → ℕ = tickOf before in
+      let place : at′ ≡ (t + 1) % m = a .1 ∙ ap (λ (x : ℕ). (x + 1) % m) (g .place) ∙ mod-add-mod t m 1 in
+      let em′ : met ≡ seen + only (eqb (o t) 0) 1 = rw same-tick at em in
+      let v : givenTick p q seen (tickOf cur t) ≡ give p q m o t = rw same-tick (sym (give-at p q m o t seen (g .met))) in
+      record {
+        low = a .0;
+        few = rw es (few (eqb at′ 0) (omega (arith, em′, g .few, only-self (eqb (o t) 0) 1)));
+        long = ap length ea ∙ length-set cur t _ ∙ g .long;
+        place = place;
+        met = es ∙ seen-turn o m t at′ seen met pos place (g .met) em′;
+        so-far = named-turn (give p q m o) t _ before cur after (g .so-far) inside ea v;
+      }
+    where
+      few : (b : Bool) → met ≤ t + 1 → pick b 0 met ≤ t + 1
+      few true h = zero-le
+      few false h = h

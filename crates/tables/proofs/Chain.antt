@@ -1,0 +1,225 @@
+-- The chain of table refusals: its order at the numbers that the code holds, and that nothing is refused exactly where the tables are good. Assumes nothing.
+use Prim.Native.Nat.{ℕ, _+_, _/_, _%_, _≤_, _<_}
+use mathlib.Core.Path.{_≡_, refl, sym, subst, _∙_}
+use mathlib.Core.Logic.{_↔_, _⊎_, inl, inr, ⊎-elim}
+use mathlib.Core.Bool.{Bool, true, false, _&&_}
+use mathlib.Core.List.{List, []}
+use native.Mathlib.Nat.{not-suc-le-zero}
+use native.Mathlib.Omega.{arith}
+use lib.ListN.{length}
+use lib.Dec.{ltb, leb, eqb}
+use borrow.Author.Tests.{lt-ltb, le-ltb, ltb-false, le-leb, leb-true, eqb-true, eq-eqb}
+use Rattle.rules.specs.Limits.{mostPartitions, mostTasks, longest, finestShare, partWidth, taskWidth}
+use Rattle.rules.specs.Walk.{pick, first, fails, Every}
+use Rattle.rules.specs.Table.{partitions, cycle, num, den, tasks, goodShare, goodPart, goodTask}
+use Rattle.tables.specs.Contracts.{firstBadPart, firstBadTask}
+use Rattle.tables.specs.Tables.{countedIn, withinLimits, lowest, unless, tablesOf, GoodTables}
+use Rattle.rules.specs.declared.Refusal.{Refusal}
+use Rattle.rules.specs.declared.Refusal.the-variants.{Limits, Partition, Task}
+use Rattle.rules.specs.declared.Finding.{Finding}
+use Rattle.rules.specs.declared.Finding.the-variants.{Good, Refused}
+use Rattle.rules.proofs.First.{every-first, first-every}
+use Rattle.rules.proofs.Tests.{pick-first, pick-second, and-parts, good-share}
+
+-- ---- the limits
+
+pub counted-parts : (low high width n : ℕ) → countedIn low high width n ≡ true → (n % width ≡ 0) × (low ≤ n / width) × (n / width ≤ high)
+unfolding countedIn
+counted-parts low high width n e =
+    let a = and-parts (eqb (n % width) 0 && leb low (n / width)) (leb (n / width) high) e in
+    let b = and-parts (eqb (n % width) 0) (leb low (n / width)) (a .0) in
+    (eqb-true (n % width) 0 (b .0), leb-true low (n / width) (b .1), leb-true (n / width) high (a .1))
+
+frame-range : (f : ℕ) → countedIn 1 longest 1 f ≡ true → (1 ≤ f) × (f ≤ longest)
+frame-range f e = let a = counted-parts 1 longest 1 f e in (omega (arith, a .1), omega (arith, a .2))
+
+-- what the limits say of a frame and of tables of p and t numbers
+pub record Within (frame p t : ℕ) : Type 0 where
+  pub some-frame : 1 ≤ frame
+  pub longest-frame : frame ≤ longest
+  pub whole-parts : p % partWidth ≡ 0
+  pub some-part : 1 ≤ p / partWidth
+  pub few-parts : p / partWidth ≤ mostPartitions
+  pub whole-tasks : t % taskWidth ≡ 0
+  pub few-tasks : t / taskWidth ≤ mostTasks
+
+pub within : (frame p t : ℕ) → withinLimits frame p t ≡ true → Within frame p t
+unfolding withinLimits
+within frame p t e =
+    let a = and-parts (countedIn 1 longest 1 frame) (countedIn 1 mostPartitions partWidth p && countedIn 0 mostTasks taskWidth t) e in
+    let b = and-parts (countedIn 1 mostPartitions partWidth p) (countedIn 0 mostTasks taskWidth t) (a .1) in
+    let f = frame-range frame (a .0) in
+    let q = counted-parts 1 mostPartitions partWidth p (b .0) in
+    let u = counted-parts 0 mostTasks taskWidth t (b .1) in
+    record {
+      some-frame = f .0;
+      longest-frame = f .1;
+      whole-parts = q .0;
+      some-part = q .1;
+      few-parts = q .2;
+      whole-tasks = u .0;
+      few-tasks = u .2;
+    }
+
+framed : (f : ℕ) → 1 ≤ f → f ≤ longest → countedIn 1 longest 1 f ≡ true
+unfolding countedIn
+framed f l m = rw (eq-eqb (f % 1) 0 (omega arith), le-leb 1 (f / 1) (omega arith), le-leb (f / 1) longest (omega arith))
+
+-- the limits of the tables don't hang on the frame
+within-frame : (f g p t : ℕ) → withinLimits f p t ≡ true → countedIn 1 longest 1 g ≡ true → withinLimits g p t ≡ true
+unfolding withinLimits
+within-frame f g p t e h =
+    let a = and-parts (countedIn 1 longest 1 f) (countedIn 1 mostPartitions partWidth p && countedIn 0 mostTasks taskWidth t) e in rw h (a .1)
+
+within-none : (f p t : ℕ) → withinLimits f p t ≡ true → withinLimits f p 0 ≡ true
+unfolding withinLimits countedIn
+within-none f p t e =
+    let a = and-parts (countedIn 1 longest 1 f) (countedIn 1 mostPartitions partWidth p && countedIn 0 mostTasks taskWidth t) e in
+    let c = and-parts (countedIn 1 mostPartitions partWidth p) (countedIn 0 mostTasks taskWidth t) (a .1) in rw (a .0, c .0)
+
+share-within : (f g m n d : ℕ) → goodShare f m n d ≡ true → m ≤ g → goodShare g m n d ≡ true
+unfolding goodShare
+share-within f g m n d e h =
+    let a = good-share f m n d e in rw (le-leb 1 m (a .0), le-leb m g h, le-leb 1 n (a .2), le-leb n d (a .3), le-leb d finestShare (a .4))
+
+-- good tables are good for every frame that no cycle is longer than
+pub other-frame :
+    (f g : ℕ) (ps ts : List ℕ) → GoodTables f ps ts → 1 ≤ g → g ≤ longest → ((k : ℕ) → k < partitions ps → cycle ps k ≤ g)
+    → GoodTables g ps ts
+other-frame f g ps ts a l m h = record {
+  limits = within-frame f g (length ps) (length ts) (a .limits) (framed g l m);
+  parts = λ k i. share-within f g (cycle ps k) (num ps k) (den ps k) (a .parts k i) (h k i);
+  tasks = a .tasks;
+}
+
+-- and without their tasks
+pub without-tasks : (f : ℕ) (ps ts : List ℕ) → GoodTables f ps ts → GoodTables f ps []
+without-tasks f ps ts a = record {
+  limits = within-none f (length ps) (length ts) (a .limits);
+  parts = a .parts;
+  tasks = λ j l. absurd (not-suc-le-zero l);
+}
+
+-- ---- the order
+
+pub not-good : (r : Refusal) → ¬ (_≡_ {A = Finding} (Refused r) Good)
+not-good r e = let z : _≡_ {A = ℕ} 0 1 = cc in absurd (omega arith)
+
+-- a find and what follows it, as one choice
+pub found-then : {A : Type 0} (b : Bool) (refused : Refusal → A) (r : Refusal) (next : A)
+    → unless refused (pick b (Refused r) Good) next ≡ pick b (refused r) next
+found-then true refused r next = refl
+found-then false refused r next = refl
+
+-- what is no refusal of the lowest place comes behind good records
+module _ (refusal : ℕ → Refusal) (good : ℕ → Bool) (n : ℕ) where
+  abbrev at-first : Refusal
+  at-first = refusal (first (fails good) n + 1)
+
+  pub lowest-none : {A : Type 0} (refused : Refusal → A) (next z : A) → ¬ (refused at-first ≡ z)
+      → unless refused (lowest refusal good n) next ≡ z → Every good n × (next ≡ z)
+  lowest-none refused next z other e =
+      let b = ltb (first (fails good) n) n in
+      let w = pick-second b (refused at-first) next z other (sym (found-then b refused at-first next) ∙ e) in
+      (first-every good n (ltb-false _ _ (w .0)), w .1)
+
+  pub lowest-good : lowest refusal good n ≡ Good → Every good n
+  lowest-good e = first-every good n (ltb-false _ _ (pick-second (ltb (first (fails good) n) n) (Refused at-first) Good Good (not-good at-first) e .0))
+
+  pub good-lowest : Every good n → lowest refusal good n ≡ Good
+  good-lowest h = rw (every-first good n h, le-ltb n n (omega arith))
+
+module _ (frame : ℕ) (ps ts : List ℕ) where
+  pub tables-3 : withinLimits frame (length ps) (length ts) ≡ false → Refused Limits ≡ tablesOf frame ps ts
+  unfolding tablesOf
+  tables-3 e = rw e
+
+  module _ (w : withinLimits frame (length ps) (length ts) ≡ true) (k : ℕ) (ek : k ≡ firstBadPart frame ps) where
+    pub tables-6 : k < partitions ps → Refused (Partition (k + 1)) ≡ tablesOf frame ps ts
+    unfolding tablesOf
+    tables-6 h = rw (w, ← ek, lt-ltb k (partitions ps) h)
+
+    module _ (hk : partitions ps ≤ k) (j : ℕ) (ej : j ≡ firstBadTask (partitions ps) ts) where
+      pub tables-7 : j < tasks ts → Refused (Task (j + 1)) ≡ tablesOf frame ps ts
+      unfolding tablesOf
+      tables-7 h = rw (w, ← ek, le-ltb k (partitions ps) hk, ← ej, lt-ltb j (tasks ts) h)
+
+      pub tables-good : tasks ts ≤ j → Good ≡ tablesOf frame ps ts
+      unfolding tablesOf
+      tables-good h = rw (w, ← ek, le-ltb k (partitions ps) hk, ← ej, le-ltb j (tasks ts) h)
+
+  -- ---- what it means
+
+  good-of : tablesOf frame ps ts ≡ Good → GoodTables frame ps ts
+  unfolding tablesOf
+  good-of e =
+      let a = pick-first (withinLimits frame (length ps) (length ts)) _ _ Good (not-good Limits) e in
+      let b = lowest-none Partition (goodPart frame ps) (partitions ps) Refused (lowest Task (goodTask (partitions ps) ts) (tasks ts)) Good (not-good _) (a .1) in
+      record { limits = a .0; parts = b .0; tasks = lowest-good Task (goodTask (partitions ps) ts) (tasks ts) (b .1) }
+
+  of-good : GoodTables frame ps ts → tablesOf frame ps ts ≡ Good
+  unfolding tablesOf
+  of-good g =
+      let p : firstBadPart frame ps ≡ partitions ps = every-first (goodPart frame ps) (partitions ps) (g .parts) in
+      let t : firstBadTask (partitions ps) ts ≡ tasks ts = every-first (goodTask (partitions ps) ts) (tasks ts) (g .tasks) in
+      rw (g .limits, p, le-ltb (partitions ps) (partitions ps) (omega arith), t, le-ltb (tasks ts) (tasks ts) (omega arith))
+
+  -- nothing is refused exactly where the tables are good
+  pub good-exactly : (tablesOf frame ps ts ≡ Good) ↔ GoodTables frame ps ts
+  good-exactly = (good-of, of-good)
+
+  -- what holds of 3, of any 6 and of any 7 holds of the chain's refusal
+  pub refusals : (P : Refusal → Type 0) → P Limits → ((k : ℕ) → P (Partition k)) → ((j : ℕ) → P (Task j)) → (r : Refusal) → tablesOf frame ps ts ≡ Refused r → P r
+  unfolding tablesOf
+  refusals P three six seven r e =
+      at (withinLimits frame (length ps) (length ts)) (ltb (firstBadPart frame ps) (partitions ps)) (ltb (firstBadTask (partitions ps) ts) (tasks ts)) e
+    where
+      same : (q : Refusal) → P q → _≡_ {A = Finding} (Refused q) (Refused r) → P r
+      same q h e = let z : q ≡ r = cc in subst P z h
+
+      at : (a b c : Bool) → pick a (unless Refused (pick b (Refused (Partition (firstBadPart frame ps + 1))) Good) (pick c (Refused (Task (firstBadTask (partitions ps) ts + 1))) Good)) (Refused Limits) ≡ Refused r → P r
+      at false b c e = same Limits three e
+      at true true c e = same (Partition (firstBadPart frame ps + 1)) (six _) e
+      at true false true e = same (Task (firstBadTask (partitions ps) ts + 1)) (seven _) e
+      at true false false e = let z : _≡_ {A = ℕ} 0 1 = cc in absurd (omega arith)
+
+  -- a call's answer is what follows good tables, or the chain's refusal
+  pub unless-cases : {A : Type 0} (refused : Refusal → A) (next z : A) → unless refused (tablesOf frame ps ts) next ≡ z
+      → (GoodTables frame ps ts × (next ≡ z)) ⊎ ((r : Refusal) × (tablesOf frame ps ts ≡ Refused r) × (refused r ≡ z))
+  unless-cases refused next z e = go (tablesOf frame ps ts) refl e
+    where
+      go : (t : Finding) → tablesOf frame ps ts ≡ t → unless refused t next ≡ z
+          → (GoodTables frame ps ts × (next ≡ z)) ⊎ ((r : Refusal) × (tablesOf frame ps ts ≡ Refused r) × (refused r ≡ z))
+      go Good h e = inl (good-of h, e)
+      go (Refused r) h e = inr (r, h, e)
+
+  -- one that is no refusal of the chain is what follows
+  pub unless-given : {A : Type 0} (refused : Refusal → A) (next z : A)
+      → ¬ (refused Limits ≡ z) → ((k : ℕ) → ¬ (refused (Partition k) ≡ z)) → ((j : ℕ) → ¬ (refused (Task j) ≡ z))
+      → unless refused (tablesOf frame ps ts) next ≡ z → GoodTables frame ps ts × (next ≡ z)
+  unless-given refused next z three six seven e =
+      ⊎-elim (λ g. g) (λ h. absurd (refusals (λ r. ¬ (refused r ≡ z)) three six seven (h .0) (h .1) (h .2))) (unless-cases refused next z e)
+
+  -- what holds of the answers to 3, to any 6 and 7 and of what follows holds of the answer
+  pub unless-holds : {A : Type 0} (P : A → Type 0) (refused : Refusal → A) (next : A)
+      → P (refused Limits) → ((k : ℕ) → P (refused (Partition k))) → ((j : ℕ) → P (refused (Task j))) → P next → P (unless refused (tablesOf frame ps ts) next)
+  unless-holds P refused next three six seven h = go (tablesOf frame ps ts) refl
+    where
+      go : (t : Finding) → tablesOf frame ps ts ≡ t → P (unless refused t next)
+      go Good e = h
+      go (Refused r) e = refusals (λ r. P (refused r)) three six seven r e
+
+  -- and of good tables it is what follows
+  pub unless-good : {A : Type 0} (refused : Refusal → A) (next : A) → GoodTables frame ps ts → unless refused (tablesOf frame ps ts) next ≡ next
+  unless-good refused next g = rw (of-good g)
+
+-- without tasks there is no 7
+pub unless-parts-hold : (frame : ℕ) (ps : List ℕ) {A : Type 0} (P : A → Type 0) (refused : Refusal → A) (next : A)
+    → P (refused Limits) → ((k : ℕ) → P (refused (Partition k))) → P next → P (unless refused (tablesOf frame ps []) next)
+unfolding tablesOf first
+unless-parts-hold frame ps P refused next three six h = at (withinLimits frame (length ps) 0) (ltb (firstBadPart frame ps) (partitions ps))
+  where
+    at : (a b : Bool) → P (unless refused (pick a (unless Refused (pick b (Refused (Partition (firstBadPart frame ps + 1))) Good) Good) (Refused Limits)) next)
+    at false b = three
+    at true true = six _
+    at true false = h

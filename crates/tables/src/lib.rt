@@ -1,0 +1,185 @@
+// What tells against tables: the limits, good records, and the one chain of the refusals 3, 6 and 7.
+ghost use mathlib.Core.Path.{_≡_};
+ghost use mathlib.Core.List.{[]};
+ghost use Prim.Native.Nat.{_<_};
+ghost use Rattle.rules.specs.Walk.{fails};
+ghost use Rattle.rules.specs.Table.{goodShare, goodTimes, goodPart, goodTask, goodTick};
+ghost use Rattle.tables.specs.Contracts.{firstBadPart, firstBadTask, firstBadTick};
+ghost use Rattle.tables.specs.Tables.{countedIn, withinLimits, tablesOf};
+use rules::Finding;
+use rules::Refusal;
+use rules::limits::FINEST_SHARE;
+use rules::limits::LONGEST;
+use rules::limits::LONGEST_PERIOD;
+use rules::limits::MOST_PARTITIONS;
+use rules::limits::MOST_TASKS;
+use rules::limits::PART_WIDTH;
+use rules::limits::TASK_WIDTH;
+use rules::numbers::wide;
+use rules::records::budget;
+use rules::records::cycle;
+use rules::records::deadline;
+use rules::records::den;
+use rules::records::entry;
+use rules::records::num;
+use rules::records::partition;
+use rules::records::partitions;
+use rules::records::period;
+use rules::records::tasks;
+
+pub fn counted_in(low: usize, high: usize, width: usize, numbers: usize) -> bool
+    requires { ⌜ 0 < width ⌝ }
+    ensures { λ r. ⌜ r ≡ countedIn low high width numbers ⌝ }
+{
+    if numbers % width != 0 {
+        return false;
+    }
+    if numbers / width < low {
+        return false;
+    }
+    numbers / width <= high
+}
+
+// Whether a frame and tables of so many numbers keep the limits.
+pub fn within_limits(frame: usize, parts: usize, tasks: usize) -> bool
+    ensures { λ r. ⌜ r ≡ withinLimits frame parts tasks ⌝ }
+{
+    if !counted_in(1, LONGEST, 1, frame) {
+        return false;
+    }
+    if !counted_in(1, MOST_PARTITIONS, PART_WIDTH, parts) {
+        return false;
+    }
+    counted_in(0, MOST_TASKS, TASK_WIDTH, tasks)
+}
+
+pub fn good_share(limit: usize, m: u16, num: u16, den: u16) -> bool
+    ensures { λ r. ⌜ r ≡ goodShare limit m num den ⌝ }
+{
+    if m < 1 {
+        return false;
+    }
+    if limit < (m as usize) {
+        return false;
+    }
+    if num < 1 {
+        return false;
+    }
+    if den < num {
+        return false;
+    }
+    den <= FINEST_SHARE
+}
+
+pub fn good_times(parts: usize, p: u16, c: u16, d: u16, t: u16) -> bool
+    ensures { λ r. ⌜ r ≡ goodTimes parts p c d t ⌝ }
+{
+    if p < 1 {
+        return false;
+    }
+    if parts < (p as usize) {
+        return false;
+    }
+    if c < 1 {
+        return false;
+    }
+    if d < c {
+        return false;
+    }
+    if t < d {
+        return false;
+    }
+    t <= LONGEST_PERIOD
+}
+
+fn bad_part(parts: &[u16], limit: usize, k: usize) -> bool
+    ensures { λ r. ⌜ r ≡ fails (goodPart limit (now (parts .entry))) k ⌝ }
+{
+    !good_share(limit, cycle(parts, k), num(parts, k), den(parts, k))
+}
+
+fn bad_task(table: &[u16], parts: usize, j: usize) -> bool
+    ensures { λ r. ⌜ r ≡ fails (goodTask parts (now (table .entry))) j ⌝ }
+{
+    !good_times(
+        parts,
+        partition(table, j),
+        budget(table, j),
+        deadline(table, j),
+        period(table, j),
+    )
+}
+
+fn bad_tick(plan: &[u16], parts: usize, t: usize) -> bool
+    ensures { λ r. ⌜ r ≡ fails (goodTick parts (now (plan .entry))) t ⌝ }
+{
+    !(wide(entry(plan, t)) <= parts)
+}
+
+// The first bad record, counted from 0, or how many there are.
+pub fn first_bad_part(parts: &[u16], limit: usize) -> usize
+    ensures { λ r. ⌜ r ≡ firstBadPart limit (now (parts .entry)) ⌝ }
+{
+    let n = partitions(parts);
+    let mut k = 0;
+    while k < n {
+        if bad_part(parts, limit, k) {
+            return k;
+        }
+        k += 1;
+    }
+    n
+}
+
+pub fn first_bad_task(table: &[u16], parts: usize) -> usize
+    ensures { λ r. ⌜ r ≡ firstBadTask parts (now (table .entry)) ⌝ }
+{
+    let n = tasks(table);
+    let mut j = 0;
+    while j < n {
+        if bad_task(table, parts, j) {
+            return j;
+        }
+        j += 1;
+    }
+    n
+}
+
+pub fn first_bad_tick(plan: &[u16], parts: usize) -> usize
+    ensures { λ r. ⌜ r ≡ firstBadTick parts (now (plan .entry)) ⌝ }
+{
+    let n = plan.len();
+    let mut t = 0;
+    while t < n {
+        if bad_tick(plan, parts, t) {
+            return t;
+        }
+        t += 1;
+    }
+    n
+}
+
+// What tells against the tables, for cycles no longer than the frame: 3, 6 and 7.
+pub fn judge_tables(frame: usize, parts: &[u16], table: &[u16]) -> Finding
+    ensures { λ r. ⌜ r ≡ tablesOf frame (now (parts .entry)) (now (table .entry)) ⌝ }
+{
+    if !within_limits(frame, parts.len(), table.len()) {
+        return Finding::Refused(Refusal::Limits);
+    }
+    let k = first_bad_part(parts, frame);
+    if k < partitions(parts) {
+        return Finding::Refused(Refusal::Partition(k + 1));
+    }
+    let j = first_bad_task(table, partitions(parts));
+    if j < tasks(table) {
+        return Finding::Refused(Refusal::Task(j + 1));
+    }
+    Finding::Good
+}
+
+// The same where no tasks are asked about.
+pub fn judge_partitions(frame: usize, parts: &[u16]) -> Finding
+    ensures { λ r. ⌜ r ≡ tablesOf frame (now (parts .entry)) [] ⌝ }
+{
+    judge_tables(frame, parts, &parts[..0])
+}
