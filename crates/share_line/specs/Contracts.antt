@@ -7,8 +7,9 @@ use Rattle.output.specs.Text.{bytes}
 use Rattle.share_line.specs.declared.What.the-variants.{Number, Slash, End}
 use Rattle.share_line.specs.declared.Row.{Row}
 use Rattle.share_line.specs.declared.Row.the-variants.{Partition, Task, Wrong}
-use Rattle.share_line.specs.Words.{wordAt, same}
-use Rattle.share_line.specs.Rows.{endsAt, numberAt, noneAt}
+use Rattle.share_words.specs.Words.{wordAt, same}
+use Rattle.share_words.specs.Words.{endsAt}
+use Rattle.share_line.specs.Rows.{numberAt, noneAt}
 
 -- `NUM/DEN`, behind a cycle
 unfoldable pub shareRow : ℕ → List ℕ → Row

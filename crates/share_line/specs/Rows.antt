@@ -2,20 +2,16 @@
 use Prim.Native.Nat.{ℕ}
 use mathlib.Core.List.{List}
 use mathlib.Core.Bool.{Bool, true, false, not}
-use lib.ListN.{length, take}
-use lib.Dec.{ltb, eqb}
+use lib.ListN.{take}
+use lib.Dec.{ltb}
 use Rattle.rules.specs.Walk.{pick}
 use Rattle.output.specs.Text.{bytes}
-use Rattle.share_line.specs.declared.Mark.the-variants.{Comment}
+use Rattle.share_words.specs.declared.Mark.the-variants.{Comment}
 use Rattle.share_line.specs.declared.What.{What}
 use Rattle.share_line.specs.declared.What.the-variants.{Record, Number, Slash, End}
 use Rattle.share_line.specs.declared.Row.{Row}
 use Rattle.share_line.specs.declared.Row.the-variants.{Nothing, Partition, Task, Wrong}
-use Rattle.share_line.specs.Words.{found, wordAt, restOf, same, highest, numeral}
-
--- no word is left from place k on
-abbrev pub endsAt : List ℕ → ℕ → Bool
-endsAt l k = eqb (length (wordAt l k)) 0
+use Rattle.share_words.specs.Words.{found, wordAt, endsAt, restOf, same, highest, numeral}
 
 -- the number at place k, and whether none stands there
 abbrev pub numberAt : List ℕ → ℕ → ℕ

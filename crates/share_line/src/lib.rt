@@ -1,16 +1,6 @@
-// What one line of a share table says.
-pub mod words; // words.rt: where a search in a line stops, and the words that stand apart
-pub mod numbers; // numbers.rt: what a word says as a number
+// What one line of a share table says, and what is said of a line that is wrong.
 pub mod rows; // rows.rt: the record of a line, or what was expected in it first
-
-// What a search in a line or a text stops at: no blank, the end of a word, `#`, a newline, or no digit.
-pub enum Mark {
-    Solid,
-    Break,
-    Comment,
-    Line,
-    NoDigit,
-}
+pub mod expected; // expected.rt: the line that says what was expected where
 
 // What was expected in a line: `partition` or `task`, a number, `/`, or the line's end.
 pub enum What {

@@ -1,13 +1,13 @@
 // The record that a line says, or what was expected in it first.
-use crate::Mark;
 use crate::Row;
 use crate::What;
-use crate::numbers::HIGHEST;
-use crate::numbers::first_number;
-use crate::words::after_word;
-use crate::words::begins_with;
-use crate::words::find;
-use crate::words::no_word;
+use share_words::Mark;
+use share_words::numbers::HIGHEST;
+use share_words::numbers::first_number;
+use share_words::words::after_word;
+use share_words::words::begins_with;
+use share_words::words::find;
+use share_words::words::no_word;
 ghost use mathlib.Core.Path.{_≡_};
 ghost use Rattle.share_line.specs.Rows.{partRow, taskRow, recordOf, rowOf, isWrong, whatOf};
 ghost use Rattle.share_line.specs.Contracts.{shareRow, timesRow};

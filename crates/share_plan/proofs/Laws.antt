@@ -17,7 +17,6 @@ use Rattle.tables.proofs.Chain.{unless-given}
 use Rattle.theory.specs.Harmonic.{frame, harmonicPlan}
 use Rattle.theory.proofs.Harmonic.{ticks-length}
 use Rattle.rules.specs.declared.Filling.{Filling}
-use Rattle.rules.specs.declared.Filling.the-variants as filling
 use Rattle.plan_build.specs.Build.{buildOf}
 use Rattle.plan_build.proofs.Orders.{laid}
 use Rattle.rules.specs.declared.Filling.the-variants.{Fills, Refused}
@@ -31,13 +30,14 @@ use Rattle.file_runs.proofs.Ticks.{runs-some}
 use Rattle.rules.specs.Limits.{longestLine}
 use Rattle.output.specs.Refused.{refusedLine}
 use Rattle.share_line.specs.declared.What.{What}
+use Rattle.share_line.specs.Expected.{expectedLine}
 use Rattle.share_text.specs.declared.Kind.the-variants.{Partitions, Tasks}
 use Rattle.share_text.specs.declared.TableReading.{TableReading}
 use Rattle.share_text.specs.declared.TableReading.the-variants as table
 use Rattle.share_text.specs.Table.{recordsOf, readTextOf}
 use Rattle.share_text.specs.Table as text
 use Rattle.share_text.proofs.Order.{fits}
-use Rattle.share_plan.specs.Answer.{planRuns, planFile, writtenBy, writeBuiltOf, writePlanOf, fileOrLine, expectedLine, answerOf}
+use Rattle.share_plan.specs.Answer.{planRuns, planFile, writtenBy, writeBuiltOf, writePlanOf, fileOrLine, answerOf}
 
 -- numbers at the start of a table that has room for them
 pub front : (s l o : List ℕ) (n : ℕ) → n ≡ length s → n ≤ length l → o ≡ sets l 0 s → (n ≤ length o) × (take n o ≡ s)
@@ -74,15 +74,15 @@ runs-put plan l o n h e p =
 
 -- a plan's ticks in the front of a table
 pub record Front (ps o : List ℕ) (h : ℕ) : Type 0 where
-  pub is-built : buildOf ps longest ≡ filling.Fills h
+  pub is-built : buildOf ps longest ≡ Fills h
   pub is-frame : h ≡ frame ps
   pub low : h ≤ longest
   pub inside : h ≤ length o
   pub is-plan : take h o ≡ harmonicPlan ps
 
-pub built-front : (ps l o : List ℕ) (r : Filling) (h : ℕ) → length l ≡ longest → r ≡ buildOf ps (length l) → o ≡ leftBy r (harmonicPlan ps) l → r ≡ filling.Fills h → Front ps o h
+pub built-front : (ps l o : List ℕ) (r : Filling) (h : ℕ) → length l ≡ longest → r ≡ buildOf ps (length l) → o ≡ leftBy r (harmonicPlan ps) l → r ≡ Fills h → Front ps o h
 built-front ps l o r h el er eo e =
-    let b : buildOf ps longest ≡ filling.Fills h = rw el at (sym er ∙ e) in
+    let b : buildOf ps longest ≡ Fills h = rw el at (sym er ∙ e) in
     let a = laid ps longest h b in
     let n : length (harmonicPlan ps) ≡ h = ticks-length _ _ ∙ sym (a .is-frame) in
     let f : o ≡ harmonicPlan ps ++ drop h l = rw e at eo in
@@ -100,7 +100,7 @@ pub laid-out : {ps o : List ℕ} {h : ℕ} (ts out out′ : List ℕ) (w : Filli
 unfolding writeBuiltOf planFile
 laid-out {ps} {o} {h} ts out out′ w f ew eo = (rw (f .is-built, ← f .is-plan) ew, rw (ew, ← f .is-plan, ← f .is-frame) eo)
 
-pub not-laid : (ps ts : List ℕ) (room : ℕ) (x : Refusal) → buildOf ps longest ≡ filling.Refused x → Refused x ≡ writeBuiltOf ps ts room
+pub not-laid : (ps ts : List ℕ) (room : ℕ) (x : Refusal) → buildOf ps longest ≡ Refused x → Refused x ≡ writeBuiltOf ps ts room
 unfolding writeBuiltOf
 not-laid ps ts room x e = rw e
 
@@ -109,7 +109,7 @@ not-laid ps ts room x e = rw e
 -- the tables are good, the plan is built, the writer wrote it
 pub record Planned (ps ts : List ℕ) (room n : ℕ) : Type 0 where
   pub good : GoodTables longest ps ts
-  pub built : buildOf ps longest ≡ filling.Fills (frame ps)
+  pub built : buildOf ps longest ≡ Fills (frame ps)
   pub written : writeOf (frame ps) ps ts (planRuns ps) room ≡ Fills n
 
 pub planned-so : (ps ts : List ℕ) (room n : ℕ) → writePlanOf ps ts room ≡ Fills n → Planned ps ts room n
@@ -119,8 +119,8 @@ planned-so ps ts room n e =
     building (g .0) (buildOf ps longest) refl (g .1)
   where
     building : GoodTables longest ps ts → (b : Filling) → buildOf ps longest ≡ b → writtenBy b ps ts room ≡ Fills n → Planned ps ts room n
-    building g (filling.Fills h) f w = let a = laid ps longest h f in record { good = g; built = rw (a .is-frame) at f; written = rw (a .is-frame) at w }
-    building g (filling.Refused x) f w = absurd (no-filling n x w)
+    building g (Fills h) f w = let a = laid ps longest h f in record { good = g; built = rw (a .is-frame) at f; written = rw (a .is-frame) at w }
+    building g (Refused x) f w = absurd (no-filling n x w)
 
 -- how long the file is
 pub file-fits : (ps ts : List ℕ) (room n : ℕ) → writePlanOf ps ts room ≡ Fills n → (n ≡ length (planFile ps ts)) × (n ≤ room)

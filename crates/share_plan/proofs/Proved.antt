@@ -15,7 +15,6 @@ use Rattle.theory.proofs.Built.{harmonic-plan-good}
 use Rattle.rules.specs.declared.Finding.the-variants.{Good}
 use Rattle.plan_check.specs.Check.{checkOf}
 use Rattle.plan_check.proofs.Answers.{check-serves}
-use Rattle.rules.specs.declared.Filling.the-variants as filling
 use Rattle.plan_build.specs.Build.{buildOf}
 use Rattle.plan_build.proofs.Answers.{built-serves, frame-exactly}
 use Rattle.plan_build.proofs.Orders.{counted-few}
@@ -35,7 +34,7 @@ use Rattle.share_plan.specs.Theorems.{FileServes, FileExactly, Proved}
 use Rattle.share_plan.proofs.Laws.{planned-so, file-fits}
 
 -- a built plan is accepted by the checker
-serves : (ps : List ℕ) → buildOf ps longest ≡ filling.Fills (frame ps) → checkOf (harmonicPlan ps) ps ≡ Good
+serves : (ps : List ℕ) → buildOf ps longest ≡ Fills (frame ps) → checkOf (harmonicPlan ps) ps ≡ Good
 serves ps e =
     let out : List ℕ = replicate longest 0 in
     let s = built-serves ps out (frame ps) (rw (length-replicate {A = ℕ} longest 0) e) in
@@ -54,7 +53,7 @@ file-serves ps ts room n e =
 -- ---- when a file comes out
 
 -- the writer takes every plan of the builder
-good-file : (ps ts : List ℕ) → GoodTables longest ps ts → buildOf ps longest ≡ filling.Fills (frame ps) → GoodFile (frame ps) ps ts (planRuns ps)
+good-file : (ps ts : List ℕ) → GoodTables longest ps ts → buildOf ps longest ≡ Fills (frame ps) → GoodFile (frame ps) ps ts (planRuns ps)
 good-file ps ts g b =
     let w = harmonic-plan-good ps (counted-few ps ts g .0) (g .parts) in
     let s = check-serves (harmonicPlan ps) ps .0 (serves ps b) in
@@ -81,7 +80,7 @@ then-so : (ps ts : List ℕ) (room n : ℕ) → Exactly ps ts room n → writePl
 unfolding Exactly writePlanOf writeBuiltOf
 then-so ps ts room n (g, h, l, e, m) =
     let f = harmonic-plan-good ps (counted-few ps ts g .0) (g .parts) in
-    let b : buildOf ps longest ≡ filling.Fills (frame ps) = frame-exactly ps longest (frame ps) .1 (without-tasks longest ps ts g, h, l, refl, f .2) in
+    let b : buildOf ps longest ≡ Fills (frame ps) = frame-exactly ps longest (frame ps) .1 (without-tasks longest ps ts g, h, l, refl, f .2) in
     let w = write-all (frame ps) ps ts (planRuns ps) room (of-good (frame ps) ps ts (planRuns ps) (good-file ps ts g b)) n e m in
     unless-good longest ps ts Refused _ g ∙ rw b (sym w)
 

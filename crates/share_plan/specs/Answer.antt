@@ -1,35 +1,20 @@
 -- What the program writes for a share table: the plan file, or one line. Assumes nothing.
 use Prim.Native.Nat.{ℕ, _*_}
-use mathlib.Core.List.{List, _++_}
+use mathlib.Core.List.{List}
 use Rattle.rules.specs.Limits.{mostPartitions, mostTasks, longest, partWidth, taskWidth}
 use Rattle.tables.specs.Tables.{tablesOf, unless}
 use Rattle.theory.specs.Harmonic.{frame, harmonicPlan}
 use Rattle.rules.specs.declared.Filling.{Filling}
-use Rattle.rules.specs.declared.Filling.the-variants as filling
 use Rattle.plan_build.specs.Build.{buildOf}
 use Rattle.rules.specs.declared.Filling.the-variants.{Fills, Refused}
 use Rattle.file_write.specs.Writer.{fileOf, writeOf}
 use Rattle.file_runs.specs.Ticks.{runsOf}
-use Rattle.output.specs.Text.{bytes}
-use Rattle.output.specs.Decimal.{decimal}
 use Rattle.output.specs.Refused.{refusedLine}
-use Rattle.share_line.specs.declared.What.{What}
-use Rattle.share_line.specs.declared.What.the-variants.{Record, Number, Slash, End}
+use Rattle.share_line.specs.Expected.{expectedLine}
 use Rattle.share_text.specs.declared.Kind.the-variants.{Partitions, Tasks}
 use Rattle.share_text.specs.declared.TableReading.{TableReading}
 use Rattle.share_text.specs.declared.TableReading.the-variants as table
 use Rattle.share_text.specs.Table.{recordsOf, readTextOf}
-
--- what was expected, and the newline
-abbrev pub whatText : What → List ℕ
-whatText Record = bytes "`partition` or `task`\n"
-whatText Number = bytes "a number from 0 to 65535\n"
-whatText Slash = bytes "`/`\n"
-whatText End = bytes "the end of the line\n"
-
--- line K: expected ..
-unfoldable pub expectedLine : ℕ → What → List ℕ
-expectedLine k what = bytes "line " ++ decimal k ++ bytes ": expected " ++ whatText what
 
 -- the runs of the harmonic rule's plan, and the file of tables with it
 abbrev pub planRuns : List ℕ → List ℕ
@@ -40,8 +25,8 @@ planFile ps ts = fileOf (frame ps) ps ts (planRuns ps)
 
 -- what the writer answers of a built plan, and the builder's refusal
 abbrev pub writtenBy : Filling → List ℕ → List ℕ → ℕ → Filling
-writtenBy (filling.Fills h) ps ts room = writeOf h ps ts (planRuns ps) room
-writtenBy (filling.Refused r) ps ts room = Refused r
+writtenBy (Fills h) ps ts room = writeOf h ps ts (planRuns ps) room
+writtenBy (Refused r) ps ts room = Refused r
 
 unfoldable pub writeBuiltOf : List ℕ → List ℕ → ℕ → Filling
 writeBuiltOf ps ts room = writtenBy (buildOf ps longest) ps ts room

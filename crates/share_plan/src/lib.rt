@@ -1,5 +1,4 @@
 // From a share table as text to the bytes of its plan file, or to one line that says why there is none.
-use lines::put_expected;
 use output::put_refusal;
 use plan_file::put_file_or_line;
 use rules::limits::PART_NUMBERS;
@@ -11,7 +10,6 @@ ghost use Rattle.output.specs.Put.{Put};
 ghost use Rattle.rules.specs.Limits.{longestLine};
 ghost use Rattle.share_plan.specs.Answer.{answerOf};
 
-mod lines; // lines.rt: the line that says what was expected where
 mod plan_file; // plan_file.rt: the plan file of two tables, or the line of its refusal
 
 // Puts what the program writes at the start of `out`, as far as there is room. The answer is its length.
@@ -29,7 +27,11 @@ pub fn plan(text: &[u8], out: &mut [u8]) -> usize
             partitions: p,
             tasks: n,
         } => put_file_or_line(&parts[..p], &tasks[..n], out),
-        TableReading::Expected { line, what } => put_expected(out, line, what),
+        TableReading::Expected { line, what } => share_line::expected::put_expected(
+            out,
+            line,
+            what,
+        ),
         TableReading::Refused(r) => put_refusal(out, r),
     }
 }

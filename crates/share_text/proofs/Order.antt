@@ -8,7 +8,7 @@ use native.Mathlib.Decide.{le-ind}
 use native.Mathlib.Omega.{arith}
 use lib.ListN.{length, take, drop, drop-of-length-le}
 use lib.Seq.{drop-length, drop-drop}
-use Rattle.share_line.proofs.WordLaws.{tail}
+use Rattle.share_words.proofs.WordLaws.{tail}
 use lib.Dec.{ltb}
 use borrow.Author.Tests.{lt-ltb, le-ltb, ltb-false}
 use Rattle.rules.specs.declared.Refusal.the-variants.{Limits}
@@ -17,7 +17,7 @@ use Rattle.rules.proofs.Tests.{pick-second}
 use Rattle.rules.proofs.First.{first-more, gathered-more}
 use Rattle.output.specs.Put.{Put}
 use Rattle.output.proofs.Put.{and-then}
-use Rattle.share_line.specs.declared.Mark.the-variants as mark
+use Rattle.share_words.specs.declared.Mark.the-variants as mark
 use Rattle.share_text.specs.declared.Seen.{Seen}
 use Rattle.share_text.specs.declared.Seen.the-variants.{Good, Line}
 use Rattle.share_line.specs.declared.What.{What}
@@ -27,7 +27,7 @@ use Rattle.share_line.specs.declared.Row.{Row}
 use Rattle.share_line.specs.declared.Row.the-variants.{Nothing, Wrong}
 use Rattle.share_text.specs.declared.TableReading.{TableReading}
 use Rattle.share_text.specs.declared.TableReading.the-variants.{Numbers, Refused}
-use Rattle.share_line.specs.Words.{found, width, wordOf}
+use Rattle.share_words.specs.Words.{found, width, wordOf}
 use Rattle.share_line.specs.Rows.{recordOf, rowOf, isWrong, whatOf}
 use Rattle.share_text.specs.Table.{lineOf, afterLine, fromLine, rowAt, wrongAt, firstWrong, numsIn, numsAt, recordsOf, longestText, seenOf, sizedOf, readBy, readTextOf}
 

@@ -7,7 +7,7 @@ use lib.Seq.{sets}
 use lib.Dec.{ltb}
 use Rattle.rules.specs.Walk.{pick, first, gathered}
 use Rattle.rules.specs.declared.Refusal.the-variants.{Limits}
-use Rattle.share_line.specs.declared.Mark.the-variants as mark
+use Rattle.share_words.specs.declared.Mark.the-variants as mark
 use Rattle.share_text.specs.declared.Seen.{Seen}
 use Rattle.share_text.specs.declared.Seen.the-variants.{Good, Line}
 use Rattle.share_text.specs.declared.Kind.{Kind}
@@ -16,7 +16,7 @@ use Rattle.share_line.specs.declared.Row.{Row}
 use Rattle.share_line.specs.declared.Row.the-variants.{Nothing, Partition, Task, Wrong}
 use Rattle.share_text.specs.declared.TableReading.{TableReading}
 use Rattle.share_text.specs.declared.TableReading.the-variants.{Numbers, Expected, Refused}
-use Rattle.share_line.specs.Words.{found}
+use Rattle.share_words.specs.Words.{found}
 use Rattle.share_line.specs.Rows.{rowOf, isWrong, whatOf}
 
 -- the first line of a text, and the text behind its newline

@@ -1,11 +1,11 @@
 // The lines of a text in order, and the first that is wrong.
 use crate::Seen;
-use share_line::Mark;
 use share_line::Row;
 use share_line::rows::is_wrong;
 use share_line::rows::row_of;
 use share_line::rows::what_of;
-use share_line::words::find;
+use share_words::Mark;
+use share_words::words::find;
 ghost use mathlib.Core.Path.{_≡_};
 ghost use Prim.Native.Nat.{_≤_, _<_};
 ghost use lib.ListN.{length, drop};

@@ -4,9 +4,9 @@ use mathlib.Core.List.{List}
 use lib.ListN.{take}
 use lib.Seq.{length-take-le}
 use borrow.Author.Needs.{needs}
-use Rattle.share_line.specs.declared.Mark.the-variants.{Comment}
+use Rattle.share_words.specs.declared.Mark.the-variants.{Comment}
 use Rattle.share_line.specs.declared.Row.{Row}
-use Rattle.share_line.specs.Words.{found}
+use Rattle.share_words.specs.Words.{found}
 use Rattle.share_line.specs.Rows.{recordOf, rowOf}
 use Rattle.share_line.proofs.rows.row_of.Statement.{statement}
 use Rattle.share_line.proofs.rows.row_of.Tie as tie
