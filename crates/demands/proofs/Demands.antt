@@ -31,7 +31,7 @@ use Rattle.task_points.specs.declared.Judged.the-variants as judged
 use Rattle.task_points.specs.Task.{taskOf}
 use Rattle.task_verdict.specs.Verdict.{placeOf, verdictOf}
 use Rattle.task_verdict.proofs.Answers as verdict
-use Rattle.file_codec.proofs.Chain.{file-holds}
+use Rattle.file_tables.proofs.Chain.{file-holds}
 use Rattle.file_read.specs.declared.Reading.{Reading}
 use Rattle.file_read.specs.declared.Reading.the-variants as reading
 use Rattle.file_read.specs.declared.Body.the-variants.{Partitions, Tasks, Runs}

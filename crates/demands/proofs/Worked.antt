@@ -12,7 +12,7 @@ use Rattle.plan_build.specs.Build.{unharmonic, laidOf, buildOf}
 use Rattle.task_points.specs.Task.{taskOf}
 use Rattle.task_verdict.specs.Verdict.{placeOf, verdictOf}
 use Rattle.file_codec.specs.Bytes.{numsOf}
-use Rattle.file_codec.specs.Runs.{runOwner, runLength, repeats, goodRun, runsJudged, fileTablesOf}
+use Rattle.file_tables.specs.Runs.{runOwner, runLength, repeats, goodRun, runsJudged, fileTablesOf}
 use Rattle.file_read.specs.Reader.{tableBy, countsOf, contentsOf, readOf}
 use Rattle.file_runs.specs.Ticks.{ticksOf}
 use Rattle.output.specs.Decimal.{digits, decimal}

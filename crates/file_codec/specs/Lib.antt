@@ -1,4 +1,3 @@
 pub mod Bytes
-pub mod Runs
 pub mod Contents
 pub mod Contracts

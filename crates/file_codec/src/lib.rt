@@ -1,4 +1,4 @@
-// The plan file's numbers of two bytes, read and put, and what tells against its tables.
+// The plan file's numbers of two bytes, read and put.
 use rules::limits::NUMBER_BYTES;
 ghost use mathlib.Core.Path.{_≡_};
 ghost use mathlib.Core.List.{_++_};
@@ -7,8 +7,6 @@ ghost use lib.ListN.{length, getD, set, drop};
 ghost use Rattle.rules.specs.Limits.{numberBytes};
 ghost use Rattle.file_codec.specs.Bytes.{numsOf, bytesOf};
 ghost use Rattle.file_codec.specs.Contracts.{over};
-
-pub mod runs; // runs.rt: run records, and the tables of a file
 
 fn byte(x: u8) -> u16
     ensures { λ r. ⌜ (r ≡ x) × (r < 256) ⌝ }

@@ -16,7 +16,7 @@ use Rattle.rules.proofs.Tests.{pick-second}
 use Rattle.tables.proofs.Chain.{good-lowest, without-tasks, unless-good}
 use Rattle.rules.specs.declared.Finding.the-variants as found
 use Rattle.plan_check.specs.Check.{scanOf, planCheckOf, checkOf}
-use Rattle.file_codec.proofs.Chain.{sizes}
+use Rattle.file_tables.proofs.Chain.{sizes}
 use Rattle.file_read.specs.declared.Reading.{Reading}
 use Rattle.file_read.specs.declared.Reading.the-variants.{Contents}
 use Rattle.file_read.specs.declared.Body.the-variants.{Partitions, Tasks, Runs}

@@ -16,10 +16,11 @@ use Rattle.rules.specs.declared.Refusal.the-variants.{Short, Edition, Limits, O
 use Rattle.rules.proofs.Tests.{pick-second, and-parts}
 use Rattle.tables.proofs.Chain.{within}
 use Rattle.file_codec.specs.Bytes.{numsOf, part}
-use Rattle.file_codec.specs.Contracts.{runsCounted, over}
+use Rattle.file_tables.specs.Contracts.{runsCounted}
+use Rattle.file_codec.specs.Contracts.{over}
 use Rattle.file_codec.specs.Contents.{tasksAt, runsAt, sizeOf}
 use Rattle.file_codec.proofs.Bytes.{numsOf-length}
-use Rattle.file_codec.proofs.Chain.{GoodFile, counted-runs, of-good, follows}
+use Rattle.file_tables.proofs.Chain.{GoodFile, counted-runs, of-good, follows}
 use Rattle.file_read.specs.declared.Reading.{Reading}
 use Rattle.file_read.specs.declared.Reading.the-variants.{Contents, Refused}
 use Rattle.file_read.specs.declared.Body.{Body}

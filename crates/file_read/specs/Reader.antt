@@ -9,7 +9,7 @@ use Rattle.rules.specs.Walk.{pick}
 use Rattle.tables.specs.Tables.{countedIn, withinLimits, unless}
 use Rattle.rules.specs.declared.Refusal.the-variants.{Short, Edition, Limits, Offset, Length}
 use Rattle.file_codec.specs.Bytes.{numsOf, part}
-use Rattle.file_codec.specs.Runs.{fileTablesOf}
+use Rattle.file_tables.specs.Runs.{fileTablesOf}
 use Rattle.file_codec.specs.Contents.{tasksAt, runsAt, sizeOf}
 use Rattle.file_read.specs.declared.Reading.{Reading}
 use Rattle.file_read.specs.declared.Reading.the-variants.{Contents, Refused}

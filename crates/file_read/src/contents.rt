@@ -24,7 +24,7 @@ fn counts_right(frame: usize, np: usize, nt: usize, nr: usize) -> bool
     if !tables::within_limits(frame, PART_WIDTH * np, TASK_WIDTH * nt) {
         return false;
     }
-    file_codec::runs::runs_counted(RUN_WIDTH * nr)
+    file_tables::runs_counted(RUN_WIDTH * nr)
 }
 
 fn offsets_right(po: usize, to: usize, ro: usize, np: usize, nt: usize) -> bool

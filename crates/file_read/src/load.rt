@@ -81,7 +81,7 @@ fn judge_loaded(c: Reading, parts: &[u16], tasks: &[u16], runs: &[u16]) -> Readi
             let p = PART_WIDTH * np;
             let t = TASK_WIDTH * nt;
             let r = RUN_WIDTH * nr;
-            let judged = file_codec::runs::judge_file(frame, &parts[..p], &tasks[..t], &runs[..r]);
+            let judged = file_tables::judge_file(frame, &parts[..p], &tasks[..t], &runs[..r]);
             match judged {
                 Finding::Refused(x) => Reading::Refused(x),
                 Finding::Good => Reading::Contents {

@@ -7,8 +7,8 @@ use lib.ListN.{length}
 use Rattle.rules.specs.Limits.{longest, runWidth}
 use Rattle.rules.specs.Walk.{Every}
 use Rattle.rules.specs.Table.{partitions}
-use Rattle.file_codec.specs.Runs.{runs, goodRun}
-use Rattle.file_codec.proofs.Chain.{sizes}
+use Rattle.file_tables.specs.Runs.{runs, goodRun}
+use Rattle.file_tables.proofs.Chain.{sizes}
 use Rattle.file_read.specs.declared.Reading.{Reading}
 use Rattle.file_read.specs.declared.Reading.the-variants.{Contents}
 use Rattle.file_read.specs.declared.Body.the-variants.{Partitions, Tasks, Runs}

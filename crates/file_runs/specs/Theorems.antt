@@ -8,7 +8,7 @@ use Rattle.rules.specs.Limits.{longest, runWidth}
 use Rattle.rules.specs.Walk.{Every}
 use Rattle.rules.specs.Table.{goodTick}
 use Rattle.tables.specs.Tables.{countedIn}
-use Rattle.file_codec.specs.Runs.{runs, goodRun}
+use Rattle.file_tables.specs.Runs.{runs, goodRun}
 use Rattle.file_read.specs.declared.Reading.the-variants.{Contents}
 use Rattle.file_read.specs.declared.Body.the-variants.{Runs}
 use Rattle.file_read.specs.Reader.{readOf, tableOf}

@@ -8,10 +8,10 @@ use lib.Seq.{take-at, drop-at, take-all, length-take-le, getD-take, getD-drop, e
 use Rattle.rules.specs.Limits.{partWidth, taskWidth, runWidth, headBytes}
 use Rattle.rules.specs.Table.{partitions, tasks}
 use Rattle.file_codec.specs.Bytes.{numsOf, bytesOf, part, Bytes}
-use Rattle.file_codec.specs.Runs.{runs}
+use Rattle.file_tables.specs.Runs.{runs}
 use Rattle.file_codec.specs.Contents.{tasksAt, runsAt, sizeOf, contents}
 use Rattle.file_codec.proofs.Bytes.{numsOf-length, numsOf-at, bytesOf-length, bytesOf-append, nums-bytes, bytes-nums}
-use Rattle.file_codec.proofs.Chain.{GoodFile, of-good, sizes}
+use Rattle.file_tables.proofs.Chain.{GoodFile, of-good, sizes}
 use Rattle.file_read.specs.declared.Reading.the-variants.{Contents}
 use Rattle.file_read.specs.declared.Body.the-variants.{Partitions, Tasks, Runs}
 use Rattle.file_read.specs.Reader.{headNumber, tableBy, contentsOf, readOf, tableOf}

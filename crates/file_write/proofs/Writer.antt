@@ -14,10 +14,10 @@ use Rattle.rules.specs.declared.Finding.the-variants as found
 use Rattle.rules.proofs.Tests.{pick-second}
 use Rattle.rules.proofs.Answers.{no-filling}
 use Rattle.file_codec.specs.Bytes.{bytesOf}
-use Rattle.file_codec.specs.Runs.{fileTablesOf}
+use Rattle.file_tables.specs.Runs.{fileTablesOf}
 use Rattle.file_codec.specs.Contents.{tasksAt, runsAt, contents}
 use Rattle.file_codec.proofs.Bytes.{bytesOf-length, next}
-use Rattle.file_codec.proofs.Chain.{GoodFile, good-of, follows, sizes}
+use Rattle.file_tables.proofs.Chain.{GoodFile, good-of, follows, sizes}
 use Rattle.rules.specs.declared.Filling.the-variants.{Fills, Refused}
 use Rattle.file_write.specs.Writer.{fileOf, sizeFor, writeOf, writtenLeft}
 use Rattle.file_write.specs.Contracts.{Small}

@@ -7,7 +7,7 @@ use lib.ListN.{length, take, drop}
 use Rattle.rules.specs.Table.{partitions, tasks}
 use Rattle.rules.specs.declared.Refusal.{Refusal}
 use Rattle.file_codec.specs.Bytes.{Bytes}
-use Rattle.file_codec.specs.Runs.{runs}
+use Rattle.file_tables.specs.Runs.{runs}
 use Rattle.file_read.specs.declared.Reading.the-variants.{Contents}
 use Rattle.file_read.specs.declared.Body.the-variants.{Partitions, Tasks, Runs}
 use Rattle.file_read.specs.Reader.{readOf, tableOf}

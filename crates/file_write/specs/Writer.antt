@@ -8,7 +8,7 @@ use Rattle.tables.specs.Tables.{unless}
 use Rattle.rules.specs.Filling.{leftBy}
 use Rattle.rules.specs.declared.Refusal.the-variants.{Output}
 use Rattle.file_codec.specs.Bytes.{bytesOf}
-use Rattle.file_codec.specs.Runs.{fileTablesOf}
+use Rattle.file_tables.specs.Runs.{fileTablesOf}
 use Rattle.file_codec.specs.Contents.{sizeOf, contents}
 use Rattle.rules.specs.declared.Filling.{Filling}
 use Rattle.rules.specs.declared.Filling.the-variants.{Fills, Refused}

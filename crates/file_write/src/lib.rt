@@ -15,7 +15,7 @@ mod put; // put.rt: the contents and the bodies, put into the output
 fn write_answer(frame: usize, parts: &[u16], tasks: &[u16], runs: &[u16], room: usize) -> Filling
     ensures { λ r. ⌜ r ≡ writeOf frame (now (parts .entry)) (now (tasks .entry)) (now (runs .entry)) room ⌝ }
 {
-    let judged = file_codec::runs::judge_file(frame, parts, tasks, runs);
+    let judged = file_tables::judge_file(frame, parts, tasks, runs);
     match judged {
         Finding::Refused(r) => Filling::Refused(r),
         Finding::Good => {

@@ -8,7 +8,7 @@ use Rattle.rules.specs.Limits.{longest}
 use Rattle.rules.specs.Table.{partitions}
 use Rattle.tables.specs.Tables.{GoodTables}
 use Rattle.tables.proofs.Chain.{other-frame, without-tasks, unless-good}
-use Rattle.file_codec.proofs.Chain.{GoodFile, of-good}
+use Rattle.file_tables.proofs.Chain.{GoodFile, of-good}
 use Rattle.theory.specs.Harmonic.{Harmonic, frame, allWanted, planned, harmonicPlan}
 use Rattle.theory.proofs.Harmonic.{ticks-length}
 use Rattle.theory.proofs.Built.{harmonic-plan-good}
@@ -21,7 +21,7 @@ use Rattle.plan_build.proofs.Orders.{counted-few}
 use Rattle.rules.specs.declared.Filling.the-variants.{Fills, Refused}
 use Rattle.file_read.specs.declared.Body.the-variants as body
 use Rattle.file_read.specs.Reader as file
-use Rattle.file_codec.specs.Runs.{runs}
+use Rattle.file_tables.specs.Runs.{runs}
 use Rattle.file_write.specs.Writer.{fileOf, sizeFor, writeOf}
 use Rattle.file_write.proofs.Writer.{fit, write-all}
 use Rattle.file_write.proofs.Trip.{read-written, left-file}

@@ -14,7 +14,7 @@ use Rattle.rules.specs.declared.Filling.the-variants.{Fills}
 use Rattle.file_read.specs.declared.Reading.the-variants.{Contents}
 use Rattle.file_read.specs.declared.Body.the-variants as body
 use Rattle.file_read.specs.Reader as file
-use Rattle.file_codec.specs.Runs.{runs}
+use Rattle.file_tables.specs.Runs.{runs}
 use Rattle.file_write.specs.Writer.{sizeFor}
 use Rattle.output.specs.Put.{Put}
 use Rattle.file_runs.specs.Ticks.{ticksOf}

@@ -1,10 +1,10 @@
 use mathlib.Core.Path.{sym, _∙_}
 use native.Mathlib.Omega.{arith}
 use borrow.Author.Tests.{not-true, not-false}
-use Rattle.file_codec.proofs.Chain.{counted-runs, file-3, file-tables, file-runs}
+use Rattle.file_tables.proofs.Chain.{counted-runs, file-3, file-tables, file-runs}
 use borrow.Author.Needs.{needs}
-use Rattle.file_codec.proofs.runs.judge_file.Statement.{statement}
-use Rattle.file_codec.proofs.runs.judge_file.Tie as tie
+use Rattle.file_tables.proofs.judge_file.Statement.{statement}
+use Rattle.file_tables.proofs.judge_file.Tie as tie
 
 runs-counted-requires : tie.Need-runs-counted-requires
 runs-counted-requires c κs = search needs

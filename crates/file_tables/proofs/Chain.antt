@@ -18,8 +18,8 @@ use Rattle.rules.specs.declared.Finding.the-variants.{Good, Refused}
 use Rattle.rules.proofs.Sum.{sum-more}
 use Rattle.rules.proofs.Tests.{pick-first}
 use Rattle.tables.proofs.Chain.{not-good, lowest-good, good-lowest, counted-parts, within, unless-given, unless-good, unless-holds}
-use Rattle.file_codec.specs.Contracts.{runsCounted, firstBadRun}
-use Rattle.file_codec.specs.Runs.{runOwner, runLength, runs, repeats, reached, goodRun, runsJudged, fileTablesOf}
+use Rattle.file_tables.specs.Contracts.{runsCounted, firstBadRun}
+use Rattle.file_tables.specs.Runs.{runOwner, runLength, runs, repeats, reached, goodRun, runsJudged, fileTablesOf}
 
 -- a turn adds the length at k
 pub total-more : (rs : List ℕ) (s k l : ℕ) → s ≡ sum (runLength rs) k → l ≡ fieldAt runWidth rs k 1 → s + l ≡ sum (runLength rs) (k + 1)

@@ -1,8 +1,8 @@
 use mathlib.Core.Path.{sym, _∙_}
-use Rattle.file_codec.proofs.Chain.{run-owner, run-empty, run-repeats, run-past, run-more, run-last}
+use Rattle.file_tables.proofs.Chain.{run-owner, run-empty, run-repeats, run-past, run-more, run-last}
 use borrow.Author.Needs.{needs}
-use Rattle.file_codec.proofs.runs.good_run.Statement.{statement}
-use Rattle.file_codec.proofs.runs.good_run.Tie as tie
+use Rattle.file_tables.proofs.good_run.Statement.{statement}
+use Rattle.file_tables.proofs.good_run.Tie as tie
 
 run-field-requires : tie.Need-run-field-requires
 run-field-requires c κs = search needs

@@ -1,7 +1,7 @@
-use Rattle.file_codec.proofs.Chain.{runs-8, runs-good}
+use Rattle.file_tables.proofs.Chain.{runs-8, runs-good}
 use borrow.Author.Needs.{needs}
-use Rattle.file_codec.proofs.runs.judge_runs.Statement.{statement}
-use Rattle.file_codec.proofs.runs.judge_runs.Tie as tie
+use Rattle.file_tables.proofs.judge_runs.Statement.{statement}
+use Rattle.file_tables.proofs.judge_runs.Tie as tie
 
 first-bad-run-requires : tie.Need-first-bad-run-requires
 first-bad-run-requires c κs = search needs

@@ -4,11 +4,11 @@ use native.Mathlib.Omega.{arith}
 use Rattle.rules.specs.Walk.{first, fails, sum}
 use Rattle.rules.proofs.First.{first-zero, first-more, first-found, first-done}
 use Rattle.rules.proofs.Sum.{sum-zero}
-use Rattle.file_codec.specs.Runs.{runLength, goodRun}
-use Rattle.file_codec.proofs.Chain.{total-more, run-bad, run-good}
+use Rattle.file_tables.specs.Runs.{runLength, goodRun}
+use Rattle.file_tables.proofs.Chain.{total-more, run-bad, run-good}
 use borrow.Author.Needs.{needs}
-use Rattle.file_codec.proofs.runs.first_bad_run.Statement.{statement}
-use Rattle.file_codec.proofs.runs.first_bad_run.Tie as tie
+use Rattle.file_tables.proofs.first_bad_run.Statement.{statement}
+use Rattle.file_tables.proofs.first_bad_run.Tie as tie
 
 abbrev Inv-loop : tie.InvT-loop
 Inv-loop table parts frame n total₀ k₀ total k = (k ≤ n) × (first (fails (goodRun parts frame table)) k ≡ k) × (total ≡ sum (runLength table) k) × (total ≤ 65536 * k)

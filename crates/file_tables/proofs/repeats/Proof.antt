@@ -1,10 +1,10 @@
 use Prim.Native.Nat.{_≤_, _<_}
 use borrow.Author.Tests.{lt-ltb, le-ltb}
-use Rattle.file_codec.specs.Runs.{repeats, runOwner}
+use Rattle.file_tables.specs.Runs.{repeats, runOwner}
 use native.Mathlib.Omega.{arith}
 use borrow.Author.Needs.{needs}
-use Rattle.file_codec.proofs.runs.repeats.Statement.{statement}
-use Rattle.file_codec.proofs.runs.repeats.Tie as tie
+use Rattle.file_tables.proofs.repeats.Statement.{statement}
+use Rattle.file_tables.proofs.repeats.Tie as tie
 
 returns : tie.Need-returns
 unfolding repeats runOwner
