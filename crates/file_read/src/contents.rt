@@ -1,6 +1,6 @@
 // The contents: the first 16 bytes, and the refusals 1 to 5.
 ghost use mathlib.Core.Path.{_≡_};
-ghost use Prim.Native.Nat.{_<_};
+ghost use Prim.Native.Nat.{_<_, _^_};
 ghost use Rattle.file_read.specs.Reader.{countsOf, headNumber, contentsOf};
 ghost use Rattle.file_read.specs.Contracts.{countsRight, offsetsRight};
 use crate::Reading;
@@ -12,13 +12,13 @@ use rules::limits::RUN_WIDTH;
 use rules::limits::TASK_WIDTH;
 
 fn head_number(file: &[u8], k: usize) -> usize
-    ensures { λ r. ⌜ (r ≡ headNumber (now (file .entry)) k) × (r < 65536) ⌝ }
+    ensures { λ r. ⌜ (r ≡ headNumber (now (file .entry)) k) × (r < 2 ^ 16) ⌝ }
 {
     rules::numbers::wide(file_codec::number(file, k))
 }
 
 fn counts_right(frame: usize, np: usize, nt: usize, nr: usize) -> bool
-    requires { ⌜ (np < 65536) × (nt < 65536) × (nr < 65536) ⌝ }
+    requires { ⌜ (np < 2 ^ 16) × (nt < 2 ^ 16) × (nr < 2 ^ 16) ⌝ }
     ensures { λ r. ⌜ r ≡ countsRight frame np nt nr ⌝ }
 {
     if !tables::within_limits(frame, PART_WIDTH * np, TASK_WIDTH * nt) {
@@ -28,7 +28,7 @@ fn counts_right(frame: usize, np: usize, nt: usize, nr: usize) -> bool
 }
 
 fn offsets_right(po: usize, to: usize, ro: usize, np: usize, nt: usize) -> bool
-    requires { ⌜ (np < 65536) × (nt < 65536) ⌝ }
+    requires { ⌜ (np < 2 ^ 16) × (nt < 2 ^ 16) ⌝ }
     ensures { λ r. ⌜ r ≡ offsetsRight po to ro np nt ⌝ }
 {
     let tasks = HEAD_BYTES + NUMBER_BYTES * (PART_WIDTH * np);
@@ -52,7 +52,7 @@ fn counts(
     ro: usize,
     nr: usize,
 ) -> Reading
-    requires { ⌜ (np < 65536) × (nt < 65536) × (nr < 65536) ⌝ }
+    requires { ⌜ (np < 2 ^ 16) × (nt < 2 ^ 16) × (nr < 2 ^ 16) ⌝ }
     ensures { λ r. ⌜ r ≡ countsOf long frame po np to nt ro nr ⌝ }
 {
     if !counts_right(frame, np, nt, nr) {

@@ -13,7 +13,7 @@ ghost use Rattle.file_runs.specs.Ticks.{ticksPut, runsPut};
 
 // The ticks of one run.
 fn put_ticks(out: &mut [u16], at: usize, owner: u16, n: usize) -> usize
-    requires { ⌜ (at < 2 ^ 40) × (n < 65536) ⌝ }
+    requires { ⌜ (at < 2 ^ 40) × (n < 2 ^ 16) ⌝ }
     ensures { λ r. ⌜ Put (now (out .entry)) at (replicate n owner) r (now (out .exit)) × (r ≡ at + n) ⌝ }
 {
     let mut k = 0;

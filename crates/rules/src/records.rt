@@ -22,7 +22,7 @@ pub fn partitions(parts: &[u16]) -> usize
 }
 
 fn part_field(parts: &[u16], k: usize, field: u8) -> u16
-    requires { ⌜ field < 3 ⌝ }
+    requires { ⌜ field < partWidth ⌝ }
     ensures { λ r. ⌜ r ≡ fieldAt partWidth (now (parts .entry)) k field ⌝ }
 {
     if parts.len() <= k {
@@ -56,7 +56,7 @@ pub fn tasks(table: &[u16]) -> usize
 }
 
 fn task_field(table: &[u16], j: usize, field: u8) -> u16
-    requires { ⌜ field < 4 ⌝ }
+    requires { ⌜ field < taskWidth ⌝ }
     ensures { λ r. ⌜ r ≡ fieldAt taskWidth (now (table .entry)) j field ⌝ }
 {
     if table.len() <= j {

@@ -1,5 +1,5 @@
 -- Bounds, and what a higher task adds. Assumes nothing.
-use Prim.Native.Nat.{ℕ, suc, _+_, _-_, _*_, _%_, _≤_, _<_}
+use Prim.Native.Nat.{ℕ, suc, _+_, _-_, _*_, _%_, _^_, _≤_, _<_}
 use mathlib.Core.Path.{_≡_, sym, _∙_}
 use mathlib.Core.Bool.{Bool, true, false}
 use mathlib.Core.List.{List}
@@ -27,10 +27,11 @@ pub times-none : (t p : ℕ) → p ≡ 0 → 0 ≡ roundUp t p
 unfolding roundUp
 times-none t p e = rw (e, div-zero (t + (0 - 1)))
 
-pub asked-small : (c n : ℕ) → c ≤ 65535 → n < 4294967296 → c * n < 281474976710656
+pub asked-small : (c n : ℕ) → c < 2 ^ 16 → n < 2 ^ 32 → c * n < 2 ^ 48
 asked-small c n h k =
-    let l : n ≤ 4294967295 = omega arith in
-    let p : c * n ≤ 65535 * 4294967295 = mul-le-mul h l in
+    let a : c ≤ 2 ^ 16 - 1 = omega arith in
+    let b : n ≤ 2 ^ 32 - 1 = omega arith in
+    let p : c * n ≤ (2 ^ 16 - 1) * (2 ^ 32 - 1) = mul-le-mul a b in
     omega arith
 
 module _ (ts : List ℕ) (i t j : ℕ) where

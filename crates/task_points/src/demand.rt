@@ -1,6 +1,6 @@
 // The demand of a task, its own budget and what the higher tasks of its partition ask, against the least service.
 ghost use mathlib.Core.Path.{_≡_};
-ghost use Prim.Native.Nat.{_≤_, _<_};
+ghost use Prim.Native.Nat.{_≤_, _<_, _^_};
 ghost use Rattle.rules.specs.Limits.{mostTasks};
 ghost use Rattle.rules.specs.Walk.{roundUp};
 ghost use Rattle.theory.specs.Plan.{own};
@@ -11,7 +11,7 @@ ghost use Rattle.theory.specs.Contracts.{leastFor};
 
 // t/T, rounded up.
 fn times(t: u32, period: u16) -> usize
-    ensures { λ r. ⌜ (r < 4294967296) × (r ≡ roundUp t period) ⌝ }
+    ensures { λ r. ⌜ (r < 2 ^ 32) × (r ≡ roundUp t period) ⌝ }
 {
     if period == 0 {
         return 0;
@@ -27,7 +27,7 @@ pub fn rival(tasks: &[u16], i: usize, j: usize) -> bool
 
 // What the higher task j adds to the demand of i at t.
 fn asked(tasks: &[u16], i: usize, t: u32, j: usize) -> usize
-    ensures { λ r. ⌜ (r < 281474976710656) × (r ≡ asked (taskLoad (now (tasks .entry))) i t j) ⌝ }
+    ensures { λ r. ⌜ (r < 2 ^ 48) × (r ≡ asked (taskLoad (now (tasks .entry))) i t j) ⌝ }
 {
     if rival(tasks, i, j) {
         return rules::numbers::wide(rules::records::budget(tasks, j))

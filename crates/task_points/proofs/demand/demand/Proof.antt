@@ -1,4 +1,4 @@
-use Prim.Native.Nat.{_+_, _-_, _*_, _≤_}
+use Prim.Native.Nat.{_+_, _-_, _*_, _^_, _≤_}
 use mathlib.Core.Path.{_≡_, sym, _∙_}
 use native.Mathlib.Nat.{add-zero}
 use native.Mathlib.Omega.{arith}
@@ -13,7 +13,7 @@ use Rattle.task_points.proofs.demand.demand.Statement.{statement}
 use Rattle.task_points.proofs.demand.demand.Tie as tie
 
 abbrev Inv-loop : tie.InvT-loop
-Inv-loop tasks i t all₀ j₀ all j = (j ≤ i) × (all ≤ 65535 + 281474976710656 * j) × (all ≡ budget tasks i + sum (asked (taskLoad tasks) i t) j)
+Inv-loop tasks i t all₀ j₀ all j = (j ≤ i) × (all ≤ 65535 + 2 ^ 48 * j) × (all ≡ budget tasks i + sum (asked (taskLoad tasks) i t) j)
 
 abbrev μ-loop : tie.MeasureT-loop
 μ-loop tasks i t all₀ j₀ all j = i - j
