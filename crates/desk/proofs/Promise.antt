@@ -15,7 +15,7 @@ use Rattle.desk.proofs.Rules.{SoundAfter}
 use Rattle.desk.specs.Story.{Entry, entry, ended, unended, atOpening, entries, Story, live, ever, begin, after, next, many, Promise}
 use Rattle.desk.proofs.Chain.{Chain, kept-from, kept-twice}
 use Rattle.desk.proofs.Spot.{spot-start, chain-insert, length-insert}
-use Rattle.desk.proofs.Rules.{Good, good-of, good-kept, Way, same, dropped, taken, way, sound-way, open-is, open-sound, open-good}
+use Rattle.desk.proofs.Rules.{Good, good-of, good-kept, Ending, same, dropped, taken, ending, sound-ending, open-is, open-sound, open-good}
 use Rattle.desk.proofs.Entries.{withEntry, Follow, Line, AllBy, line-entries, follow-kept, entries-kept, ended-first, ended-by, by-later, by-join, line-join, follow-insert, follow-open, line-promise}
 
 pub take-filled : (js : List Job) (n : ℕ) → length js ≡ n → take n (filled js) ≡ js
@@ -42,9 +42,9 @@ drop-same t gone gs js g f =
     rw (append-assoc gone (ended t (entries gs js)) (unended t (entries gs js)), ended-first t 0 (entries gs js) (line-entries 0 gs js g f))
 
 module _ (h : Story) (q : Asked) (k : Kept h) where
-  -- any call that goes one of the ways keeps the story's promise
-  pub story-way : (o : Outcome) → Way (h .desk .clock) (h .desk .count) (h .desk .jobs) (q .time) (q .budget) (q .deadline) o → Kept (after h q o)
-  story-way o (same r a) =
+  -- a call that ends in any of these keeps the story's promise
+  pub story-ending : (o : Outcome) → Ending (h .desk .clock) (h .desk .count) (h .desk .jobs) (q .time) (q .budget) (q .deadline) o → Kept (after h q o)
+  story-ending o (same r a) =
       let t = h .desk .clock in
       let follows : Follow (unended t (live h)) (table h) =
       subst (λ (js : List Job). Follow (unended t (live h)) js) (k .here) (follow-kept t (h .listed) (table h) (k .follow)) in
@@ -57,19 +57,19 @@ module _ (h : Story) (q : Asked) (k : Kept h) where
         past = by-join t (h .gone) _ (k .past) (ended-by t (live h));
         here = k .here;
       }
-  story-way o (dropped r a late small) =
+  story-ending o (dropped r a late small) =
       let t = q .time in
       let js = kept t (table h) in
       let good = kept-good h k in
       let left : take (length js) (filled js) ≡ js = take-filled js (length js) refl in
       record {
-        sound = sound-way (h .desk .clock) (h .desk .count) (h .desk .jobs) t (q .budget) (q .deadline) (k .sound) o (dropped r a late small);
+        sound = sound-ending (h .desk .clock) (h .desk .count) (h .desk .jobs) t (q .budget) (q .deadline) (k .sound) o (dropped r a late small);
         follow = rw left (follow-kept t (h .listed) (table h) (k .follow));
         line = rw (left, entries-kept t (h .listed) (table h) (k .follow), drop-same t (h .gone) (h .listed) (table h) (good .order) (k .follow)) (k .line);
         past = by-join t (h .gone) _ (by-later (h .desk .clock) t (h .gone) late (k .past)) (ended-by t (live h));
         here = rw left (kept-twice t (table h));
       }
-  story-way o (taken i s late small some due few g spot) =
+  story-ending o (taken i s late small some due few g spot) =
       let t = q .time in
       let js = kept t (table h) in
       let new = job s (q .budget) (q .deadline) 0 in
@@ -85,7 +85,7 @@ module _ (h : Story) (q : Asked) (k : Kept h) where
       let before : Line 0 ((h .gone ++ ended t (live h)) ++ unended t (live h)) =
       rw (drop-same t (h .gone) (h .listed) (table h) (good .order) (k .follow)) (k .line) in
       record {
-        sound = sound-way (h .desk .clock) (h .desk .count) (h .desk .jobs) t (q .budget) (q .deadline) (k .sound) o (taken i s late small some due few g spot);
+        sound = sound-ending (h .desk .clock) (h .desk .count) (h .desk .jobs) t (q .budget) (q .deadline) (k .sound) o (taken i s late small some due few g spot);
         follow = rw left follows;
         line = rw left (line-join 0 t (h .gone ++ ended t (live h)) (unended t (live h)) _ (omega arith) before past
             (line-entries t (withEntry i mark (unended t (live h))) (insertAt i new js) chain follows));
@@ -94,7 +94,7 @@ module _ (h : Story) (q : Asked) (k : Kept h) where
       }
 
   pub kept-next : Kept (next h q)
-  kept-next = story-way _ (way (h .desk .clock) (h .desk .count) (h .desk .jobs) (q .time) (q .budget) (q .deadline) (k .sound))
+  kept-next = story-ending _ (ending (h .desk .clock) (h .desk .count) (h .desk .jobs) (q .time) (q .budget) (q .deadline) (k .sound))
 
 pub kept-many : (qs : List Asked) (h : Story) → Kept h → Kept (many qs h)
 kept-many [] h k = k

@@ -89,23 +89,23 @@ pub record Named (r : Refusal) : Type 0 where
   pub table : eqb (told r .number) 13 ≡ false
   pub far : eqb (told r .number) 19 ≡ false
 
--- the ways that a request on a sound table goes
-pub data Way (clock n : ℕ) (l : List Job) (t c d : ℕ) : Outcome → Type 0 where
-  same : (r : Refusal) → Named r → Way clock n l t c d (outcome l n clock (Refused r))
+-- how a request on a sound table ends
+pub data Ending (clock n : ℕ) (l : List Job) (t c d : ℕ) : Outcome → Type 0 where
+  same : (r : Refusal) → Named r → Ending clock n l t c d (outcome l n clock (Refused r))
   dropped : (r : Refusal) → Named r → clock ≤ t → t ≤ latest
-      → Way clock n l t c d (dropping t (kept t (take n l)) r)
+      → Ending clock n l t c d (dropping t (kept t (take n l)) r)
   taken : (i s : ℕ) → clock ≤ t → t ≤ latest → 1 ≤ c → d ≤ latest → length (kept t (take n l)) < places → Chain t (kept t (take n l))
       → Spot c d t i (kept t (take n l)) s
-      → Way clock n l t c d (outcome (filled (insertAt i (job s c d 0) (kept t (take n l)))) (length (kept t (take n l)) + 1) t (Taken i s))
+      → Ending clock n l t c d (outcome (filled (insertAt i (job s c d 0) (kept t (take n l)))) (length (kept t (take n l)) + 1) t (Taken i s))
 
 module _ (clock n : ℕ) (l : List Job) (t c d : ℕ) (sound : Sound clock n l) where
   abbrev keep : Outcome
   keep = outcome l n clock (Refused TooFar)
 
-  way-placed : clock ≤ t → numbersOk t c d ≡ true → length (kept t (take n l)) < places → Chain t (kept t (take n l))
-      → (p : Place) → find t c d (kept t (take n l)) ≡ p → Way clock n l t c d (taking keep t c d (kept t (take n l)) p)
-  way-placed h nums few g Nowhere e = dropped NoPlace (record { table = refl; far = refl }) h (numbers-small t c d nums .0)
-  way-placed h nums few g (At i s) e =
+  ending-placed : clock ≤ t → numbersOk t c d ≡ true → length (kept t (take n l)) < places → Chain t (kept t (take n l))
+      → (p : Place) → find t c d (kept t (take n l)) ≡ p → Ending clock n l t c d (taking keep t c d (kept t (take n l)) p)
+  ending-placed h nums few g Nowhere e = dropped NoPlace (record { table = refl; far = refl }) h (numbers-small t c d nums .0)
+  ending-placed h nums few g (At i s) e =
       let js = kept t (take n l) in
       let f = find-spot 0 c d t js g i s e in
       let at : f .at ≡ i = omega (arith, f .is) in
@@ -116,39 +116,39 @@ module _ (clock n : ℕ) (l : List Job) (t c d : ℕ) (sound : Sound clock n l) 
       rw (spot-near c d t i js s g r spot)
       (taken i s h (numbers-small t c d nums .0) (leb-true _ _ (and-parts _ _ nums .0)) (leb-true _ _ (and-parts _ _ two .0)) few g spot)
 
-  pub way : Way clock n l t c d (requestOf clock n l t c d)
+  pub ending : Ending clock n l t c d (requestOf clock n l t c d)
   unfolding requestOf
-  way = rw (sound .test) (by-numbers (numbersOk t c d) refl) where
+  ending = rw (sound .test) (by-numbers (numbersOk t c d) refl) where
     good : Good (length (kept t (take n l))) (kept t (take n l))
     good = good-kept t n (take n l) (good-of clock n l sound)
 
     by-full : (b : Bool) → leb places (length (kept t (take n l))) ≡ b → clock ≤ t → numbersOk t c d ≡ true → Chain t (kept t (take n l))
-        → Way clock n l t c d (pick b (dropping t (kept t (take n l)) Full) (taking keep t c d (kept t (take n l)) (find t c d (kept t (take n l)))))
+        → Ending clock n l t c d (pick b (dropping t (kept t (take n l)) Full) (taking keep t c d (kept t (take n l)) (find t c d (kept t (take n l)))))
     by-full true e h nums g = dropped Full (record { table = refl; far = refl }) h (numbers-small t c d nums .0)
-    by-full false e h nums g = way-placed h nums (leb-false places _ e) g (find t c d (kept t (take n l))) refl
+    by-full false e h nums g = ending-placed h nums (leb-false places _ e) g (find t c d (kept t (take n l))) refl
 
     by-busy : (b : Bool) → busy t (kept t (take n l)) ≡ b → clock ≤ t → numbersOk t c d ≡ true
-        → Way clock n l t c d (pick b (dropping t (kept t (take n l)) Busy)
+        → Ending clock n l t c d (pick b (dropping t (kept t (take n l)) Busy)
         (pick (leb places (length (kept t (take n l)))) (dropping t (kept t (take n l)) Full) (taking keep t c d (kept t (take n l)) (find t c d (kept t (take n l))))))
     by-busy true e h nums = dropped Busy (record { table = refl; far = refl }) h (numbers-small t c d nums .0)
     by-busy false e h nums = by-full (leb places (length (kept t (take n l)))) refl h nums (not-busy t (kept t (take n l)) e (good .order))
 
     by-clock : (b : Bool) → ltb t clock ≡ b → numbersOk t c d ≡ true
-        → Way clock n l t c d (pick b (outcome l n clock (Refused Past)) (pick (busy t (kept t (take n l))) (dropping t (kept t (take n l)) Busy)
+        → Ending clock n l t c d (pick b (outcome l n clock (Refused Past)) (pick (busy t (kept t (take n l))) (dropping t (kept t (take n l)) Busy)
         (pick (leb places (length (kept t (take n l)))) (dropping t (kept t (take n l)) Full) (taking keep t c d (kept t (take n l)) (find t c d (kept t (take n l)))))))
     by-clock true e nums = same Past (record { table = refl; far = refl })
     by-clock false e nums = by-busy (busy t (kept t (take n l))) refl (ltb-false t clock e) nums
 
     by-numbers : (b : Bool) → numbersOk t c d ≡ b
-        → Way clock n l t c d (pick (not b) (outcome l n clock (Refused Numbers)) (pick (ltb t clock) (outcome l n clock (Refused Past)) (pick (busy t (kept t (take n l))) (dropping t (kept t (take n l)) Busy)
+        → Ending clock n l t c d (pick (not b) (outcome l n clock (Refused Numbers)) (pick (ltb t clock) (outcome l n clock (Refused Past)) (pick (busy t (kept t (take n l))) (dropping t (kept t (take n l)) Busy)
         (pick (leb places (length (kept t (take n l)))) (dropping t (kept t (take n l)) Full) (taking keep t c d (kept t (take n l)) (find t c d (kept t (take n l))))))))
     by-numbers true e = by-clock (ltb t clock) refl e
     by-numbers false e = same Numbers (record { table = refl; far = refl })
 
-  pub sound-way : (o : Outcome) → Way clock n l t c d o → SoundAfter o
-  sound-way o (same r h) = sound
-  sound-way o (dropped r h late small) = sound-filled t _ (kept t (take n l)) small (good-kept t n (take n l) (good-of clock n l sound))
-  sound-way o (taken i s late small some due few g spot) =
+  pub sound-ending : (o : Outcome) → Ending clock n l t c d o → SoundAfter o
+  sound-ending o (same r h) = sound
+  sound-ending o (dropped r h late small) = sound-filled t _ (kept t (take n l)) small (good-kept t n (take n l) (good-of clock n l sound))
+  sound-ending o (taken i s late small some due few g spot) =
       let js = kept t (take n l) in
       let good = good-kept t n (take n l) (good-of clock n l sound) in
       sound-filled t (length js + 1) (insertAt i (job s c d 0) js) small
@@ -161,16 +161,16 @@ module _ (clock n : ℕ) (l : List Job) (t c d : ℕ) (sound : Sound clock n l) 
 
   -- 1. what a request leaves passes rule 13 again, whatever the answer
   pub request-sound : SoundAfter (requestOf clock n l t c d)
-  request-sound = sound-way (requestOf clock n l t c d) way
+  request-sound = sound-ending (requestOf clock n l t c d) ending
 
   -- 2. and it answers neither 13 nor 19
-  numbers-way : (o : Outcome) → Way clock n l t c d o → (said (o .answer) .number ≡ 13 → ⊥) × (said (o .answer) .number ≡ 19 → ⊥)
-  numbers-way o (same q h) = (λ e. true≢false (sym (eq-eqb _ _ e) ∙ h .table), λ e. true≢false (sym (eq-eqb _ _ e) ∙ h .far))
-  numbers-way o (dropped q h late small) = (λ e. true≢false (sym (eq-eqb _ _ e) ∙ h .table), λ e. true≢false (sym (eq-eqb _ _ e) ∙ h .far))
-  numbers-way o (taken i s late small some due few g spot) = (λ e. absurd (omega arith), λ e. absurd (omega arith))
+  numbers-ending : (o : Outcome) → Ending clock n l t c d o → (said (o .answer) .number ≡ 13 → ⊥) × (said (o .answer) .number ≡ 19 → ⊥)
+  numbers-ending o (same q h) = (λ e. true≢false (sym (eq-eqb _ _ e) ∙ h .table), λ e. true≢false (sym (eq-eqb _ _ e) ∙ h .far))
+  numbers-ending o (dropped q h late small) = (λ e. true≢false (sym (eq-eqb _ _ e) ∙ h .table), λ e. true≢false (sym (eq-eqb _ _ e) ∙ h .far))
+  numbers-ending o (taken i s late small some due few g spot) = (λ e. absurd (omega arith), λ e. absurd (omega arith))
 
   pub request-numbers : (said (requestOf clock n l t c d .answer) .number ≡ 13 → ⊥) × (said (requestOf clock n l t c d .answer) .number ≡ 19 → ⊥)
-  request-numbers = numbers-way (requestOf clock n l t c d) way
+  request-numbers = numbers-ending (requestOf clock n l t c d) ending
 
 -- the place that is found, on any table in order with right flexibilities, moves no job beyond its x
 pub room-never-far : (t c d : ℕ) (js : List Job) (i s : ℕ) → Chain 0 js → rightX js ≡ true → busy t js ≡ false

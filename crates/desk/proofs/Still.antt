@@ -17,7 +17,7 @@ use Rattle.desk.specs.Table.{job, filled, tableOk, openOf, ends, Outcome
 use Rattle.desk.specs.Request.{kept, shift, insertAt}
 use Rattle.desk.specs.Story.{Entry, entry, noEntry, ended, unended, atOpening, entries, Story, live, ever, begin, after, next, many, Later, Joined, countTaken, takens, Fixed}
 use Rattle.desk.proofs.Spot.{Spot, spot-start, length-shift, length-insert}
-use Rattle.desk.proofs.Rules.{Way, same, dropped, taken, way, open-is}
+use Rattle.desk.proofs.Rules.{Ending, same, dropped, taken, ending, open-is}
 use Rattle.desk.proofs.Entries.{starting, withEntry, Follow, Line, line-entries, follow-kept, follow-shift, entries-kept, line-held}
 use Rattle.desk.proofs.Promise.{take-filled, table, Kept, kept-good, drop-same, kept-next, kept-begin}
 
@@ -111,9 +111,9 @@ pub data Step (h : Story) (q : Asked) : Story → Answer → Type 0 where
       → Fixed (q .time) (ever h) (ever n) → Step h q n (Taken i s)
 
 module _ (h : Story) (q : Asked) (k : Kept h) where
-  step-way : (o : Outcome) → Way (h .desk .clock) (h .desk .count) (h .desk .jobs) (q .time) (q .budget) (q .deadline) o
+  step-ending : (o : Outcome) → Ending (h .desk .clock) (h .desk .count) (h .desk .jobs) (q .time) (q .budget) (q .deadline) o
       → Step h q (after h q o) (o .answer)
-  step-way o (same r a) =
+  step-ending o (same r a) =
       let t = h .desk .clock in
       let z : t ≤ t = omega arith in
       let left : entries (unended t (live h)) (table h) ≡ unended t (live h) =
@@ -121,14 +121,14 @@ module _ (h : Story) (q : Asked) (k : Kept h) where
       let w : (h .gone ++ ended t (live h)) ++ entries (unended t (live h)) (table h) ≡ ever h =
       rw left (drop-same t (h .gone) (h .listed) (table h) (kept-good h k .order) (k .follow)) in
       refused _ r z w
-  step-way o (dropped r a late small) =
+  step-ending o (dropped r a late small) =
       let t = q .time in
       let js = kept t (table h) in
       let left : take (length js) (filled js) ≡ js = take-filled js (length js) refl in
       let w : (h .gone ++ ended t (live h)) ++ entries (unended t (live h)) (take (length js) (filled js)) ≡ ever h =
       rw (left, entries-kept t (h .listed) (table h) (k .follow)) (drop-same t (h .gone) (h .listed) (table h) (kept-good h k .order) (k .follow)) in
       refused _ r late w
-  step-way o (taken i s late small some due few g spot) =
+  step-ending o (taken i s late small some due few g spot) =
       let t = q .time in
       let js = kept t (table h) in
       let new = job s (q .budget) (q .deadline) 0 in
@@ -147,7 +147,7 @@ module _ (h : Story) (q : Asked) (k : Kept h) where
       joined _ i s late refl join fixed
 
   pub step : Step h q (next h q) (next h q .desk .answer)
-  step = step-way (next h q .desk) (way (h .desk .clock) (h .desk .count) (h .desk .jobs) (q .time) (q .budget) (q .deadline) (k .sound))
+  step = step-ending (next h q .desk) (ending (h .desk .clock) (h .desk .count) (h .desk .jobs) (q .time) (q .budget) (q .deadline) (k .sound))
 
 module _ (h : Story) (q : Asked) where
   by-refusal : (n : Story) (a : Answer) (r : Refusal) → a ≡ Refused r → Step h q n a → ever n ≡ ever h

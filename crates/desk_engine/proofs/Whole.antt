@@ -112,8 +112,8 @@ module _ (k : Desk) (l : List Job) where
   abbrev S₀ : Scan
   S₀ = record { checking = fold checkStep (openingOf k (length l) .checking) l; searching = fold searchStep (searchingFrom 0 0 0 0) l; desk = k }
 
-  way-opening : decisionOf S₀ ≡ pick (tableOk (k .count) l) Opens (Keeps Rules)
-  way-opening = rw (opening-law k l, opening-stays (openingOf k (length l) .checking) l)
+  decides-opening : decisionOf S₀ ≡ pick (tableOk (k .count) l) Opens (Keeps Rules)
+  decides-opening = rw (opening-law k l, opening-stays (openingOf k (length l) .checking) l)
 
   by-table : (v : Bool) → tableOk (k .count) l ≡ v
       → Made l (effectBy (pick v Opens (Keeps Rules)) S₀) (pick v (outcome (filled (flexes (take (k .count) l))) (k .count) 0 Opened) (outcome l (k .count) (k .clock) (Refused Rules)))
@@ -126,7 +126,7 @@ module _ (k : Desk) (l : List Job) where
   unfolding effectOf openOf
   open-law =
       subst (λ (s : Scan). Made l (effectBy (decisionOf s) s) (openOf (k .clock) (k .count) l)) (sym (scan-both (openingOf k (length l)) l))
-      (subst (λ (w : Decision). Made l (effectBy w S₀) (openOf (k .clock) (k .count) l)) (sym way-opening) (by-table (tableOk (k .count) l) refl))
+      (subst (λ (w : Decision). Made l (effectBy w S₀) (openOf (k .clock) (k .count) l)) (sym decides-opening) (by-table (tableOk (k .count) l) refl))
 
 -- A REQUEST
 
@@ -217,9 +217,9 @@ module _ (k : Desk) (l : List Job) (t c d : ℕ) where
     after-made = subst (λ (v : Bool). Made l (effectBy (rests v (leb places (e .rest))) S) (left (busy t ks))) (sym busy-e)
         (subst (λ (m : ℕ). Made l (effectBy (rests (busy t ks) (leb places m)) S) (left (busy t ks))) (sym rest-e) (by-busy (busy t ks) refl))
 
-  way-asked : (v₁ v₂ v₃ : Bool) → deskOk (k .clock) n l ≡ v₁ → numbersOk t c d ≡ v₂ → ltb t (k .clock) ≡ v₃
+  decides-asked : (v₁ v₂ v₃ : Bool) → deskOk (k .clock) n l ≡ v₁ → numbersOk t c d ≡ v₂ → ltb t (k .clock) ≡ v₃
       → decisionOf S ≡ pick v₁ (pick v₂ (pick v₃ (Keeps Past) (pick (e .busy) (Drops Busy) (pick (leb places (e .rest)) (Drops Full) (pick (e .found) Takes (Drops NoPlace))))) (Keeps Numbers)) (Keeps Rules)
-  way-asked v₁ v₂ v₃ h₁ h₂ h₃ =
+  decides-asked v₁ v₂ v₃ h₁ h₂ h₃ =
       let same = asks (searchingFrom t c d n) l in
       rw (asking-law k l t c d, opening-stays (askingOf k (length l) t c d .checking) l, same .0, same .1, same .2, h₁, h₂, h₃)
 
@@ -228,13 +228,13 @@ module _ (k : Desk) (l : List Job) (t c d : ℕ) where
 
   go : (v₁ v₂ v₃ : Bool) → deskOk (k .clock) n l ≡ v₁ → numbersOk t c d ≡ v₂ → ltb t (k .clock) ≡ v₃
       → Made l (effectBy (decisionOf S) S) (pick (not v₁) (outcome l n (k .clock) (Refused Rules)) (pick (not v₂) (outcome l n (k .clock) (Refused Numbers)) (pick v₃ (outcome l n (k .clock) (Refused Past)) (left (busy t ks)))))
-  go false v₂ v₃ h₁ h₂ h₃ = at _ (Keeps Rules) (way-asked false v₂ v₃ h₁ h₂ h₃) (keeps-made l S Rules)
-  go true false v₃ h₁ h₂ h₃ = at _ (Keeps Numbers) (way-asked true false v₃ h₁ h₂ h₃) (keeps-made l S Numbers)
-  go true true true h₁ h₂ h₃ = at _ (Keeps Past) (way-asked true true true h₁ h₂ h₃) (keeps-made l S Past)
+  go false v₂ v₃ h₁ h₂ h₃ = at _ (Keeps Rules) (decides-asked false v₂ v₃ h₁ h₂ h₃) (keeps-made l S Rules)
+  go true false v₃ h₁ h₂ h₃ = at _ (Keeps Numbers) (decides-asked true false v₃ h₁ h₂ h₃) (keeps-made l S Numbers)
+  go true true true h₁ h₂ h₃ = at _ (Keeps Past) (decides-asked true true true h₁ h₂ h₃) (keeps-made l S Past)
   go true true false h₁ h₂ h₃ =
       let w = listed-of n l (desk-table (k .clock) n l h₁) in
       let small = numbers-small t c d h₂ in
-      at _ _ (way-asked true true false h₁ h₂ h₃)
+      at _ _ (decides-asked true true false h₁ h₂ h₃)
       (after-made (w .whole) (chain-of 0 js (w .order)) (desk-right (k .clock) n l h₁) (small .0) (small .1))
 
   -- answer, record and table at exit are those of the desk's request

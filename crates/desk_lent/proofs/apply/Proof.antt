@@ -211,9 +211,9 @@ module _ {M : Type 1} (𝓤 : URA M) (H : Heap 𝓤) (A : Atoms 𝓤) (W : Given
   sv-of : (l : List Job) → length l ≡ n → sv ≡ sliceVal (b, o) (length l)
   sv-of l e = ap (λ (m : ℕ). sliceVal (b, o) m) (sym e)
 
-  whole-way : (k : ℕ) (u : Shift) (v : Fit) (l₁ l₂ l₃ : List Job) → k ≡ s .drop → l₁ ≡ movedUp k ys → u ≡ s .shift → l₂ ≡ shifted u l₁ → v ≡ s .fit → l₃ ≡ fittedAll v l₂ → l₃ ≡ applied s ys
+  all-passes : (k : ℕ) (u : Shift) (v : Fit) (l₁ l₂ l₃ : List Job) → k ≡ s .drop → l₁ ≡ movedUp k ys → u ≡ s .shift → l₂ ≡ shifted u l₁ → v ≡ s .fit → l₃ ≡ fittedAll v l₂ → l₃ ≡ applied s ys
   unfolding applied
-  whole-way k u v l₁ l₂ l₃ ek e₁ eu e₂ ev e₃ =
+  all-passes k u v l₁ l₂ l₃ ek e₁ eu e₂ ev e₃ =
       e₃ ∙ ap (λ (z : Fit). fittedAll z l₂) ev ∙ ap (fittedAll (s .fit)) (e₂ ∙ ap (λ (z : Shift). shifted z l₁) eu ∙ ap (shifted (s .shift)) (e₁ ∙ ap (λ (z : ℕ). movedUp z ys) ek))
 
   module _ (C : Calls 𝓤 H) (Λ : Loops 𝓤 H) (fm : FmC 𝓤 H (W .laws) C) (known-drop_of : Triple 𝓤 (C #desk-engine·drop_of) (drop_of-C 𝓤 H A mem run)) (known-drop_pass : Triple 𝓤 (C #desk-walks·drop_pass) (drop_pass-C 𝓤 H A mem run)) (known-shift_of : Triple 𝓤 (C #desk-engine·shift_of) (shift_of-C 𝓤 H A mem run)) (known-shift_pass : Triple 𝓤 (C #desk-walks·shift_pass) (shift_pass-C 𝓤 H A mem run)) (known-fit_of : Triple 𝓤 (C #desk-engine·fit_of) (fit_of-C 𝓤 H A mem run)) (known-fit_pass : Triple 𝓤 (C #desk-walks·fit_pass) (fit_pass-C 𝓤 H A mem run)) where
@@ -300,7 +300,7 @@ module _ {M : Type 1} (𝓤 : URA M) (H : Heap 𝓤) (A : Atoms 𝓤) (W : Given
         assigns ! (of-opd ! (unit-lit !)) (from ! (stop !)) (init ! 27 refl (tt, tt)) $
         returns ! (look ! 27 refl) $ forget ! 3 refl $ forget ! 5 refl $ forget ! 7 refl $ forget ! 9 refl $ forget ! 11 refl $ forget ! 13 refl $ forget ! 15 refl $ forget ! 17 refl $ forget ! 19 refl $ forget ! 21 refl $ forget ! 23 refl $ forget ! 25 refl $ forget ! 27 refl $
         move ! (27 ∷ 28 ∷ []) $ free1 ! $ move ! (25 ∷ 26 ∷ []) $ free1 ! $ move ! (23 ∷ 24 ∷ []) $ free1 ! $ move ! (21 ∷ 22 ∷ []) $ free1 ! $ move ! (19 ∷ 20 ∷ []) $ free1 ! $ move ! (17 ∷ 18 ∷ []) $ free1 ! $ move ! (15 ∷ 16 ∷ []) $ free1 ! $ move ! (13 ∷ 14 ∷ []) $ free1 ! $ move ! (11 ∷ 12 ∷ []) $ free1 ! $ move ! (9 ∷ 10 ∷ []) $ free1 ! $ move ! (7 ∷ 8 ∷ []) $ free1 ! $ move ! (5 ∷ 6 ∷ []) $ free1 ! $ move ! (3 ∷ 4 ∷ []) $ free1 ! $ free0 ! $
-        by ! (exits (r2 .0) (whole-way v0 v1 v2 (r0 .0) (r1 .0) (r2 .0) ev0 ez0 ev1 ez1 ev2 ez2) (l2 ∙ l1 ∙ l0)))))))))))))))))))))))))))))))))))))))))))))))))))
+        by ! (exits (r2 .0) (all-passes v0 v1 v2 (r0 .0) (r1 .0) (r2 .0) ev0 ez0 ev1 ez1 ev2 ez2) (l2 ∙ l1 ∙ l0)))))))))))))))))))))))))))))))))))))))))))))))))))
 
 module _ {M : Type 1} (𝓤 : URA M) (H : Heap 𝓤) (A : Atoms 𝓤) (W : Given 𝓤 H A) (mem : Memory → SProp 𝓤) (run : Routine → Fun 𝓤) where
   walks : (C : Calls 𝓤 H) (Λ : Loops 𝓤 H) → FmC 𝓤 H (W .laws) C → Triple 𝓤 (C #desk-engine·drop_of) (drop_of-C 𝓤 H A mem run) → Triple 𝓤 (C #desk-walks·drop_pass) (drop_pass-C 𝓤 H A mem run) → Triple 𝓤 (C #desk-engine·shift_of) (shift_of-C 𝓤 H A mem run) → Triple 𝓤 (C #desk-walks·shift_pass) (shift_pass-C 𝓤 H A mem run) → Triple 𝓤 (C #desk-engine·fit_of) (fit_of-C 𝓤 H A mem run) → Triple 𝓤 (C #desk-walks·fit_pass) (fit_pass-C 𝓤 H A mem run) → Walks 𝓤 H A f.ended stayed (WpFn 𝓤 H C Λ code.function) (f.clauses 𝓤 H A mem run)
