@@ -12,6 +12,7 @@ use borrow.Author.Tests.{le-leb, lt-leb, eqb-true, eqb-false, eq-eqb, ne-eqb}
 use Rattle.rules.specs.Walk.{pick}
 use Rattle.output.specs.Put.{Put}
 use Rattle.file_codec.proofs.Bytes.{double, double-more}
+use Rattle.file_tables.specs.Runs.{runOwner, runLength}
 use Rattle.file_runs.specs.Ticks.{ticksOf, joined, runsOf, ticksPut, runsPut}
 use Rattle.output.proofs.Put.{Rest, rest-more, rest-none}
 
@@ -31,6 +32,10 @@ ticks-more [] i h = absurd (omega arith)
 ticks-more (o ∷ []) i h = absurd (omega arith)
 ticks-more (o ∷ l ∷ rs) zero h = sym (append-nil (replicate l o))
 ticks-more (o ∷ l ∷ rs) (suc i) h = rw (double-more i 1, double i, double-next i, ← ticks-more rs i (omega arith)) (append-assoc (replicate l o) (ticksOf (take (2 * i) rs)) (replicate (getD rs (2 * i + 1) 0) (getD rs (2 * i) 0)))
+
+pub run-more : (rs : List ℕ) (i : ℕ) → 2 * i + 1 < length rs → ticksOf (take (2 * i) rs) ++ replicate (runLength rs i) (runOwner rs i) ≡ ticksOf (take (2 * (i + 1)) rs)
+unfolding runOwner runLength
+run-more rs i h = let z : 2 * i + 0 ≡ 2 * i = omega arith in rw z (ticks-more rs i h)
 
 -- all the runs, an odd number at the end left out
 pub ticks-all : (rs : List ℕ) (i : ℕ) → i ≡ length rs / 2 → ticksOf (take (2 * i) rs) ≡ ticksOf rs

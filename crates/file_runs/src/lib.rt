@@ -1,7 +1,6 @@
 // A plan as runs and as ticks.
 use rules::limits::LONGEST;
 use rules::limits::RUN_NUMBERS;
-use rules::limits::RUN_WIDTH;
 ghost use mathlib.Core.Path.{_≡_};
 ghost use mathlib.Core.List.{[], _∷_};
 ghost use Prim.Native.Nat.{_+_, _≤_, _<_, _^_};
@@ -31,15 +30,15 @@ pub fn ticks_of(runs: &[u16], out: &mut [u16]) -> usize
     if RUN_NUMBERS < runs.len() {
         return 0;
     }
-    let n = runs.len() / RUN_WIDTH;
+    let n = file_tables::runs(runs);
     let mut at = 0;
     let mut k = 0;
     while k < n {
         at = put_ticks(
             out,
             at,
-            rules::records::entry(runs, RUN_WIDTH * k),
-            rules::numbers::wide(rules::records::entry(runs, RUN_WIDTH * k + 1)),
+            file_tables::run_owner(runs, k),
+            rules::numbers::wide(file_tables::run_length(runs, k)),
         );
         k += 1;
     }

@@ -22,39 +22,38 @@ use Rattle.file_tables.specs.Contracts.{runsCounted, firstBadRun}
 use Rattle.file_tables.specs.Runs.{runOwner, runLength, runs, repeats, reached, goodRun, runsJudged, fileTablesOf}
 
 -- a turn adds the length at k
-pub total-more : (rs : List ℕ) (s k l : ℕ) → s ≡ sum (runLength rs) k → l ≡ fieldAt runWidth rs k 1 → s + l ≡ sum (runLength rs) (k + 1)
-unfolding runLength
+pub total-more : (rs : List ℕ) (s k l : ℕ) → s ≡ sum (runLength rs) k → l ≡ runLength rs k → s + l ≡ sum (runLength rs) (k + 1)
 total-more rs s k l es el = rw (sum-more (runLength rs) k, es, el)
 
 -- ---- one run's test, in the code's order
 
-module _ (parts frame : ℕ) (rs : List ℕ) (k o : ℕ) (eo : o ≡ fieldAt runWidth rs k 0) where
+module _ (parts frame : ℕ) (rs : List ℕ) (k o : ℕ) (eo : o ≡ runOwner rs k) where
   pub run-owner : parts < o → false ≡ goodRun parts frame rs k
-  unfolding goodRun runOwner
+  unfolding goodRun
   run-owner h = rw (← eo, lt-leb o parts h)
 
-  module _ (ho : o ≤ parts) (l : ℕ) (el : l ≡ fieldAt runWidth rs k 1) where
+  module _ (ho : o ≤ parts) (l : ℕ) (el : l ≡ runLength rs k) where
     pub run-empty : l < 1 → false ≡ goodRun parts frame rs k
-    unfolding goodRun runOwner runLength
+    unfolding goodRun
     run-empty h = rw (← eo, ← el, le-leb o parts ho, lt-leb 1 l h)
 
     module _ (hl : 1 ≤ l) where
       pub run-repeats : repeats rs k ≡ true → false ≡ goodRun parts frame rs k
-      unfolding goodRun runOwner runLength
+      unfolding goodRun
       run-repeats h = rw (← eo, ← el, le-leb o parts ho, le-leb 1 l hl, h)
 
       module _ (hr : repeats rs k ≡ false) (total : ℕ) (et : total ≡ reached rs k) where
         pub run-past : frame < total → false ≡ goodRun parts frame rs k
-        unfolding goodRun runOwner runLength
+        unfolding goodRun
         run-past h = rw (← et, ← eo, ← el, le-leb o parts ho, le-leb 1 l hl, hr, lt-leb total frame h)
 
         module _ (ht : total ≤ frame) where
           pub run-more : k + 1 < runs rs → true ≡ goodRun parts frame rs k
-          unfolding goodRun runOwner runLength
+          unfolding goodRun
           run-more h = rw (← et, ← eo, ← el, le-leb o parts ho, le-leb 1 l hl, hr, le-leb total frame ht, lt-ltb (k + 1) (runs rs) h)
 
           pub run-last : runs rs ≤ k + 1 → leb frame total ≡ goodRun parts frame rs k
-          unfolding goodRun runOwner runLength
+          unfolding goodRun
           run-last h = rw (← et, ← eo, ← el, le-leb o parts ho, le-leb 1 l hl, hr, le-leb total frame ht, le-ltb (k + 1) (runs rs) h)
 
 -- a turn's find and its going on

@@ -5,38 +5,58 @@ ghost use lib.ListN.{length};
 ghost use Rattle.rules.specs.Limits.{runWidth};
 ghost use Rattle.rules.specs.Table.{fieldAt};
 ghost use Rattle.file_tables.specs.Contracts.{runsCounted, firstBadRun};
-ghost use Rattle.file_tables.specs.Runs.{runs, reached, repeats, goodRun, runsJudged, fileTablesOf};
+ghost use Rattle.file_tables.specs.Runs.{runOwner, runLength, runs, reached, repeats, goodRun, runsJudged, fileTablesOf};
 use rules::Finding;
 use rules::Refusal;
 use rules::limits::LONGEST;
 use rules::limits::RUN_WIDTH;
 
-fn run_field(table: &[u16], k: usize, f: usize) -> u16
-    requires { ⌜ runWidth * k + f < 2 ^ 64 ⌝ }
-    ensures { λ r. ⌜ r ≡ fieldAt runWidth (now (table .entry)) k f ⌝ }
+fn run_field(table: &[u16], k: usize, field: u8) -> u16
+    requires { ⌜ field < runWidth ⌝ }
+    ensures { λ r. ⌜ r ≡ fieldAt runWidth (now (table .entry)) k field ⌝ }
 {
-    rules::records::entry(table, RUN_WIDTH * k + f)
+    if table.len() <= k {
+        return 0;
+    }
+    rules::records::entry(table, RUN_WIDTH * k + (field as usize))
+}
+
+pub fn run_owner(table: &[u16], k: usize) -> u16
+    ensures { λ r. ⌜ r ≡ runOwner (now (table .entry)) k ⌝ }
+{
+    run_field(table, k, 0)
+}
+
+pub fn run_length(table: &[u16], k: usize) -> u16
+    ensures { λ r. ⌜ r ≡ runLength (now (table .entry)) k ⌝ }
+{
+    run_field(table, k, 1)
+}
+
+pub fn runs(table: &[u16]) -> usize
+    ensures { λ r. ⌜ r ≡ runs (now (table .entry)) ⌝ }
+{
+    table.len() / RUN_WIDTH
 }
 
 fn repeats(table: &[u16], k: usize) -> bool
-    requires { ⌜ runWidth * k + 1 < 2 ^ 64 ⌝ }
     ensures { λ r. ⌜ r ≡ repeats (now (table .entry)) k ⌝ }
 {
     if k < 1 {
         return false;
     }
-    run_field(table, k, 0) == run_field(table, k - 1, 0)
+    run_owner(table, k) == run_owner(table, k - 1)
 }
 
 // Whether the run at k is good, where the lengths up to it add up to `total`.
 fn good_run(table: &[u16], parts: usize, frame: usize, k: usize, total: usize) -> bool
-    requires { ⌜ (runWidth * k + 1 < 2 ^ 64) × (total ≡ reached (now table) k) ⌝ }
+    requires { ⌜ (k < runs (now table)) × (total ≡ reached (now table) k) ⌝ }
     ensures { λ r. ⌜ r ≡ goodRun parts frame (now (table .entry)) k ⌝ }
 {
-    if parts < rules::numbers::wide(run_field(table, k, 0)) {
+    if parts < rules::numbers::wide(run_owner(table, k)) {
         return false;
     }
-    if run_field(table, k, 1) < 1 {
+    if run_length(table, k) < 1 {
         return false;
     }
     if repeats(table, k) {
@@ -45,7 +65,7 @@ fn good_run(table: &[u16], parts: usize, frame: usize, k: usize, total: usize) -
     if frame < total {
         return false;
     }
-    if k + 1 < table.len() / RUN_WIDTH {
+    if k + 1 < runs(table) {
         return true;
     }
     frame <= total
@@ -56,11 +76,11 @@ fn first_bad_run(table: &[u16], parts: usize, frame: usize) -> usize
     requires { ⌜ length (now table) < 2 ^ 32 ⌝ }
     ensures { λ r. ⌜ r ≡ firstBadRun parts frame (now (table .entry)) ⌝ }
 {
-    let n = table.len() / RUN_WIDTH;
+    let n = runs(table);
     let mut total = 0;
     let mut k = 0;
     while k < n {
-        total += rules::numbers::wide(run_field(table, k, 1));
+        total += rules::numbers::wide(run_length(table, k));
         if !good_run(table, parts, frame, k, total) {
             return k;
         }
@@ -75,7 +95,7 @@ fn judge_runs(table: &[u16], parts: usize, frame: usize) -> Finding
     ensures { λ r. ⌜ r ≡ runsJudged parts frame (now (table .entry)) ⌝ }
 {
     let r = first_bad_run(table, parts, frame);
-    if r < table.len() / RUN_WIDTH {
+    if r < runs(table) {
         return Finding::Refused(Refusal::Tick(r + 1));
     }
     Finding::Good

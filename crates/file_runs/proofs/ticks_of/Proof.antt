@@ -5,7 +5,7 @@ use lib.ListN.{length, take}
 use Rattle.output.specs.Put.{Put}
 use Rattle.file_runs.specs.Ticks.{ticksOf}
 use Rattle.output.proofs.Put.{put-none, and-then}
-use Rattle.file_runs.proofs.Ticks.{ticks-more, ticks-all, ticks-none, ticks-some}
+use Rattle.file_runs.proofs.Ticks.{run-more, ticks-all, ticks-none, ticks-some}
 use borrow.Author.Needs.{needs}
 use Rattle.file_runs.proofs.ticks_of.Statement.{statement}
 use Rattle.file_runs.proofs.ticks_of.Tie as tie
@@ -19,24 +19,18 @@ abbrev μ-loop : tie.MeasureT-loop
 returns : tie.Need-returns Inv-loop μ-loop
 returns c = rw (ticks-none (c .before .before .before .args .runs .now) (c .if1 .taken)) (put-none _ _)
 
+runs-requires : tie.Need-runs-requires Inv-loop μ-loop
+runs-requires c κs = search needs
+
 loop-holds : tie.Need-loop-holds Inv-loop μ-loop
 unfolding ticksOf
 loop-holds c = (search needs, put-none _ _, search needs, refl)
 
-mul-entry : tie.Need-mul-entry Inv-loop μ-loop
-mul-entry c = search needs
+run-owner-requires : tie.Need-run-owner-requires Inv-loop μ-loop
+run-owner-requires c κs = search needs
 
-entry-requires : tie.Need-entry-requires Inv-loop μ-loop
-entry-requires c κs = search needs
-
-mul-entry-2 : tie.Need-mul-entry-2 Inv-loop μ-loop
-mul-entry-2 c = search needs
-
-add-entry : tie.Need-add-entry Inv-loop μ-loop
-add-entry c = search needs
-
-entry-requires-2 : tie.Need-entry-requires-2 Inv-loop μ-loop
-entry-requires-2 c κs = search needs
+run-length-requires : tie.Need-run-length-requires Inv-loop μ-loop
+run-length-requires c κs = search needs
 
 wide-requires : tie.Need-wide-requires Inv-loop μ-loop
 wide-requires c κs = search needs
@@ -51,13 +45,13 @@ loop-less : tie.Need-loop-less Inv-loop μ-loop
 loop-less c = search needs
 
 loop-again : tie.Need-loop-again Inv-loop μ-loop
-loop-again c = let h : 2 * c .before .before .before .before .before .before .before .before .loop .k + 1 < length (c .before .before .before .before .before .before .before .before .before .before .before .before .args .runs .now) = omega arith in (search needs, rw (← ticks-more (c .before .before .before .before .before .before .before .before .before .before .before .before .args .runs .now) (c .before .before .before .before .before .before .before .before .loop .k) h, ← c .before .before .before .before .before .entry .ensures, ← c .before .before .before .before .entry2 .ensures, ← c .before .before .before .wide .ensures) (and-then (c .before .before .before .before .before .before .before .before .loop .inv .1) (c .before .before .put-ticks .ensures .0)), search needs, search needs)
+loop-again c = let h : 2 * c .before .before .before .before .before .before .before .before .loop .k + 1 < length (c .before .before .before .before .before .before .before .before .before .before .before .before .before .args .runs .now) = omega (arith, c .before .before .before .before .before .before .before .before .before .runs .ensures) in (search needs, rw (← run-more (c .before .before .before .before .before .before .before .before .before .before .before .before .before .args .runs .now) (c .before .before .before .before .before .before .before .before .loop .k) h, ← c .before .before .before .before .before .run-owner .ensures, ← c .before .before .before .before .run-length .ensures, ← c .before .before .before .wide .ensures) (and-then (c .before .before .before .before .before .before .before .before .loop .inv .1) (c .before .before .put-ticks .ensures .0)), search needs, search needs)
 
 same-length : tie.Need-same-length Inv-loop μ-loop
 same-length c = c .before .loop .inv .3
 
 returns-2 : tie.Need-returns-2 Inv-loop μ-loop
-returns-2 c = let e : c .before .loop .k ≡ length (c .before .before .before .before .before .args .runs .now) / 2 = search needs in rw (ticks-some (c .before .before .before .before .before .args .runs .now) (c .before .before .if1 .left), ← ticks-all (c .before .before .before .before .before .args .runs .now) (c .before .loop .k) e) (c .before .loop .inv .1)
+returns-2 c = let e : c .before .loop .k ≡ length (c .before .before .before .before .before .before .args .runs .now) / 2 = omega (arith, c .before .before .runs .ensures, c .before .loop .inv .0) in rw (ticks-some (c .before .before .before .before .before .before .args .runs .now) (c .before .before .before .if1 .left), ← ticks-all (c .before .before .before .before .before .before .args .runs .now) (c .before .loop .k) e) (c .before .loop .inv .1)
 
 pub ticks-of-spec : {M : Type 1} → statement M
 ticks-of-spec =
@@ -66,12 +60,10 @@ ticks-of-spec =
     Inv-loop
     μ-loop
     returns
+    runs-requires
     loop-holds
-    mul-entry
-    entry-requires
-    mul-entry-2
-    add-entry
-    entry-requires-2
+    run-owner-requires
+    run-length-requires
     wide-requires
     put-ticks-requires
     add-k

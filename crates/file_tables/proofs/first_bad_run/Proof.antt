@@ -16,11 +16,14 @@ Inv-loop table parts frame n total₀ k₀ total k = (k ≤ n) × (first (fails 
 abbrev μ-loop : tie.MeasureT-loop
 μ-loop table parts frame n total₀ k₀ total k = n - k
 
+runs-requires : tie.Need-runs-requires Inv-loop μ-loop
+runs-requires c κs = search needs
+
 loop-holds : tie.Need-loop-holds Inv-loop μ-loop
 loop-holds c = (search needs, first-zero _, sym (sum-zero _), search needs)
 
-run-field-requires : tie.Need-run-field-requires Inv-loop μ-loop
-run-field-requires c κs = search needs
+run-length-requires : tie.Need-run-length-requires Inv-loop μ-loop
+run-length-requires c κs = search needs
 
 wide-requires : tie.Need-wide-requires Inv-loop μ-loop
 wide-requires c κs = search needs
@@ -29,7 +32,7 @@ add-total : tie.Need-add-total Inv-loop μ-loop
 add-total c = search needs
 
 good-run-requires : tie.Need-good-run-requires Inv-loop μ-loop
-good-run-requires c κs = (search needs, total-more (c .before .before .before .before .before .args .table .now) _ _ _ (c .before .before .before .loop .inv .2) (c .wide .ensures ∙ c .before .run-field .ensures))
+good-run-requires c κs = (search needs, total-more (c .before .before .before .before .before .before .args .table .now) _ _ _ (c .before .before .before .loop .inv .2) (c .wide .ensures ∙ c .before .run-length .ensures))
 
 returns : tie.Need-returns Inv-loop μ-loop
 returns c = sym (first-found _ _ _ (omega arith) (c .before .before .before .before .before .loop .inv .1) (run-bad _ _ _ _ _ (c .before .good-run .ensures) (c .if1 .taken)))
@@ -41,10 +44,10 @@ loop-less : tie.Need-loop-less Inv-loop μ-loop
 loop-less c = search needs
 
 loop-again : tie.Need-loop-again Inv-loop μ-loop
-loop-again c = (search needs, first-more _ _ (c .before .before .before .before .before .loop .inv .1) (run-good _ _ _ _ _ (c .before .good-run .ensures) (c .if1 .left)), total-more (c .before .before .before .before .before .before .before .args .table .now) _ _ _ (c .before .before .before .before .before .loop .inv .2) (c .before .before .wide .ensures ∙ c .before .before .before .run-field .ensures), search needs)
+loop-again c = (search needs, first-more _ _ (c .before .before .before .before .before .loop .inv .1) (run-good _ _ _ _ _ (c .before .good-run .ensures) (c .if1 .left)), total-more (c .before .before .before .before .before .before .before .before .args .table .now) _ _ _ (c .before .before .before .before .before .loop .inv .2) (c .before .before .wide .ensures ∙ c .before .before .before .run-length .ensures), search needs)
 
 returns-2 : tie.Need-returns-2 Inv-loop μ-loop
-returns-2 c = (sym (first-done _ _ _ (c .before .loop .inv .0) (search needs) (c .before .loop .inv .1)))
+returns-2 c = rw (← c .before .before .runs .ensures) (sym (first-done _ _ _ (c .before .loop .inv .0) (search needs) (c .before .loop .inv .1)))
 
 pub first-bad-run-spec : {M : Type 1} → statement M
 first-bad-run-spec =
@@ -52,8 +55,9 @@ first-bad-run-spec =
     (tie.spec
     Inv-loop
     μ-loop
+    runs-requires
     loop-holds
-    run-field-requires
+    run-length-requires
     wide-requires
     add-total
     good-run-requires
