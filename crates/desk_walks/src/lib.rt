@@ -1,5 +1,5 @@
 // The thin passes over the lent table of jobs: one that reads it, and three that write it.
-// What becomes of each job is decided by value, in desk_engine.
+// What becomes of each job is decided by value, in desk_reading and desk_writing.
 ghost use mathlib.Core.Path.{_≡_};
 ghost use Rattle.desk_records.specs.Folds.{movedUp};
 ghost use Rattle.desk_writing.specs.Writing.{shifted, fittedAll};

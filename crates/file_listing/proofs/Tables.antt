@@ -79,7 +79,7 @@ module _ (b : List ℕ) (frame np nt nr : ℕ) (e : readOf b ≡ Contents frame 
       let c : Reading = Contents frame np nt nr in
       let s = sizes frame (tableBy c b Partitions) (tableBy c b Tasks) (tableBy c b Runs) (a .good) in
       record {
-        short = (rw e (s .parts-high), rw e (s .tasks-high));
+        few-records = (rw e (s .parts-high), rw e (s .tasks-high));
         few = rw e (omega (arith, s .runs-whole, s .runs-high));
         in-frame = s .frame-high;
         ticks = fit .ticks;

@@ -10,7 +10,7 @@ use Rattle.file_page.specs.Contracts.{FewRecords}
 
 -- the tables of a file that was read: of its plan only 9 is still to be judged
 pub record Listable (frame : ℕ) (ps ts rs : List ℕ) : Type 0 where
-  pub short : FewRecords ps ts
+  pub few-records : FewRecords ps ts
   pub few : length rs ≤ runWidth * longest
   pub in-frame : frame ≤ longest
   pub ticks : length (ticksOf rs) ≡ frame

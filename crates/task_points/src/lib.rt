@@ -9,6 +9,7 @@ ghost use Rattle.task_points.specs.Task.{taskOf};
 mod demand; // demand.rt: what a task and the higher tasks of its partition ask, against least service
 mod points; // points.rt: the scheduling points, and the smallest that holds
 
+// What is said of a task: it passes at a point, fails, or why a verdict is refused.
 pub enum Judged {
     Pass(usize),
     Fail,
