@@ -9,7 +9,7 @@ use lib.Dec.{ltb, leb}
 use borrow.Author.Tests.{lt-ltb, le-ltb, lt-leb, le-leb}
 use Rattle.rules.specs.Limits.{mostPartitions, mostTasks, longest, partWidth, taskWidth, runWidth}
 use Rattle.rules.specs.Walk.{pick, fails, sum, Every}
-use Rattle.rules.specs.Table.{fieldAt, partitions, tasks}
+use Rattle.rules.specs.Table.{partitions, tasks}
 use Rattle.tables.specs.Tables.{tablesOf, unless, GoodTables}
 use Rattle.rules.specs.declared.Refusal.{Refusal}
 use Rattle.rules.specs.declared.Refusal.the-variants.{Limits, Partition, Task, Tick}

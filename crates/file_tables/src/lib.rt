@@ -1,9 +1,7 @@
 // Run records, and what tells against the three tables of a file.
 ghost use mathlib.Core.Path.{_≡_};
-ghost use Prim.Native.Nat.{_+_, _*_, _<_, _^_};
+ghost use Prim.Native.Nat.{_<_, _^_};
 ghost use lib.ListN.{length};
-ghost use Rattle.rules.specs.Limits.{runWidth};
-ghost use Rattle.rules.specs.Table.{fieldAt};
 ghost use Rattle.file_tables.specs.Contracts.{runsCounted, firstBadRun};
 ghost use Rattle.file_tables.specs.Runs.{runOwner, runLength, runs, reached, repeats, goodRun, runsJudged, fileTablesOf};
 use rules::Finding;
@@ -11,26 +9,16 @@ use rules::Refusal;
 use rules::limits::LONGEST;
 use rules::limits::RUN_WIDTH;
 
-fn run_field(table: &[u16], k: usize, field: u8) -> u16
-    requires { ⌜ field < runWidth ⌝ }
-    ensures { λ r. ⌜ r ≡ fieldAt runWidth (now (table .entry)) k field ⌝ }
-{
-    if table.len() <= k {
-        return 0;
-    }
-    rules::records::entry(table, RUN_WIDTH * k + (field as usize))
-}
-
 pub fn run_owner(table: &[u16], k: usize) -> u16
     ensures { λ r. ⌜ r ≡ runOwner (now (table .entry)) k ⌝ }
 {
-    run_field(table, k, 0)
+    rules::records::field_at(table, RUN_WIDTH, k, 0)
 }
 
 pub fn run_length(table: &[u16], k: usize) -> u16
     ensures { λ r. ⌜ r ≡ runLength (now (table .entry)) k ⌝ }
 {
-    run_field(table, k, 1)
+    rules::records::field_at(table, RUN_WIDTH, k, 1)
 }
 
 pub fn runs(table: &[u16]) -> usize

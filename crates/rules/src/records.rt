@@ -2,7 +2,6 @@
 ghost use mathlib.Core.Path.{_≡_};
 ghost use Prim.Native.Nat.{_<_};
 ghost use lib.ListN.{getD};
-ghost use Rattle.rules.specs.Limits.{partWidth, taskWidth};
 ghost use Rattle.rules.specs.Table.{fieldAt, cycle, num, den, partitions, partition, budget, deadline, period, tasks, wants, wanted};
 use crate::limits::PART_WIDTH;
 use crate::limits::TASK_WIDTH;
@@ -15,38 +14,40 @@ pub fn entry(table: &[u16], k: usize) -> u16
     if k < table.len() { table[k] } else { 0 }
 }
 
+// Field f of the record at place k, in a table whose records are `width` numbers wide, or 0 past its end. No record is
+// wide enough for the place of a field to leave the numbers that can be counted.
+pub fn field_at(table: &[u16], width: usize, k: usize, field: usize) -> u16
+    requires { ⌜ (1 < width) × (width < 8) × (field < width) ⌝ }
+    ensures { λ r. ⌜ r ≡ fieldAt width (now (table .entry)) k field ⌝ }
+{
+    if table.len() / 2 < k {
+        return 0;
+    }
+    entry(table, width * k + field)
+}
+
 pub fn partitions(parts: &[u16]) -> usize
     ensures { λ r. ⌜ r ≡ partitions (now (parts .entry)) ⌝ }
 {
     parts.len() / PART_WIDTH
 }
 
-fn part_field(parts: &[u16], k: usize, field: u8) -> u16
-    requires { ⌜ field < partWidth ⌝ }
-    ensures { λ r. ⌜ r ≡ fieldAt partWidth (now (parts .entry)) k field ⌝ }
-{
-    if parts.len() <= k {
-        return 0;
-    }
-    entry(parts, PART_WIDTH * k + (field as usize))
-}
-
 pub fn cycle(parts: &[u16], k: usize) -> u16
     ensures { λ r. ⌜ r ≡ cycle (now (parts .entry)) k ⌝ }
 {
-    part_field(parts, k, 0)
+    field_at(parts, PART_WIDTH, k, 0)
 }
 
 pub fn num(parts: &[u16], k: usize) -> u16
     ensures { λ r. ⌜ r ≡ num (now (parts .entry)) k ⌝ }
 {
-    part_field(parts, k, 1)
+    field_at(parts, PART_WIDTH, k, 1)
 }
 
 pub fn den(parts: &[u16], k: usize) -> u16
     ensures { λ r. ⌜ r ≡ den (now (parts .entry)) k ⌝ }
 {
-    part_field(parts, k, 2)
+    field_at(parts, PART_WIDTH, k, 2)
 }
 
 pub fn tasks(table: &[u16]) -> usize
@@ -55,38 +56,28 @@ pub fn tasks(table: &[u16]) -> usize
     table.len() / TASK_WIDTH
 }
 
-fn task_field(table: &[u16], j: usize, field: u8) -> u16
-    requires { ⌜ field < taskWidth ⌝ }
-    ensures { λ r. ⌜ r ≡ fieldAt taskWidth (now (table .entry)) j field ⌝ }
-{
-    if table.len() <= j {
-        return 0;
-    }
-    entry(table, TASK_WIDTH * j + (field as usize))
-}
-
 pub fn partition(table: &[u16], j: usize) -> u16
     ensures { λ r. ⌜ r ≡ partition (now (table .entry)) j ⌝ }
 {
-    task_field(table, j, 0)
+    field_at(table, TASK_WIDTH, j, 0)
 }
 
 pub fn budget(table: &[u16], j: usize) -> u16
     ensures { λ r. ⌜ r ≡ budget (now (table .entry)) j ⌝ }
 {
-    task_field(table, j, 1)
+    field_at(table, TASK_WIDTH, j, 1)
 }
 
 pub fn deadline(table: &[u16], j: usize) -> u16
     ensures { λ r. ⌜ r ≡ deadline (now (table .entry)) j ⌝ }
 {
-    task_field(table, j, 2)
+    field_at(table, TASK_WIDTH, j, 2)
 }
 
 pub fn period(table: &[u16], j: usize) -> u16
     ensures { λ r. ⌜ r ≡ period (now (table .entry)) j ⌝ }
 {
-    task_field(table, j, 3)
+    field_at(table, TASK_WIDTH, j, 3)
 }
 
 // num·m/den, rounded up (0 where den is 0).

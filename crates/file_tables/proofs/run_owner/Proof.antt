@@ -3,12 +3,12 @@ use borrow.Author.Needs.{needs}
 use Rattle.file_tables.proofs.run_owner.Statement.{statement}
 use Rattle.file_tables.proofs.run_owner.Tie as tie
 
-run-field-requires : tie.Need-run-field-requires
-run-field-requires c κs = search needs
+field-at-requires : tie.Need-field-at-requires
+field-at-requires c κs = search needs
 
 returns : tie.Need-returns
 unfolding runOwner
-returns c = c .run-field .ensures
+returns c = c .field-at .ensures
 
 pub run-owner-spec : {M : Type 1} → statement M
-run-owner-spec = tie.close (tie.spec run-field-requires returns)
+run-owner-spec = tie.close (tie.spec field-at-requires returns)
