@@ -1,4 +1,5 @@
-// The one export crate: every entry over plain numbers and slices, for C and Rust. include/merkazobi.h declares it.
+// The one export crate: every entry over plain numbers and slices, for C and Rust. include/merkazobi.h
+// declares it.
 use desk::Answer;
 use desk::Ask;
 use desk::Asked;
@@ -93,7 +94,8 @@ pub extern "C" fn merkazobi_verdict(
     tasks: &[u16],
     place: usize,
 ) -> Told
-    ensures { λ r. ⌜ r ≡ toldJudged (verdictOf (now (plan .entry)) (now (parts .entry)) (now (tasks .entry)) place) ⌝ }
+    ensures { λ r. ⌜ r
+        ≡ toldJudged (verdictOf (now (plan .entry)) (now (parts .entry)) (now (tasks .entry)) place) ⌝ }
 {
     let judged = task_verdict::verdict(plan, parts, tasks, place);
     match judged {
@@ -157,7 +159,8 @@ pub extern "C" fn merkazobi_write(
     out: &mut [u8],
 ) -> Told
     ensures { λ r. ⌜ r ≡ toldFilling
-        (writeOf frame (now (parts .entry)) (now (tasks .entry)) (now (runs .entry)) (length (now (out .entry)))) ⌝ }
+        (writeOf frame (now (parts .entry)) (now (tasks .entry)) (now (runs .entry))
+        (length (now (out .entry)))) ⌝ }
     ensures { λ _. ⌜ now (out .exit)
         ≡ writtenLeft frame (now (parts .entry)) (now (tasks .entry)) (now (runs .entry)) (now (out .entry)) ⌝ }
 {
@@ -224,7 +227,8 @@ pub extern "C" fn merkazobi_request(
     c: u32,
     d: u32,
 ) -> Told
-    ensures { λ r. ⌜ Tells (requestOf (now (desk .entry) .clock) (now (desk .entry) .count) (now (jobs .entry)) t c d)
+    ensures { λ r. ⌜ Tells
+        (requestOf (now (desk .entry) .clock) (now (desk .entry) .count) (now (jobs .entry)) t c d)
         r (now (desk .exit)) (now (jobs .exit)) ⌝ }
 {
     let ask = to_request(t, c, d);

@@ -1,4 +1,5 @@
-// The desk's decision, by value: what the reading pass begins with, what is decided at its end, and what that does.
+// The desk's decision, by value: what the reading pass begins with, what is decided at its end, and what that
+// does.
 // Nothing here sees a table: desk_lent lends it to the passes and calls these.
 
 pub mod begin; // begin.rt: what the reading pass begins with

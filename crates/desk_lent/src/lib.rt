@@ -47,7 +47,8 @@ fn serve(jobs: &mut [Job], s: Scan) -> Effect
 
 // Opens the desk, or asks it to take a job in.
 pub fn call(desk: &mut Desk, jobs: &mut [Job], ask: Ask) -> Answer
-    ensures { λ r. ⌜ Leaves (callOf (now (desk .entry) .clock) (now (desk .entry) .count) (now (jobs .entry)) ask)
+    ensures { λ r. ⌜ Leaves
+        (callOf (now (desk .entry) .clock) (now (desk .entry) .count) (now (jobs .entry)) ask)
         r (now (desk .exit)) (now (jobs .exit)) ⌝ }
 {
     let k = *desk;

@@ -53,7 +53,8 @@ pub fn put_all(table: &[u16], out: &mut [u8])
     requires { ⌜ numberBytes * length (now table) ≤ length (now out) ⌝ }
     ensures { λ _.
         ⌜ now (out .exit)
-        ≡ bytesOf (now (table .entry)) ++ drop (numberBytes * length (now (table .entry))) (now (out .entry)) ⌝ }
+        ≡ bytesOf (now (table .entry))
+        ++ drop (numberBytes * length (now (table .entry))) (now (out .entry)) ⌝ }
 {
     let n = table.len();
     let mut k = 0;

@@ -8,7 +8,10 @@ use output::put_text;
 
 pub fn put_frame(out: &mut [u8], at: usize, frame: usize) -> usize
     requires { ⌜ at < 2 ^ 40 ⌝ }
-    ensures { λ r. ⌜ Put (now (out .entry)) at (frameLine frame) r (now (out .exit)) × (r ≤ at + longestLine) ⌝ }
+    ensures { λ r. ⌜
+        Put (now (out .entry)) at (frameLine frame) r (now (out .exit))
+        × (r ≤ at + longestLine)
+        ⌝ }
 {
     let a = put_field(out, at, b"frame ", frame);
     put_text(out, a, b"\n")

@@ -42,7 +42,8 @@ fn put_checked(frame: usize, plan: &[u16], parts: &[u16], table: &[u16], out: &m
 fn put_tables(frame: usize, parts: &[u16], table: &[u16], runs: &[u16], out: &mut [u8]) -> usize
     requires { ⌜ Listable frame (now parts) (now table) (now runs) ⌝ }
     ensures { λ r. ⌜ Put (now (out .entry)) 0
-        (tablesLines frame (ticksOf (now (runs .entry))) (now (parts .entry)) (now (table .entry))) r (now (out .exit))
+        (tablesLines frame (ticksOf (now (runs .entry))) (now (parts .entry)) (now (table .entry)))
+        r (now (out .exit))
         × (r ≤ longestListing) ⌝ }
 {
     let mut plan = [0u16; LONGEST];

@@ -1,4 +1,5 @@
-// The page of a plan that serves: lines put from a place on, as far as there is room; the answer is the place behind them.
+// The page of a plan that serves: lines put from a place on, as far as there is room; the answer is the place
+// behind them.
 ghost use mathlib.Core.Path.{_≡_};
 ghost use Prim.Native.Nat.{_+_, _*_, _≤_, _<_, _^_};
 ghost use Rattle.rules.specs.Limits.{mostPartitions, mostTasks, longestLine, longestListing};
@@ -15,7 +16,8 @@ use task_points::Judged;
 
 fn put_part(plan: &[u16], parts: &[u16], k: usize, out: &mut [u8], at: usize) -> usize
     requires { ⌜ (k < mostPartitions) × (at < 2 ^ 40) ⌝ }
-    ensures { λ r. ⌜ Put (now (out .entry)) at (partLine (now (plan .entry)) (now (parts .entry)) k) r (now (out .exit))
+    ensures { λ r. ⌜ Put (now (out .entry)) at
+        (partLine (now (plan .entry)) (now (parts .entry)) k) r (now (out .exit))
         × (r ≤ at + longestLine) ⌝ }
 {
     let m = rules::records::cycle(parts, k);
@@ -27,7 +29,8 @@ fn put_part(plan: &[u16], parts: &[u16], k: usize, out: &mut [u8], at: usize) ->
 fn put_parts(plan: &[u16], parts: &[u16], out: &mut [u8], start: usize) -> usize
     requires { ⌜ (partitions (now parts) ≤ mostPartitions) × (start < 2 ^ 32) ⌝ }
     ensures { λ r. ⌜ Put (now (out .entry)) start
-        (gathered (partLine (now (plan .entry)) (now (parts .entry))) (partitions (now (parts .entry)))) r (now (out .exit))
+        (gathered (partLine (now (plan .entry)) (now (parts .entry))) (partitions (now (parts .entry))))
+        r (now (out .exit))
         × (r ≤ start + mostPartitions * longestLine) ⌝ }
 {
     let n = rules::records::partitions(parts);
@@ -42,7 +45,8 @@ fn put_parts(plan: &[u16], parts: &[u16], out: &mut [u8], start: usize) -> usize
 
 fn put_task(plan: &[u16], table: &[u16], j: usize, out: &mut [u8], at: usize) -> usize
     requires { ⌜ (j < mostTasks) × (at < 2 ^ 40) ⌝ }
-    ensures { λ r. ⌜ Put (now (out .entry)) at (taskLine (now (plan .entry)) (now (table .entry)) j) r (now (out .exit))
+    ensures { λ r. ⌜ Put (now (out .entry)) at
+        (taskLine (now (plan .entry)) (now (table .entry)) j) r (now (out .exit))
         × (r ≤ at + longestLine) ⌝ }
 {
     let partition = rules::numbers::wide(rules::records::partition(table, j));
@@ -57,7 +61,8 @@ fn put_task(plan: &[u16], table: &[u16], j: usize, out: &mut [u8], at: usize) ->
 fn put_tasks(plan: &[u16], table: &[u16], out: &mut [u8], start: usize) -> usize
     requires { ⌜ (tasks (now table) ≤ mostTasks) × (start < 2 ^ 32) ⌝ }
     ensures { λ r. ⌜ Put (now (out .entry)) start
-        (gathered (taskLine (now (plan .entry)) (now (table .entry))) (tasks (now (table .entry)))) r (now (out .exit))
+        (gathered (taskLine (now (plan .entry)) (now (table .entry))) (tasks (now (table .entry))))
+        r (now (out .exit))
         × (r ≤ start + mostTasks * longestLine) ⌝ }
 {
     let n = rules::records::tasks(table);

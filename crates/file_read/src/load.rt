@@ -103,9 +103,11 @@ pub fn load_file(file: &[u8], parts: &mut [u16], tasks: &mut [u16], runs: &mut [
     ensures { λ r. ⌜ r ≡ readOf (now (file .entry)) ⌝ }
     ensures { λ r. ⌜ Few r ⌝ }
     ensures { λ _. ⌜ now (parts .exit)
-        ≡ front (tableBy (contentsOf (now (file .entry))) (now (file .entry)) Body.Partitions) (now (parts .entry)) ⌝ }
+        ≡ front (tableBy (contentsOf (now (file .entry))) (now (file .entry)) Body.Partitions)
+        (now (parts .entry)) ⌝ }
     ensures { λ _. ⌜ now (tasks .exit)
-        ≡ front (tableBy (contentsOf (now (file .entry))) (now (file .entry)) Body.Tasks) (now (tasks .entry)) ⌝ }
+        ≡ front (tableBy (contentsOf (now (file .entry))) (now (file .entry)) Body.Tasks)
+        (now (tasks .entry)) ⌝ }
     ensures { λ _. ⌜ now (runs .exit)
         ≡ front (tableBy (contentsOf (now (file .entry))) (now (file .entry)) Body.Runs) (now (runs .entry)) ⌝ }
 {

@@ -30,7 +30,8 @@ fn write_answer(frame: usize, parts: &[u16], tasks: &[u16], runs: &[u16], room: 
 
 pub fn write(frame: usize, parts: &[u16], tasks: &[u16], runs: &[u16], out: &mut [u8]) -> Filling
     ensures { λ r. ⌜ r
-        ≡ writeOf frame (now (parts .entry)) (now (tasks .entry)) (now (runs .entry)) (length (now (out .entry))) ⌝ }
+        ≡ writeOf frame (now (parts .entry)) (now (tasks .entry)) (now (runs .entry))
+        (length (now (out .entry))) ⌝ }
     ensures { λ _. ⌜ now (out .exit)
         ≡ writtenLeft frame (now (parts .entry)) (now (tasks .entry)) (now (runs .entry)) (now (out .entry)) ⌝ }
 {

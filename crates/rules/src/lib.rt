@@ -1,4 +1,4 @@
-// The rules that every call shares: limits, tables behind accessors, what tells against them, and why a call refuses.
+// The rules that every call shares: limits, tables behind accessors, and why a call refuses.
 ghost use mathlib.Core.Path.{_≡_};
 ghost use Rattle.rules.specs.Refusals.{told, placed};
 

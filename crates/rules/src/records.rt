@@ -14,8 +14,9 @@ pub fn entry(table: &[u16], k: usize) -> u16
     if k < table.len() { table[k] } else { 0 }
 }
 
-// A field of the record at place k, in a table whose records are `width` numbers wide, or 0 past its end. A record has two
-// numbers at least, so none begins behind the table's half; it has under eight, so a place up to there stays within 64 bits.
+// A field of the record at place k, in a table whose records are `width` numbers wide, or 0 past its end.
+// A record has two numbers at least, so none begins behind the table's half; it has under eight, so a place up
+// to there stays within 64 bits.
 pub fn field_at(table: &[u16], width: usize, k: usize, field: usize) -> u16
     requires { ⌜ (1 < width) × (width < 8) × (field < width) ⌝ }
     ensures { λ r. ⌜ r ≡ fieldAt width (now (table .entry)) k field ⌝ }

@@ -20,7 +20,10 @@ fn put_what(out: &mut [u8], at: usize, what: What) -> usize
 }
 
 pub fn put_expected(out: &mut [u8], line: usize, what: What) -> usize
-    ensures { λ r. ⌜ Put (now (out .entry)) 0 (expectedLine line what) r (now (out .exit)) × (r ≤ longestLine) ⌝ }
+    ensures { λ r. ⌜
+        Put (now (out .entry)) 0 (expectedLine line what) r (now (out .exit))
+        × (r ≤ longestLine)
+        ⌝ }
 {
     let a = put_field(out, 0, b"line ", line);
     let b = put_text(out, a, b": expected ");
