@@ -1,14 +1,17 @@
 -- What the builder answers. Assumes nothing.
 use Prim.Native.Nat.{ℕ}
+use mathlib.Core.Path.{_≡_}
 use mathlib.Core.List.{List, []}
 use mathlib.Core.Bool.{Bool}
 use lib.Dec.{ltb}
+use lib.ListN.{length}
 use Rattle.rules.specs.Walk.{pick, fails, some}
 use Rattle.rules.specs.Limits.{longest}
 use Rattle.rules.specs.Table.{partitions}
 use Rattle.tables.specs.Tables.{tablesOf, unless}
 use Rattle.rules.specs.declared.Refusal.the-variants.{Unharmonic, Want, Output}
-use Rattle.theory.specs.Harmonic.{pairs, frame, allWanted}
+use Rattle.theory.specs.Harmonic.{pairs, frame, allWanted, harmonicPlan}
+use Rattle.rules.specs.Filling.{leftBy}
 use Rattle.rules.specs.declared.Filling.{Filling}
 use Rattle.rules.specs.declared.Filling.the-variants.{Fills, Refused}
 
@@ -25,3 +28,7 @@ laidOf ps room =
 -- "the builder 3, 6, 10, 11, 12"
 unfoldable pub buildOf : List ℕ → ℕ → Filling
 buildOf ps room = unless Refused (tablesOf longest ps []) (laidOf ps room)
+
+-- the answer r of the call, and o what the output then holds
+abbrev pub Builds : List ℕ → List ℕ → List ℕ → Filling → Type 0
+Builds ps out o r = (r ≡ buildOf ps (length out)) × (o ≡ leftBy r (harmonicPlan ps) out)

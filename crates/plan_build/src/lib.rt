@@ -8,12 +8,9 @@ use table::frame;
 use table::unharmonic;
 ghost use mathlib.Core.Path.{_≡_};
 ghost use Prim.Native.Nat.{_≤_};
-ghost use lib.ListN.{length};
 ghost use Rattle.rules.specs.Limits.{mostPartitions};
 ghost use Rattle.rules.specs.Table.{partitions};
-ghost use Rattle.plan_build.specs.Build.{laidOf, buildOf};
-ghost use Rattle.rules.specs.Filling.{leftBy};
-ghost use Rattle.theory.specs.Harmonic.{harmonicPlan};
+ghost use Rattle.plan_build.specs.Build.{laidOf, buildOf, Builds};
 
 mod table; // table.rt: what a table asks for
 
@@ -48,8 +45,7 @@ fn build_answer(parts: &[u16], room: usize) -> Filling
 
 // The harmonic rule's plan, written into the first ticks of `out`.
 pub fn build(parts: &[u16], out: &mut [u16]) -> Filling
-    ensures { λ r. ⌜ (r ≡ buildOf (now (parts .entry)) (length (now (out .entry))))
-        × (now (out .exit) ≡ leftBy r (harmonicPlan (now (parts .entry))) (now (out .entry))) ⌝ }
+    ensures { λ r. ⌜ Builds (now (parts .entry)) (now (out .entry)) (now (out .exit)) r ⌝ }
 {
     let built = build_answer(parts, out.len());
     match built {

@@ -14,6 +14,8 @@ use Rattle.rules.specs.declared.Finding.{Finding}
 use Rattle.rules.specs.declared.Finding.the-variants.{Good, Refused}
 use Rattle.rules.specs.declared.Refusal.the-variants.{Limits, Partition, Task, Tick, Shortfall}
 use Rattle.rules.proofs.First.{first-none, first-past, first-before, first-at}
+use Rattle.rules.specs.Refusals.{telling}
+use Rattle.rules.proofs.Known.{found-refused}
 use Rattle.rules.proofs.Tests.{pick-first, pick-second}
 use Rattle.tables.proofs.Chain.{not-good, lowest-none, good-lowest, within, unless-given, unless-good}
 use Rattle.theory.specs.Plan.{own, held, Serves}
@@ -118,7 +120,7 @@ pub check-serves : CheckServes
 check-serves plan ps = (accepted plan ps, accepts plan ps)
 
 pub check-short : CheckShort
-check-short = short
+check-short plan ps p s h w e = short plan ps p s h w (found-refused (checkOf plan ps) (telling 9 p s h w) (omega arith) e)
 
 pub check-one : CheckOne
 check-one plan ps r r′ e f = e ∙ sym f

@@ -1,5 +1,6 @@
 -- What the checker answers. Places count from 0 here; those reported count from 1. Assumes nothing.
 use Prim.Native.Nat.{ℕ, _+_}
+use mathlib.Core.Path.{_≡_}
 use mathlib.Core.List.{List, []}
 use mathlib.Core.Bool.{Bool}
 use lib.ListN.{length}
@@ -30,3 +31,7 @@ planCheckOf plan ps = unless Refused (lowest Tick (goodTick (partitions ps) plan
 -- "the checker 3, 6, 8, 9", or accepted
 unfoldable pub checkOf : List ℕ → List ℕ → Finding
 checkOf plan ps = unless Refused (tablesOf (length plan) ps []) (planCheckOf plan ps)
+
+-- the answer r of the call
+abbrev pub Checks : List ℕ → List ℕ → Finding → Type 0
+Checks plan ps r = r ≡ checkOf plan ps

@@ -2,7 +2,7 @@
 use rules::Finding;
 use rules::Refusal;
 ghost use mathlib.Core.Path.{_≡_};
-ghost use Rattle.plan_check.specs.Check.{scanOf, planCheckOf, checkOf};
+ghost use Rattle.plan_check.specs.Check.{scanOf, planCheckOf, Checks};
 
 // Refusal 9 alone: the lowest partition's lowest start whose stretch holds too little. It is public for a caller
 // whose plan is judged already, as the listing's is by the reader.
@@ -48,7 +48,7 @@ pub fn check_plan(plan: &[u16], parts: &[u16]) -> Finding
 
 // Whether the plan serves the table.
 pub fn check(plan: &[u16], parts: &[u16]) -> Finding
-    ensures { λ r. ⌜ r ≡ checkOf (now (plan .entry)) (now (parts .entry)) ⌝ }
+    ensures { λ r. ⌜ Checks (now (plan .entry)) (now (parts .entry)) r ⌝ }
 {
     let tables = tables::judge_partitions(plan.len(), parts);
     match tables {

@@ -2,7 +2,7 @@
 ghost use mathlib.Core.Path.{_≡_};
 ghost use Prim.Native.Nat.{_<_};
 ghost use lib.ListN.{length};
-ghost use Rattle.theory.specs.Plan.{own, held, least};
+ghost use Rattle.theory.specs.Plan.{own, held, HeldIs, LeastIs};
 
 // How many of the n ticks from tick s on are p's, in a plan that has ticks.
 fn counted(plan: &[u16], p: usize, n: usize, s: usize) -> usize
@@ -33,14 +33,14 @@ pub fn held_from(plan: &[u16], p: usize, n: usize, s: usize) -> usize
 
 // What a stretch holds, of numbers as a caller has them: p's ticks among the n from tick s on.
 pub fn held(plan: &[u16], p: u16, s: u32, n: u32) -> usize
-    ensures { λ r. ⌜ r ≡ held own (now (plan .entry)) p n s ⌝ }
+    ensures { λ r. ⌜ HeldIs (now (plan .entry)) p s n r ⌝ }
 {
     held_from(plan, p as usize, n as usize, s as usize)
 }
 
 // The smallest number of p's ticks in any t consecutive ticks: each stretch is counted anew.
 pub fn least(plan: &[u16], p: u16, t: u32) -> usize
-    ensures { λ r. ⌜ r ≡ least own (now (plan .entry)) p t ⌝ }
+    ensures { λ r. ⌜ LeastIs (now (plan .entry)) p t r ⌝ }
 {
     let owner = p as usize;
     let n = t as usize;

@@ -4,3 +4,4 @@ pub mod Least
 pub mod Round
 pub mod Tests
 pub mod Answers
+pub mod Known

@@ -1,8 +1,13 @@
--- Document 01's table of refusals: "No.", and "Also returned". Assumes nothing.
+-- Document 01's table of refusals: "No.", and "Also returned"; and what a caller is told. Assumes nothing.
 use Prim.Native.Nat.{ℕ}
+use mathlib.Core.Path.{_≡_}
 use Rattle.rules.specs.declared.Refusal.{Refusal}
 use Rattle.rules.specs.declared.Refusal.the-variants.{Short, Edition, Limits, Offset, Length, Partition, Task, Tick, Shortfall, Unharmonic, Want, Output, Rules, Numbers, Past, Busy, Full, NoPlace, TooFar}
 use Rattle.rules.specs.declared.Told.{Told}
+use Rattle.rules.specs.declared.Finding.{Finding}
+use Rattle.rules.specs.declared.Finding.the-variants as found
+use Rattle.rules.specs.declared.Filling.{Filling}
+use Rattle.rules.specs.declared.Filling.the-variants as filling
 
 -- a number, and up to four values beside it
 abbrev pub telling : ℕ → ℕ → ℕ → ℕ → ℕ → Told
@@ -31,3 +36,17 @@ told Busy = placed 16 0
 told Full = placed 17 0
 told NoPlace = placed 18 0
 told TooFar = placed 19 0
+
+-- 0 where nothing tells against the call
+abbrev pub toldFinding : Finding → Told
+toldFinding found.Good = placed 0 0
+toldFinding (found.Refused r) = told r
+
+-- 0 and the frame, or the length of the file or text
+abbrev pub toldFilling : Filling → Told
+toldFilling (filling.Fills n) = placed 0 n
+toldFilling (filling.Refused r) = told r
+
+-- a call tells t: what its rule permits as the answer, told so
+abbrev pub Tells : {A : Type 0} → (A → Told) → (A → Type 0) → Told → Type 0
+Tells {A} tell Answers t = (r : A) × Answers r × (t ≡ tell r)

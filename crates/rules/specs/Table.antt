@@ -1,5 +1,6 @@
 -- The flat tables of numbers, behind accessors that alone know a record's width. Places count from 0; past the end stands 0. Assumes nothing.
 use Prim.Native.Nat.{ℕ, _+_, _*_, _/_}
+use mathlib.Core.Path.{_≡_}
 use mathlib.Core.List.{List}
 use mathlib.Core.Bool.{Bool, _&&_}
 use lib.ListN.{length, getD}
@@ -41,6 +42,10 @@ tasks ts = length ts / taskWidth
 -- "A partition with cycle m wants q = num·m/den, rounded up to a whole number."
 unfoldable pub wants : ℕ → ℕ → ℕ → ℕ
 wants m n d = roundUp (n * m) d
+
+-- the answer r of the call
+abbrev pub WantsIs : ℕ → ℕ → ℕ → ℕ → Type 0
+WantsIs m n d r = r ≡ wants m n d
 
 -- what the partition at place k wants
 abbrev pub wanted : List ℕ → ℕ → ℕ

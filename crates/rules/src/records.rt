@@ -2,7 +2,7 @@
 ghost use mathlib.Core.Path.{_≡_};
 ghost use Prim.Native.Nat.{_<_};
 ghost use lib.ListN.{getD};
-ghost use Rattle.rules.specs.Table.{fieldAt, cycle, num, den, partitions, partition, budget, deadline, period, tasks, wants, wanted};
+ghost use Rattle.rules.specs.Table.{fieldAt, cycle, num, den, partitions, partition, budget, deadline, period, tasks, WantsIs, wanted};
 use crate::limits::PART_WIDTH;
 use crate::limits::TASK_WIDTH;
 use crate::numbers::wide;
@@ -83,7 +83,7 @@ pub fn period(table: &[u16], j: usize) -> u16
 
 // num·m/den, rounded up (0 where den is 0).
 pub fn wants(m: u16, num: u16, den: u16) -> usize
-    ensures { λ r. ⌜ r ≡ wants m num den ⌝ }
+    ensures { λ r. ⌜ WantsIs m num den r ⌝ }
 {
     if den == 0 {
         return 0;

@@ -1,4 +1,5 @@
 -- Every statement of specs/Theorems.antt, with its proof. Assumes nothing.
+use mathlib.Core.Path.{sym, _∙_}
 use Rattle.theory.specs.Theorems.{Proved}
 use Rattle.theory.proofs.Wants.{wants-smallest, wants-range}
 use Rattle.theory.proofs.Plan.{least-is-least, least-attained, least-zero, least-bounds, least-grows, serves-in-frame}
@@ -13,6 +14,9 @@ pub proved : Proved
 proved = record {
   wants-smallest = wants-smallest;
   wants-range = wants-range;
+  wants-one = λ m n d r r′ e f. e ∙ sym f;
+  held-one = λ plan p s n r r′ e f. e ∙ sym f;
+  least-one = λ plan p t r r′ e f. e ∙ sym f;
   least-is-least = least-is-least;
   least-attained = least-attained;
   least-zero = least-zero;

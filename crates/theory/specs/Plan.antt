@@ -1,4 +1,5 @@
 -- The plan that repeats without end, whom each tick serves, the ticks held in a stretch, least service, and serving. Assumes nothing.
+use mathlib.Core.Path.{_≡_}
 use mathlib.Core.List.{List}
 use Prim.Native.Nat.{ℕ, _+_, _%_, _≤_, _<_}
 use lib.Dec.{eqb}
@@ -26,9 +27,17 @@ owned o p n s = count (λ k. eqb (o (s + k)) p) n
 abbrev pub held : Rule → List ℕ → ℕ → ℕ → ℕ → ℕ
 held rule plan = owned (service rule plan)
 
+-- the answer r of the call, for the n ticks from tick s on
+abbrev pub HeldIs : List ℕ → ℕ → ℕ → ℕ → ℕ → Type 0
+HeldIs plan p s n r = r ≡ held own plan p n s
+
 -- "the smallest number of a partition's ticks in any t consecutive ticks of the repeated plan": every start is one of the F in the frame
 unfoldable pub least : Rule → List ℕ → ℕ → ℕ → ℕ
 least rule plan p t = smallest (held rule plan p t) (length plan)
+
+-- the answer r of the call
+abbrev pub LeastIs : List ℕ → ℕ → ℕ → ℕ → Type 0
+LeastIs plan p t r = r ≡ least own plan p t
 
 -- "every stretch of m consecutive ticks of the repeated plan, from any start and across the frame's end too, holds at least q ticks of that partition"
 abbrev pub Serves : Rule → List ℕ → List ℕ → Type 0

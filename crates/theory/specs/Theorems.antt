@@ -7,8 +7,8 @@ use Prim.Native.Nat.{ℕ, suc, _+_, _*_, _≤_, _<_}
 use lib.ListN.{length, getD}
 use Rattle.rules.specs.Limits.{longest}
 use Rattle.rules.specs.Walk.{Every}
-use Rattle.rules.specs.Table.{cycle, partitions, wants, goodShare, goodPart, deadline, tasks, goodTask}
-use Rattle.theory.specs.Plan.{Rule, own, held, least, Serves}
+use Rattle.rules.specs.Table.{cycle, partitions, wants, WantsIs, goodShare, goodPart, deadline, tasks, goodTask}
+use Rattle.theory.specs.Plan.{Rule, own, held, HeldIs, least, LeastIs, Serves}
 use Rattle.theory.specs.Harmonic.{Harmonic, pairs, frame, allWanted, rank, taken, harmonicPlan}
 use Rattle.theory.specs.Run.{Ran, done, Releases, LegalTo, Legal}
 use Rattle.theory.specs.Load.{Load, demand, lastPoint, point, firstPoint}
@@ -24,6 +24,16 @@ WantsSmallest = (m n d : ℕ) → 0 < d → (n * m ≤ wants m n d * d) × ((q :
 -- "So q is at least 1", and no more than the cycle has
 abbrev pub WantsRange : Type 0
 WantsRange = (limit m n d : ℕ) → goodShare limit m n d ≡ true → (1 ≤ wants m n d) × (wants m n d ≤ m)
+
+-- "any two outcomes it permits are equal", of the three calls that answer with a number
+abbrev pub WantsOne : Type 0
+WantsOne = (m n d r r′ : ℕ) → WantsIs m n d r → WantsIs m n d r′ → r ≡ r′
+
+abbrev pub HeldOne : Type 0
+HeldOne = (plan : List ℕ) (p s n r r′ : ℕ) → HeldIs plan p s n r → HeldIs plan p s n r′ → r ≡ r′
+
+abbrev pub LeastOne : Type 0
+LeastOne = (plan : List ℕ) (p t r r′ : ℕ) → LeastIs plan p t r → LeastIs plan p t r′ → r ≡ r′
 
 -- ==== least service
 
@@ -142,6 +152,9 @@ HarmonicPlanGood =
 pub record Proved : Type 0 where
   pub wants-smallest : WantsSmallest
   pub wants-range : WantsRange
+  pub wants-one : WantsOne
+  pub held-one : HeldOne
+  pub least-one : LeastOne
   pub least-is-least : LeastIsLeast
   pub least-attained : LeastAttained
   pub least-zero : LeastZero
