@@ -1,57 +1,64 @@
--- What each entry's answer is told as: number 0 and what was asked for, or the refusal's number and values. Assumes nothing.
+-- What each entry of the C surface tells, and what then stands in all that was lent: the entry's own rule, told as a number and four values. (`wants`, `held`
+-- and `least` answer with the number itself: `WantsIs`, `HeldIs`, `LeastIs`.) Assumes nothing.
 use Prim.Native.Nat.{ℕ}
-use mathlib.Core.Path.{_≡_}
 use mathlib.Core.List.{List}
 use lib.Dec.{eqb}
 use Rattle.rules.specs.Walk.{pick}
 use Rattle.rules.specs.declared.Told.{Told}
-use Rattle.rules.specs.Refusals.{telling, placed, told}
-use Rattle.rules.specs.declared.Finding.{Finding}
-use Rattle.rules.specs.declared.Finding.the-variants as found
-use Rattle.rules.specs.declared.Filling.{Filling}
-use Rattle.rules.specs.declared.Filling.the-variants as filling
-use Rattle.task_points.specs.declared.Judged.{Judged}
-use Rattle.task_points.specs.declared.Judged.the-variants as judged
+use Rattle.rules.specs.Refusals.{telling, told, toldFinding, toldFilling, Tells}
+use Rattle.plan_check.specs.Check.{Checks}
+use Rattle.plan_build.specs.Build.{Builds}
+use Rattle.task_points.specs.Task.{toldJudged}
+use Rattle.task_verdict.specs.Verdict.{Judges}
 use Rattle.file_read.specs.declared.Reading.{Reading}
-use Rattle.file_read.specs.declared.Reading.the-variants as reading
+use Rattle.file_read.specs.declared.Reading.the-variants.{Contents, Refused}
 use Rattle.file_read.specs.declared.Stretch.{Stretch}
 use Rattle.file_read.specs.declared.Body.the-variants.{Partitions, Tasks, Runs}
-use Rattle.file_read.specs.Reader.{readOf, bodyAt}
+use Rattle.file_read.specs.Reader.{bodyAt, toldReading, Reads}
+use Rattle.file_write.specs.Writer.{Writes}
+use Rattle.file_listing.specs.Listing.{Lists}
 use Rattle.desk.specs.declared.Job.{Job}
 use Rattle.desk.specs.declared.Desk.{Desk}
-use Rattle.desk.specs.Table.{Outcome}
-use Rattle.desk.specs.Call.{deskOf, said}
+use Rattle.desk.specs.declared.Answer.{Answer}
+use Rattle.desk.specs.Table.{openOf}
+use Rattle.desk.specs.Request.{requestOf}
+use Rattle.desk.specs.Call.{Leaves, said}
 
-abbrev pub toldFinding : Finding → Told
-toldFinding found.Good = placed 0 0
-toldFinding (found.Refused r) = told r
+abbrev pub TellsCheck : List ℕ → List ℕ → Told → Type 0
+TellsCheck plan ps = Tells toldFinding (Checks plan ps)
 
--- the frame, or the length of the file or text
-abbrev pub toldFilling : Filling → Told
-toldFilling (filling.Fills n) = placed 0 n
-toldFilling (filling.Refused r) = told r
+abbrev pub TellsBuild : List ℕ → List ℕ → List ℕ → Told → Type 0
+TellsBuild ps out o = Tells toldFilling (Builds ps out o)
 
--- the point, or 0 for a fail
-abbrev pub toldJudged : Judged → Told
-toldJudged (judged.Pass t) = placed 0 t
-toldJudged judged.Fail = placed 0 0
-toldJudged (judged.Refused r) = told r
+abbrev pub TellsVerdict : List ℕ → List ℕ → List ℕ → ℕ → Told → Type 0
+TellsVerdict plan ps ts place = Tells toldJudged (Judges plan ps ts place)
 
--- frame and counts
-abbrev pub toldReading : Reading → Told
-toldReading (reading.Contents frame np nt nr) = telling 0 frame np nt nr
-toldReading (reading.Refused r) = told r
+abbrev pub TellsRead : List ℕ → Told → Type 0
+TellsRead b = Tells toldReading (Reads b)
 
--- where a part starts and ends
-abbrev pub toldStretch : Stretch → Told
-toldStretch s = telling 0 (s .offset) (s .end) 0 0
+-- the part of a file with these contents: 0 for partitions, 1 for tasks, 2 for runs; of any other the empty part
+abbrev pub partAt : ℕ → Reading → Stretch
+partAt which c =
+    pick (eqb which 0) (bodyAt c Partitions)
+    (pick (eqb which 1) (bodyAt c Tasks) (pick (eqb which 2) (bodyAt c Runs) (record { offset = 0; end = 0 })))
 
--- 0 for partitions, 1 for tasks, 2 for runs; of any other the empty part
-abbrev pub toldSection : List ℕ → ℕ → Told
-toldSection b which =
-    pick (eqb which 0) (toldStretch (bodyAt (readOf b) Partitions))
-    (pick (eqb which 1) (toldStretch (bodyAt (readOf b) Tasks)) (pick (eqb which 2) (toldStretch (bodyAt (readOf b) Runs)) (placed 0 0)))
+-- 0 with where the part starts and ends, or the reader's refusal
+abbrev pub toldPart : ℕ → Reading → Told
+toldPart which (Contents frame np nt nr) = let s = partAt which (Contents frame np nt nr) in telling 0 (s .offset) (s .end) 0 0
+toldPart which (Refused x) = told x
 
--- "lent to each call and changed there": what is told, and record and table at exit, are the outcome's
-abbrev pub Tells : Outcome → Told → Desk → List Job → Type 0
-Tells o r k l = (r ≡ said (o .answer)) × (k ≡ deskOf o) × (l ≡ o .jobs)
+abbrev pub TellsSection : List ℕ → ℕ → Told → Type 0
+TellsSection b which = Tells (toldPart which) (Reads b)
+
+abbrev pub TellsWrite : ℕ → List ℕ → List ℕ → List ℕ → List ℕ → List ℕ → Told → Type 0
+TellsWrite frame ps ts rs out o = Tells toldFilling (Writes frame ps ts rs out o)
+
+abbrev pub TellsList : List ℕ → List ℕ → List ℕ → Told → Type 0
+TellsList b out o = Tells toldFilling (Lists b out o)
+
+-- the record k and the table l, as lent, and k′ and l′ what they then hold
+abbrev pub TellsOpen : Desk → List Job → Desk → List Job → Told → Type 0
+TellsOpen k l k′ l′ = Tells said (λ (a : Answer). Leaves (openOf (k .clock) (k .count) l) a k′ l′)
+
+abbrev pub TellsRequest : Desk → List Job → ℕ → ℕ → ℕ → Desk → List Job → Told → Type 0
+TellsRequest k l t c d k′ l′ = Tells said (λ (a : Answer). Leaves (requestOf (k .clock) (k .count) l t c d) a k′ l′)

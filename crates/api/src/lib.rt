@@ -7,27 +7,18 @@ use desk::Desk;
 use desk::Job;
 use file_read::Body;
 use file_read::Reading;
+use file_read::Stretch;
 use rules::Filling;
 use rules::Finding;
 use rules::Told;
 use task_points::Judged;
 ghost use mathlib.Core.Path.{_≡_};
-ghost use lib.ListN.{length};
-ghost use Rattle.rules.specs.Table.{wants};
-ghost use Rattle.theory.specs.Plan.{own, held, least};
-ghost use Rattle.plan_check.specs.Check.{checkOf};
-ghost use Rattle.plan_build.specs.Build.{buildOf};
-ghost use Rattle.rules.specs.Filling.{leftBy};
-ghost use Rattle.theory.specs.Harmonic.{harmonicPlan};
-ghost use Rattle.task_verdict.specs.Verdict.{verdictOf};
-ghost use Rattle.file_read.specs.Reader.{readOf, bodyAt};
-ghost use Rattle.file_write.specs.Writer.{writeOf, writtenLeft};
-ghost use Rattle.file_listing.specs.Listing.{listOf, listedLeft};
+ghost use Rattle.rules.specs.Table.{WantsIs};
+ghost use Rattle.theory.specs.Plan.{HeldIs, LeastIs};
+ghost use Rattle.file_read.specs.Contracts.{Few};
 ghost use Rattle.desk.specs.declared.Ask.the-variants.{Open, Request};
-ghost use Rattle.desk.specs.Table.{openOf};
-ghost use Rattle.desk.specs.Request.{requestOf};
 ghost use Rattle.desk.specs.Call.{said};
-ghost use Rattle.api.specs.Answers.{toldFinding, toldFilling, toldJudged, toldReading, toldStretch, toldSection, Tells};
+ghost use Rattle.api.specs.Answers.{TellsCheck, TellsBuild, TellsVerdict, TellsRead, partAt, TellsSection, TellsWrite, TellsList, TellsOpen, TellsRequest};
 
 fn answer(first: usize, second: usize) -> Told
     ensures { λ r. ⌜ r ≡ record { number = 0; first = first; second = second; third = 0; fourth = 0 } ⌝ }
@@ -43,28 +34,28 @@ fn answer(first: usize, second: usize) -> Told
 
 #[no_mangle]
 pub extern "C" fn merkazobi_wants(m: u16, num: u16, den: u16) -> usize
-    ensures { λ r. ⌜ r ≡ wants m num den ⌝ }
+    ensures { λ r. ⌜ WantsIs m num den r ⌝ }
 {
     rules::records::wants(m, num, den)
 }
 
 #[no_mangle]
 pub extern "C" fn merkazobi_held(plan: &[u16], p: u16, s: u32, n: u32) -> usize
-    ensures { λ r. ⌜ r ≡ held own (now (plan .entry)) p n s ⌝ }
+    ensures { λ r. ⌜ HeldIs (now (plan .entry)) p s n r ⌝ }
 {
     plan_service::held(plan, p, s, n)
 }
 
 #[no_mangle]
 pub extern "C" fn merkazobi_least(plan: &[u16], p: u16, t: u32) -> usize
-    ensures { λ r. ⌜ r ≡ least own (now (plan .entry)) p t ⌝ }
+    ensures { λ r. ⌜ LeastIs (now (plan .entry)) p t r ⌝ }
 {
     plan_service::least(plan, p, t)
 }
 
 #[no_mangle]
 pub extern "C" fn merkazobi_check(plan: &[u16], parts: &[u16]) -> Told
-    ensures { λ r. ⌜ r ≡ toldFinding (checkOf (now (plan .entry)) (now (parts .entry))) ⌝ }
+    ensures { λ r. ⌜ TellsCheck (now (plan .entry)) (now (parts .entry)) r ⌝ }
 {
     let checked = plan_check::check(plan, parts);
     match checked {
@@ -75,10 +66,7 @@ pub extern "C" fn merkazobi_check(plan: &[u16], parts: &[u16]) -> Told
 
 #[no_mangle]
 pub extern "C" fn merkazobi_build(parts: &[u16], out: &mut [u16]) -> Told
-    ensures { λ r. ⌜ r ≡ toldFilling (buildOf (now (parts .entry)) (length (now (out .entry)))) ⌝ }
-    ensures { λ _. ⌜ now (out .exit)
-        ≡ leftBy (buildOf (now (parts .entry)) (length (now (out .entry)))) (harmonicPlan (now (parts .entry)))
-        (now (out .entry)) ⌝ }
+    ensures { λ r. ⌜ TellsBuild (now (parts .entry)) (now (out .entry)) (now (out .exit)) r ⌝ }
 {
     let built = plan_build::build(parts, out);
     match built {
@@ -94,8 +82,7 @@ pub extern "C" fn merkazobi_verdict(
     tasks: &[u16],
     place: usize,
 ) -> Told
-    ensures { λ r. ⌜ r
-        ≡ toldJudged (verdictOf (now (plan .entry)) (now (parts .entry)) (now (tasks .entry)) place) ⌝ }
+    ensures { λ r. ⌜ TellsVerdict (now (plan .entry)) (now (parts .entry)) (now (tasks .entry)) place r ⌝ }
 {
     let judged = task_verdict::verdict(plan, parts, tasks, place);
     match judged {
@@ -107,7 +94,7 @@ pub extern "C" fn merkazobi_verdict(
 
 #[no_mangle]
 pub extern "C" fn merkazobi_read(file: &[u8]) -> Told
-    ensures { λ r. ⌜ r ≡ toldReading (readOf (now (file .entry))) ⌝ }
+    ensures { λ r. ⌜ TellsRead (now (file .entry)) r ⌝ }
 {
     let reading = file_read::read(file);
     match reading {
@@ -127,27 +114,46 @@ pub extern "C" fn merkazobi_read(file: &[u8]) -> Told
     }
 }
 
-fn stretch(file: &[u8], which: Body) -> Told
-    ensures { λ r. ⌜ r ≡ toldStretch (bodyAt (readOf (now (file .entry))) which) ⌝ }
+// The part of an accepted file that a number stands for; the empty part where it stands for none.
+fn part_at(which: usize, contents: Reading) -> Stretch
+    requires { ⌜ Few contents ⌝ }
+    ensures { λ r. ⌜ r ≡ partAt which contents ⌝ }
 {
-    let s = file_read::stretch_of(file, which);
-    answer(s.offset, s.end)
+    if which == 0 {
+        return file_read::load::body_at(contents, Body::Partitions);
+    }
+    if which == 1 {
+        return file_read::load::body_at(contents, Body::Tasks);
+    }
+    if which == 2 {
+        return file_read::load::body_at(contents, Body::Runs);
+    }
+    Stretch { offset: 0, end: 0 }
 }
 
 #[no_mangle]
 pub extern "C" fn merkazobi_section(file: &[u8], which: usize) -> Told
-    ensures { λ r. ⌜ r ≡ toldSection (now (file .entry)) which ⌝ }
+    ensures { λ r. ⌜ TellsSection (now (file .entry)) which r ⌝ }
 {
-    if which == 0 {
-        return stretch(file, Body::Partitions);
+    let reading = file_read::read(file);
+    match reading {
+        Reading::Contents {
+            frame,
+            partitions,
+            tasks,
+            runs,
+        } => {
+            let contents = Reading::Contents {
+                frame,
+                partitions,
+                tasks,
+                runs,
+            };
+            let part = part_at(which, contents);
+            answer(part.offset, part.end)
+        }
+        Reading::Refused(r) => rules::tell(r),
     }
-    if which == 1 {
-        return stretch(file, Body::Tasks);
-    }
-    if which == 2 {
-        return stretch(file, Body::Runs);
-    }
-    answer(0, 0)
 }
 
 #[no_mangle]
@@ -158,11 +164,8 @@ pub extern "C" fn merkazobi_write(
     runs: &[u16],
     out: &mut [u8],
 ) -> Told
-    ensures { λ r. ⌜ r ≡ toldFilling
-        (writeOf frame (now (parts .entry)) (now (tasks .entry)) (now (runs .entry))
-        (length (now (out .entry)))) ⌝ }
-    ensures { λ _. ⌜ now (out .exit)
-        ≡ writtenLeft frame (now (parts .entry)) (now (tasks .entry)) (now (runs .entry)) (now (out .entry)) ⌝ }
+    ensures { λ r. ⌜ TellsWrite frame (now (parts .entry)) (now (tasks .entry)) (now (runs .entry))
+        (now (out .entry)) (now (out .exit)) r ⌝ }
 {
     let written = file_write::write(frame, parts, tasks, runs, out);
     match written {
@@ -173,8 +176,7 @@ pub extern "C" fn merkazobi_write(
 
 #[no_mangle]
 pub extern "C" fn merkazobi_list(file: &[u8], out: &mut [u8]) -> Told
-    ensures { λ r. ⌜ r ≡ toldFilling (listOf (now (file .entry)) (length (now (out .entry)))) ⌝ }
-    ensures { λ _. ⌜ now (out .exit) ≡ listedLeft (now (file .entry)) (now (out .entry)) ⌝ }
+    ensures { λ r. ⌜ TellsList (now (file .entry)) (now (out .entry)) (now (out .exit)) r ⌝ }
 {
     let listed = file_listing::listing(file, out);
     match listed {
@@ -211,8 +213,7 @@ fn to_request(time: u32, budget: u32, deadline: u32) -> Ask
 
 #[no_mangle]
 pub extern "C" fn merkazobi_open(desk: &mut Desk, jobs: &mut [Job]) -> Told
-    ensures { λ r. ⌜ Tells (openOf (now (desk .entry) .clock) (now (desk .entry) .count) (now (jobs .entry)))
-        r (now (desk .exit)) (now (jobs .exit)) ⌝ }
+    ensures { λ r. ⌜ TellsOpen (now (desk .entry)) (now (jobs .entry)) (now (desk .exit)) (now (jobs .exit)) r ⌝ }
 {
     let ask = to_open();
     let answered = desk_lent::call(desk, jobs, ask);
@@ -227,9 +228,8 @@ pub extern "C" fn merkazobi_request(
     c: u32,
     d: u32,
 ) -> Told
-    ensures { λ r. ⌜ Tells
-        (requestOf (now (desk .entry) .clock) (now (desk .entry) .count) (now (jobs .entry)) t c d)
-        r (now (desk .exit)) (now (jobs .exit)) ⌝ }
+    ensures { λ r. ⌜ TellsRequest (now (desk .entry)) (now (jobs .entry)) t c d
+        (now (desk .exit)) (now (jobs .exit)) r ⌝ }
 {
     let ask = to_request(t, c, d);
     let answered = desk_lent::call(desk, jobs, ask);

@@ -16,17 +16,11 @@ use Rattle.desk.specs.declared.Answer.the-variants.{Opened, Taken, Refus
 use Rattle.desk.specs.Table.{none, filled, outcome, flexes, tableOk, deskOk, openOf, Outcome}
 use Rattle.desk.specs.Request.{kept, busy, find, tooFar, dropping, taking, numbersOk, drops, requestOf, Place, At, Nowhere}
 use Rattle.desk.specs.Story.{Entry, entry, noEntry, atOpening, entries, Story, begin}
-use Rattle.desk.specs.Theorems.{OpenOne, RequestOne, OpenLeaves, NeverTooFar, Refuses, OpenTells, InEveryStory, Matches, Proved}
+use Rattle.desk.specs.Theorems.{OpenLeaves, NeverTooFar, Refuses, OpenTells, InEveryStory, Matches, Proved}
 use Rattle.desk.proofs.Rules.{Sound, request-sound, request-numbers, opened-table, open-is, open-sound, open-good, open-sound-unless, sound-unless, afresh}
 use Rattle.desk.proofs.Entries.{Follow}
 use Rattle.desk.proofs.Promise.{take-filled, table, Kept, kept-good, kept-many, kept-begin, promise}
 use Rattle.desk.proofs.Still.{refused-same, taken-joined, still, all-since-opening, still-ever, length-entries}
-
-open-one : OpenOne
-open-one clock n l o p e f = e ∙ sym f
-
-request-one : RequestOne
-request-one clock n l t c d o p e f = e ∙ sym f
 
 open-leaves : OpenLeaves
 unfolding openOf
@@ -115,7 +109,7 @@ tells h w =
       deadline = λ k g. entry-at (h .listed) (table h) k (w .follow) (omega (arith, long)) .2 ∙ ap (λ (j : Job). j .deadline) (at k g);
     }
 
-not-rules : (clock n : ℕ) (l : List Job) → Sound clock n l → (t c d : ℕ) → Refuses (requestOf clock n l t c d) Rules → ⊥
+not-rules : (clock n : ℕ) (l : List Job) → Sound clock n l → (t c d : ℕ) → Refuses (requestOf clock n l t c d) 13 → ⊥
 not-rules clock n l s t c d = request-numbers clock n l t c d s .0
 
 never-too-far : NeverTooFar
@@ -125,8 +119,6 @@ never-too-far clock n l t c d e =
 pub proved : Proved
 proved =
     record {
-      open-one = open-one;
-      request-one = request-one;
       open-leaves = open-leaves;
       request-leaves = λ clock n l t c d. right-request clock n l t c d .refused;
       taken-sets-clock = λ clock n l t c d. right-request clock n l t c d .taken;

@@ -5,9 +5,8 @@ use mathlib.Core.Bool.{Bool, true}
 use mathlib.Core.List.{List}
 use lib.ListN.{length, take, getD}
 use Rattle.rules.specs.Walk.{pick}
-use Rattle.rules.specs.Refusals.{told}
 use Rattle.rules.specs.declared.Refusal.{Refusal}
-use Rattle.rules.specs.declared.Refusal.the-variants.{Rules, TooFar}
+use Rattle.rules.specs.declared.Refusal.the-variants.{Rules}
 use Rattle.desk.specs.declared.Job.{Job}
 use Rattle.desk.specs.declared.Asked.{Asked}
 use Rattle.desk.specs.declared.Answer.the-variants.{Opened, Taken, Refused}
@@ -15,15 +14,6 @@ use Rattle.desk.specs.Table.{start, budget, deadline, none, Outcome, out
 use Rattle.desk.specs.Request.{kept, drops, dropping, requestOf}
 use Rattle.desk.specs.Call.{said}
 use Rattle.desk.specs.Story.{entry, noEntry, atOpening, Story, live, ever, begin, next, many, Promise, Joined, Fixed, takens}
-
--- "The team shows that any two outcomes it permits are equal"
-abbrev pub OpenOne : Type 0
-OpenOne = (clock n : ℕ) (l : List Job) (o p : Outcome) → o ≡ openOf clock n l → p ≡ openOf clock n l → o ≡ p
-
-abbrev pub RequestOne : Type 0
-RequestOne =
-    (clock n : ℕ) (l : List Job) (t c d : ℕ) (o p : Outcome)
-    → o ≡ requestOf clock n l t c d → p ≡ requestOf clock n l t c d → o ≡ p
 
 -- opening's refusal is 13, and "13, 14, 15 and 19 change nothing at the desk"
 abbrev pub OpenLeaves : Type 0
@@ -43,9 +33,9 @@ abbrev pub TakenSetsClock : Type 0
 TakenSetsClock =
     (clock n : ℕ) (l : List Job) (t c d i s : ℕ) → requestOf clock n l t c d .answer ≡ Taken i s → requestOf clock n l t c d .clock ≡ t
 
--- a call's answer is this refusal, by the paper's number
-abbrev pub Refuses : Outcome → Refusal → Type 0
-Refuses o r = said (o .answer) .number ≡ told r .number
+-- a call's answer is the refusal of that number
+abbrev pub Refuses : Outcome → ℕ → Type 0
+Refuses o n = said (o .answer) .number ≡ n
 
 -- 13 is for a "job table, clock or count" that "breaks the rules", and no call makes one such
 abbrev pub sound : Outcome → Bool
@@ -61,7 +51,7 @@ RequestKeepsRules =
 -- a request on what a call left, where that call did not answer 13, does not answer 13
 abbrev pub NotRulesAfter : Outcome → Type 0
 NotRulesAfter o =
-    (Refuses o Rules → ⊥) → (t c d : ℕ) → Refuses (requestOf (o .clock) (o .count) (o .jobs) t c d) Rules → ⊥
+    (Refuses o 13 → ⊥) → (t c d : ℕ) → Refuses (requestOf (o .clock) (o .count) (o .jobs) t c d) 13 → ⊥
 
 abbrev pub NotRulesAfterOpen : Type 0
 NotRulesAfterOpen = (clock n : ℕ) (l : List Job) → NotRulesAfter (openOf clock n l)
@@ -71,7 +61,7 @@ NotRulesAfterRequest = (clock n : ℕ) (l : List Job) (t c d : ℕ) → NotRules
 
 -- after every call that does not refuse the table, each x is the rule's own, worked out from nothing
 abbrev pub Afresh : Outcome → Type 0
-Afresh o = (Refuses o Rules → ⊥) → flexes (take (o .count) (o .jobs)) ≡ take (o .count) (o .jobs)
+Afresh o = (Refuses o 13 → ⊥) → flexes (take (o .count) (o .jobs)) ≡ take (o .count) (o .jobs)
 
 abbrev pub OpenAfresh : Type 0
 OpenAfresh = (clock n : ℕ) (l : List Job) → Afresh (openOf clock n l)
@@ -81,7 +71,7 @@ RequestAfresh = (clock n : ℕ) (l : List Job) (t c d : ℕ) → Afresh (request
 
 -- 19: "a move would exceed a job's x" is never so: a table that passes 13 never gives 19, and any other gives 13
 abbrev pub NeverTooFar : Type 0
-NeverTooFar = (clock n : ℕ) (l : List Job) (t c d : ℕ) → Refuses (requestOf clock n l t c d) TooFar → ⊥
+NeverTooFar = (clock n : ℕ) (l : List Job) (t c d : ℕ) → Refuses (requestOf clock n l t c d) 19 → ⊥
 
 -- at opening every listed job stands at the start that was lent
 abbrev pub OpenTells : Type 0
@@ -133,8 +123,6 @@ abbrev pub StartedStaysEver : Type 0
 StartedStaysEver = InEveryStory (λ h. (qs : List Asked) → Fixed (h .desk .clock) (ever h) (ever (many qs h)))
 
 pub record Proved : Type 0 where
-  pub open-one : OpenOne
-  pub request-one : RequestOne
   pub open-leaves : OpenLeaves
   pub request-leaves : RequestLeaves
   pub taken-sets-clock : TakenSetsClock

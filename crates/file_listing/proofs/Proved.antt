@@ -44,5 +44,5 @@ proved = record {
       let z : j + 1 - 1 ≡ j = omega arith in
       (sym (rw z at (answers.answer (planIn b) (tableOf b Partitions) (tableOf b Tasks) (j + 1) a)), answers.answered-exactly (planIn b) (tableOf b Partitions) (tableOf b Tasks) (j + 1) .1 a);
   only-nine = λ b frame np nt nr r e c. scan-nine (planIn b) (tableOf b Partitions) r (sym (scanned b frame np nt nr e) ∙ c);
-  listing-one = λ b out r s m o e f. (e .0 ∙ sym (f .0), e .1 ∙ sym (f .1));
+  listing-one = λ b out o o′ r r′ e f. (e .0 ∙ sym (f .0), e .1 ∙ sym (f .1));
 }

@@ -1,5 +1,6 @@
 -- The listing of a plan file, as a function of the file's bytes. Assumes nothing.
 use Prim.Native.Nat.{ℕ}
+use mathlib.Core.Path.{_≡_}
 use mathlib.Core.List.{List}
 use lib.ListN.{length}
 use lib.Dec.{ltb}
@@ -37,3 +38,7 @@ listOf b room = pick (ltb room (length (listingOf b))) (Refused Output) (Fills (
 -- what the output holds after the call
 abbrev pub listedLeft : List ℕ → List ℕ → List ℕ
 listedLeft b out = leftBy (listOf b (length out)) (listingOf b) out
+
+-- the answer r of the call, and o what the output then holds
+abbrev pub Lists : List ℕ → List ℕ → List ℕ → Filling → Type 0
+Lists b out o r = (r ≡ listOf b (length out)) × (o ≡ listedLeft b out)

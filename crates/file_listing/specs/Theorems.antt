@@ -17,7 +17,7 @@ use Rattle.file_read.specs.declared.Body.the-variants.{Partitions, Tasks, Runs}
 use Rattle.file_read.specs.Reader.{readOf, tableOf}
 use Rattle.file_runs.specs.Ticks.{ticksOf}
 use Rattle.rules.specs.declared.Filling.{Filling}
-use Rattle.file_listing.specs.Listing.{listOf, listedLeft}
+use Rattle.file_listing.specs.Listing.{Lists}
 
 -- the plan of a file, as ticks
 abbrev pub planIn : List ℕ → List ℕ
@@ -44,9 +44,7 @@ OnlyNine =
 
 -- "any two outcomes it permits are equal"
 abbrev pub ListingOne : Type 0
-ListingOne =
-    (b out : List ℕ) (r s : Filling) (m o : List ℕ) → (r ≡ listOf b (length out)) × (m ≡ listedLeft b out) → (s ≡ listOf b (length out)) × (o ≡ listedLeft b out)
-    → (r ≡ s) × (m ≡ o)
+ListingOne = (b out o o′ : List ℕ) (r r′ : Filling) → Lists b out o r → Lists b out o′ r′ → (r ≡ r′) × (o ≡ o′)
 
 pub record Proved : Type 0 where
   pub listing-counts : ListingCounts

@@ -19,7 +19,7 @@ ghost use Rattle.rules.specs.Limits.{longestListing};
 ghost use Rattle.plan_check.specs.Check.{scanOf, checkOf};
 ghost use Rattle.file_runs.specs.Ticks.{ticksOf};
 ghost use Rattle.output.specs.Put.{Put};
-ghost use Rattle.file_listing.specs.Listing.{tablesLines, listingOf, listOf, listedLeft};
+ghost use Rattle.file_listing.specs.Listing.{tablesLines, listingOf, Lists};
 ghost use Rattle.file_page.specs.Contracts.{FewRecords};
 ghost use Rattle.file_listing.specs.Contracts.{Listable};
 
@@ -77,8 +77,7 @@ fn compose(file: &[u8], out: &mut [u8]) -> usize
 
 // The listing of a file's bytes, at the start of the output. An output of LONGEST_LISTING bytes is long enough for any.
 pub fn listing(file: &[u8], out: &mut [u8]) -> Filling
-    ensures { λ r. ⌜ r ≡ listOf (now (file .entry)) (length (now (out .entry))) ⌝ }
-    ensures { λ _. ⌜ now (out .exit) ≡ listedLeft (now (file .entry)) (now (out .entry)) ⌝ }
+    ensures { λ r. ⌜ Lists (now (file .entry)) (now (out .entry)) (now (out .exit)) r ⌝ }
     ensures { λ _. ⌜ length (listingOf (now (file .entry))) ≤ longestListing ⌝ }
 {
     let mut page = [0u8; LONGEST_LISTING];

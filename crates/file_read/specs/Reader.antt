@@ -1,5 +1,6 @@
 -- What the reader answers: contents, then the bodies, and the refusals 1 to 8. Assumes nothing.
 use Prim.Native.Nat.{ℕ, _*_}
+use mathlib.Core.Path.{_≡_}
 use mathlib.Core.List.{List}
 use mathlib.Core.Bool.{_&&_, not}
 use lib.ListN.{length, getD}
@@ -8,6 +9,8 @@ use Rattle.rules.specs.Limits.{longest, partWidth, taskWidth, runWidth, headByt
 use Rattle.rules.specs.Walk.{pick}
 use Rattle.tables.specs.Tables.{countedIn, withinLimits, unless}
 use Rattle.rules.specs.declared.Refusal.the-variants.{Short, Edition, Limits, Offset, Length}
+use Rattle.rules.specs.declared.Told.{Told}
+use Rattle.rules.specs.Refusals.{telling, told}
 use Rattle.file_codec.specs.Bytes.{numsOf, part}
 use Rattle.file_tables.specs.Runs.{fileTablesOf}
 use Rattle.file_codec.specs.Contents.{tasksAt, runsAt, sizeOf}
@@ -59,9 +62,22 @@ judgedBy (Refused x) b = Refused x
 unfoldable pub readOf : List ℕ → Reading
 readOf b = judgedBy (contentsOf b) b
 
+-- the answer r of the call
+abbrev pub Reads : List ℕ → Reading → Type 0
+Reads b r = r ≡ readOf b
+
+-- 0 with frame and counts
+abbrev pub toldReading : Reading → Told
+toldReading (Contents frame np nt nr) = telling 0 frame np nt nr
+toldReading (Refused x) = told x
+
 -- "The reader hands back each body as a part of the file itself."
 unfoldable pub sectionOf : List ℕ → Body → List ℕ
 sectionOf b which = part b (bodyAt (readOf b) which .offset) (bodyAt (readOf b) which .end)
+
+-- the part r that is handed back
+abbrev pub HandsBack : List ℕ → Body → List ℕ → Type 0
+HandsBack b which r = r ≡ sectionOf b which
 
 abbrev pub tableOf : List ℕ → Body → List ℕ
 tableOf b which = tableBy (readOf b) b which

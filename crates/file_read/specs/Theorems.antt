@@ -9,7 +9,7 @@ use Rattle.file_read.specs.declared.Reading.{Reading}
 use Rattle.file_read.specs.declared.Reading.the-variants.{Contents, Refused}
 use Rattle.file_read.specs.declared.Body.{Body}
 use Rattle.file_read.specs.declared.Body.the-variants.{Partitions, Tasks, Runs}
-use Rattle.file_read.specs.Reader.{readOf, sectionOf}
+use Rattle.file_read.specs.Reader.{readOf, Reads, sectionOf, HandsBack}
 
 -- "Bodies from byte 16 in that order, no gaps." "The reader hands back each body as a part of the file itself."
 abbrev pub SectionExact : Type 0
@@ -26,10 +26,10 @@ SectionNone = (b : List ℕ) (x : Refusal) (which : Body) → readOf b ≡ Refus
 
 -- "any two outcomes it permits are equal"
 abbrev pub OneRead : Type 0
-OneRead = (b : List ℕ) (r s : Reading) → r ≡ readOf b → s ≡ readOf b → r ≡ s
+OneRead = (b : List ℕ) (r s : Reading) → Reads b r → Reads b s → r ≡ s
 
 abbrev pub OneSection : Type 0
-OneSection = (b : List ℕ) (which : Body) (r s : List ℕ) → r ≡ sectionOf b which → s ≡ sectionOf b which → r ≡ s
+OneSection = (b : List ℕ) (which : Body) (r s : List ℕ) → HandsBack b which r → HandsBack b which s → r ≡ s
 
 pub record Proved : Type 0 where
   pub section-exact : SectionExact

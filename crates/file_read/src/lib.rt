@@ -5,7 +5,7 @@ use rules::limits::PART_NUMBERS;
 use rules::limits::RUN_NUMBERS;
 use rules::limits::TASK_NUMBERS;
 ghost use mathlib.Core.Path.{_≡_};
-ghost use Rattle.file_read.specs.Reader.{readOf, bodyAt, sectionOf};
+ghost use Rattle.file_read.specs.Reader.{readOf, Reads, bodyAt, HandsBack};
 
 mod contents; // contents.rt: the first 16 bytes
 pub mod load; // load.rt: the bodies as tables, judged
@@ -33,7 +33,7 @@ pub struct Stretch {
 }
 
 pub fn read(file: &[u8]) -> Reading
-    ensures { λ r. ⌜ r ≡ readOf (now (file .entry)) ⌝ }
+    ensures { λ r. ⌜ Reads (now (file .entry)) r ⌝ }
 {
     let mut parts = [0u16; PART_NUMBERS];
     let mut tasks = [0u16; TASK_NUMBERS];
@@ -42,7 +42,7 @@ pub fn read(file: &[u8]) -> Reading
 }
 
 // Where a body lies in the file. Of a file that isn't accepted it is the empty stretch at 0.
-pub fn stretch_of(file: &[u8], which: Body) -> Stretch
+fn stretch_of(file: &[u8], which: Body) -> Stretch
     ensures { λ r. ⌜ r ≡ bodyAt (readOf (now (file .entry))) which ⌝ }
 {
     load::body_at(read(file), which)
@@ -50,7 +50,7 @@ pub fn stretch_of(file: &[u8], which: Body) -> Stretch
 
 // A body of an accepted file, as a part of the file itself. Of any other file it is the empty part.
 pub fn section(file: &[u8], which: Body) -> &[u8]
-    ensures { λ r. ⌜ now r ≡ sectionOf (now (file .entry)) which ⌝ }
+    ensures { λ r. ⌜ HandsBack (now (file .entry)) which (now r) ⌝ }
 {
     let s = stretch_of(file, which);
     let offset = s.offset;

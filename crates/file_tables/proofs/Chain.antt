@@ -107,7 +107,7 @@ module _ (frame : ℕ) (ps ts rs : List ℕ) where
   unfolding fileTablesOf runsJudged
   good-of e =
       let a = pick-first (runsCounted (length rs)) _ _ Good (not-good Limits) e in
-      let b = unless-given frame ps ts Refused (runsJudged (partitions ps) frame rs) Good (not-good Limits) (λ k. not-good (Partition k)) (λ j. not-good (Task j)) (a .1) in
+      let b = unless-given frame ps ts Refused (runsJudged (partitions ps) frame rs) Good (not-good Limits) (λ k. not-good (Partition k)) (λ j. not-good (Task (j + 1))) (a .1) in
       record { tables = b .0; counted = a .0; runs = lowest-good Tick (goodRun (partitions ps) frame rs) (runs rs) (b .1) }
 
   pub of-good : GoodFile frame ps ts rs → fileTablesOf frame ps ts rs ≡ Good
@@ -126,7 +126,7 @@ module _ (frame : ℕ) (ps ts rs : List ℕ) where
 
   -- what holds of the answers to 3, to any 6, 7 and 8 and of what follows holds of the answer
   pub file-holds : {A : Type 0} (P : A → Type 0) (refused : Refusal → A) (next : A)
-      → P (refused Limits) → ((k : ℕ) → P (refused (Partition k))) → ((j : ℕ) → P (refused (Task j))) → ((r : ℕ) → P (refused (Tick r))) → P next
+      → P (refused Limits) → ((k : ℕ) → P (refused (Partition k))) → ((j : ℕ) → P (refused (Task (j + 1)))) → ((r : ℕ) → P (refused (Tick r))) → P next
       → P (unless refused (fileTablesOf frame ps ts rs) next)
   unfolding fileTablesOf runsJudged
   file-holds P refused next three six seven eight h = counted (runsCounted (length rs))

@@ -32,5 +32,5 @@ proved = record {
   read-write = read-written;
   write-read = write-back;
   untouched = untouched;
-  one-write = λ frame ps ts rs out v w m o e f. (e .0 ∙ sym (f .0), e .1 ∙ sym (f .1));
+  one-write = λ frame ps ts rs out o o′ r r′ e f. (e .0 ∙ sym (f .0), e .1 ∙ sym (f .1));
 }

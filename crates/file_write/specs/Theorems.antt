@@ -13,7 +13,7 @@ use Rattle.file_read.specs.declared.Body.the-variants.{Partitions, Tasks, Runs}
 use Rattle.file_read.specs.Reader.{readOf, tableOf}
 use Rattle.rules.specs.declared.Filling.{Filling}
 use Rattle.rules.specs.declared.Filling.the-variants as filling
-use Rattle.file_write.specs.Writer.{writeOf, writtenLeft}
+use Rattle.file_write.specs.Writer.{writeOf, writtenLeft, Writes}
 
 -- "The writer puts each body into its own stretch of the lent output": reading what was written gives back frame, counts and tables
 abbrev pub ReadWrite : Type 0
@@ -42,10 +42,8 @@ Untouched =
 -- "any two outcomes it permits are equal"
 abbrev pub OneWrite : Type 0
 OneWrite =
-    (frame : ℕ) (ps ts rs out : List ℕ) (v w : Filling) (m o : List ℕ)
-    → (v ≡ writeOf frame ps ts rs (length out)) × (m ≡ writtenLeft frame ps ts rs out)
-    → (w ≡ writeOf frame ps ts rs (length out)) × (o ≡ writtenLeft frame ps ts rs out)
-    → (v ≡ w) × (m ≡ o)
+    (frame : ℕ) (ps ts rs out o o′ : List ℕ) (r r′ : Filling) → Writes frame ps ts rs out o r → Writes frame ps ts rs out o′ r′
+    → (r ≡ r′) × (o ≡ o′)
 
 pub record Proved : Type 0 where
   pub read-write : ReadWrite

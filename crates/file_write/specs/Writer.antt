@@ -1,5 +1,6 @@
 -- What the writer answers and leaves. Assumes nothing.
 use Prim.Native.Nat.{ℕ}
+use mathlib.Core.Path.{_≡_}
 use mathlib.Core.List.{List, _++_}
 use lib.ListN.{length}
 use lib.Dec.{ltb}
@@ -28,3 +29,7 @@ writeOf frame ps ts rs room =
 -- what the output holds after the call
 abbrev pub writtenLeft : ℕ → List ℕ → List ℕ → List ℕ → List ℕ → List ℕ
 writtenLeft frame ps ts rs out = leftBy (writeOf frame ps ts rs (length out)) (fileOf frame ps ts rs) out
+
+-- the answer r of the call, and o what the output then holds
+abbrev pub Writes : ℕ → List ℕ → List ℕ → List ℕ → List ℕ → List ℕ → Filling → Type 0
+Writes frame ps ts rs out o r = (r ≡ writeOf frame ps ts rs (length out)) × (o ≡ writtenLeft frame ps ts rs out)

@@ -6,8 +6,7 @@ use rules::Refusal;
 use rules::limits::HEAD_BYTES;
 use rules::limits::NUMBER_BYTES;
 ghost use mathlib.Core.Path.{_≡_};
-ghost use lib.ListN.{length};
-ghost use Rattle.file_write.specs.Writer.{writeOf, writtenLeft};
+ghost use Rattle.file_write.specs.Writer.{writeOf, Writes};
 
 mod put; // put.rt: the contents and the bodies, put into the output
 
@@ -29,11 +28,8 @@ fn write_answer(frame: usize, parts: &[u16], tasks: &[u16], runs: &[u16], room: 
 }
 
 pub fn write(frame: usize, parts: &[u16], tasks: &[u16], runs: &[u16], out: &mut [u8]) -> Filling
-    ensures { λ r. ⌜ r
-        ≡ writeOf frame (now (parts .entry)) (now (tasks .entry)) (now (runs .entry))
-        (length (now (out .entry))) ⌝ }
-    ensures { λ _. ⌜ now (out .exit)
-        ≡ writtenLeft frame (now (parts .entry)) (now (tasks .entry)) (now (runs .entry)) (now (out .entry)) ⌝ }
+    ensures { λ r. ⌜ Writes frame (now (parts .entry)) (now (tasks .entry)) (now (runs .entry))
+        (now (out .entry)) (now (out .exit)) r ⌝ }
 {
     let w = write_answer(frame, parts, tasks, runs, out.len());
     match w {

@@ -1,5 +1,5 @@
 -- The order of the builder's refusals, at the numbers that the code holds, and what a frame answered says of the table. Assumes nothing.
-use Prim.Native.Nat.{ℕ, _≤_, _<_}
+use Prim.Native.Nat.{ℕ, _+_, _≤_, _<_}
 use mathlib.Core.Path.{_≡_}
 use mathlib.Core.Bool.{true, false}
 use mathlib.Core.List.{List, []}
@@ -68,7 +68,7 @@ module _ (ps : List ℕ) (room : ℕ) where
   pub laid : (h : ℕ) → buildOf ps room ≡ Fills h → Laid ps room h
   unfolding buildOf laidOf
   laid h e =
-      let a = unless-given longest ps [] Refused (laidOf ps room) (Fills h) (no-filling h Limits) (λ k. no-filling h (Partition k)) (λ j. no-filling h (Task j)) e in
+      let a = unless-given longest ps [] Refused (laidOf ps room) (Fills h) (no-filling h Limits) (λ k. no-filling h (Partition k)) (λ j. no-filling h (Task (j + 1))) e in
       let d = pick-second (unharmonic ps) _ _ (Fills h) (no-filling h _) (a .1) in
       let w = pick-second (ltb (frame ps) (allWanted ps (frame ps))) _ _ (Fills h) (no-filling h _) (d .1) in
       let o = pick-second (ltb room (frame ps)) _ _ (Fills h) (no-filling h _) (w .1) in

@@ -61,7 +61,7 @@ module _ (plan ps : List ℕ) where
   accepted : checkOf plan ps ≡ Good → GoodTables (length plan) ps [] × Owned × Serves own plan ps
   unfolding checkOf planCheckOf
   accepted e =
-      let a = unless-given (length plan) ps [] Refused (planCheckOf plan ps) Good (not-good Limits) (λ k. not-good (Partition k)) (λ j. not-good (Task j)) e in
+      let a = unless-given (length plan) ps [] Refused (planCheckOf plan ps) Good (not-good Limits) (λ k. not-good (Partition k)) (λ j. not-good (Task (j + 1))) e in
       let b = lowest-none Tick (goodTick (partitions ps) plan) (length plan) Refused (scanOf plan ps) Good (not-good _) (a .1) in
       (a .0, b .0, scan-serves (frame-some ps [] (a .0)) (b .1))
 

@@ -115,7 +115,7 @@ pub record Planned (ps ts : List ℕ) (room n : ℕ) : Type 0 where
 pub planned-so : (ps ts : List ℕ) (room n : ℕ) → writePlanOf ps ts room ≡ Fills n → Planned ps ts room n
 unfolding writePlanOf writeBuiltOf
 planned-so ps ts room n e =
-    let g = unless-given longest ps ts Refused (writtenBy (buildOf ps longest) ps ts room) (Fills n) (no-filling n Limits) (λ k. no-filling n (Partition k)) (λ j. no-filling n (Task j)) e in
+    let g = unless-given longest ps ts Refused (writtenBy (buildOf ps longest) ps ts room) (Fills n) (no-filling n Limits) (λ k. no-filling n (Partition k)) (λ j. no-filling n (Task (j + 1))) e in
     building (g .0) (buildOf ps longest) refl (g .1)
   where
     building : GoodTables longest ps ts → (b : Filling) → buildOf ps longest ≡ b → writtenBy b ps ts room ≡ Fills n → Planned ps ts room n

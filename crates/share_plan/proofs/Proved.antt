@@ -1,6 +1,6 @@
 -- Every promise of specs/Theorems.antt, proved. Assumes nothing.
 use Prim.Native.Nat.{ℕ, _≤_}
-use mathlib.Core.Path.{_≡_, refl, sym, _∙_}
+use mathlib.Core.Path.{_≡_, refl, sym, ap, _∙_}
 use mathlib.Core.List.{List}
 use lib.ListN.{length, drop, replicate, length-replicate}
 use lib.Seq.{take-at}
@@ -19,6 +19,11 @@ use Rattle.plan_build.specs.Build.{buildOf}
 use Rattle.plan_build.proofs.Answers.{built-serves, frame-exactly}
 use Rattle.plan_build.proofs.Orders.{counted-few}
 use Rattle.rules.specs.declared.Filling.the-variants.{Fills, Refused}
+use Rattle.rules.specs.Refusals.{toldFilling}
+use Rattle.rules.proofs.Known.{filling-as}
+use Rattle.share_text.specs.declared.Kind.the-variants.{Partitions, Tasks}
+use Rattle.share_text.specs.declared.TableReading.{TableReading}
+use Rattle.share_text.specs.Table.{recordsOf, tableLeft}
 use Rattle.file_read.specs.declared.Body.the-variants as body
 use Rattle.file_read.specs.Reader as file
 use Rattle.file_tables.specs.Runs.{runs}
@@ -30,14 +35,14 @@ use Rattle.file_runs.proofs.Ticks.{ticks-back}
 use Rattle.file_runs.proofs.Proved as ticks
 use Rattle.output.proofs.Proved as output
 use Rattle.share_plan.specs.Answer.{planRuns, planFile, writeBuiltOf, writePlanOf}
-use Rattle.share_plan.specs.Theorems.{FileServes, FileExactly, Proved}
+use Rattle.share_plan.specs.Theorems.{FileServes, FileExactly, TextOne, Proved}
 use Rattle.share_plan.proofs.Laws.{planned-so, file-fits}
 
 -- a built plan is accepted by the checker
 serves : (ps : List ℕ) → buildOf ps longest ≡ Fills (frame ps) → checkOf (harmonicPlan ps) ps ≡ Good
 serves ps e =
     let out : List ℕ = replicate longest 0 in
-    let s = built-serves ps out (frame ps) (rw (length-replicate {A = ℕ} longest 0) e) in
+    let s = built-serves ps out _ (frame ps) (rw (length-replicate {A = ℕ} longest 0) (sym e), refl) in
     rw (take-at (harmonicPlan ps) (drop (frame ps) out) (frame ps) (ticks-length (planned ps (partitions ps)) (frame ps))) at s
 
 file-serves : FileServes
@@ -72,7 +77,7 @@ only-then : (ps ts : List ℕ) (room n : ℕ) → writePlanOf ps ts room ≡ Fil
 unfolding Exactly
 only-then ps ts room n e =
     let k = planned-so ps ts room n e in
-    let b = frame-exactly ps longest (frame ps) .0 (k .built) in
+    let b = frame-exactly ps longest (frame ps) .0 (ap toldFilling (k .built)) in
     let w = fit n (frame ps) ps ts (planRuns ps) room (k .written) in
     (k .good, b .1, b .2, w .is-size, rw (w .is-size) (w .room-left))
 
@@ -80,7 +85,7 @@ then-so : (ps ts : List ℕ) (room n : ℕ) → Exactly ps ts room n → writePl
 unfolding Exactly writePlanOf writeBuiltOf
 then-so ps ts room n (g, h, l, e, m) =
     let f = harmonic-plan-good ps (counted-few ps ts g .0) (g .parts) in
-    let b : buildOf ps longest ≡ Fills (frame ps) = frame-exactly ps longest (frame ps) .1 (without-tasks longest ps ts g, h, l, refl, f .2) in
+    let b : buildOf ps longest ≡ Fills (frame ps) = filling-as _ _ (frame-exactly ps longest (frame ps) .1 (without-tasks longest ps ts g, h, l, refl, f .2)) in
     let w = write-all (frame ps) ps ts (planRuns ps) room (of-good (frame ps) ps ts (planRuns ps) (good-file ps ts g b)) n e m in
     unless-good longest ps ts Refused _ g ∙ rw b (sym w)
 
@@ -88,9 +93,19 @@ file-exactly : FileExactly
 unfolding Exactly
 file-exactly ps ts room n = (only-then ps ts room n, then-so ps ts room n)
 
+text-one : TextOne
+text-one t parts tasks p p′ q q′ r r′ a b =
+    let e : r ≡ r′ = a .0 ∙ sym (b .0) in
+    (
+      e,
+      a .1 ∙ ap (λ (x : TableReading). tableLeft x (recordsOf Partitions t) parts) e ∙ sym (b .1),
+      a .2 ∙ ap (λ (x : TableReading). tableLeft x (recordsOf Tasks t) tasks) e ∙ sym (b .2),
+    )
+
 pub proved : Proved
 proved = record {
   file-serves = file-serves;
   file-exactly = file-exactly;
-  one-answer = λ t out m o p r a b. output.proved .one-put _ _ _ _ _ _ _ a b;
+  one-answer = λ t out o o′ r r′ a b. output.proved .one-put _ _ _ _ _ _ _ a b;
+  text-one = text-one;
 }

@@ -1,6 +1,8 @@
 -- What the program writes for a share table: the plan file, or one line. Assumes nothing.
 use Prim.Native.Nat.{ℕ, _*_}
 use mathlib.Core.List.{List}
+use lib.ListN.{length}
+use Rattle.output.specs.Put.{Put}
 use Rattle.rules.specs.Limits.{mostPartitions, mostTasks, longest, partWidth, taskWidth}
 use Rattle.tables.specs.Tables.{tablesOf, unless}
 use Rattle.theory.specs.Harmonic.{frame, harmonicPlan}
@@ -52,3 +54,7 @@ answerBy (table.Refused r) ofTables = refusedLine r
 -- the tables have room for as many records as there may be
 unfoldable pub answerOf : List ℕ → ℕ → List ℕ
 answerOf t room = answerBy (readTextOf t (partWidth * mostPartitions) (taskWidth * mostTasks)) (fileOrLine (recordsOf Partitions t) (recordsOf Tasks t) room)
+
+-- the answer r of the call, the length of what it puts, and o what the output then holds
+abbrev pub Plans : List ℕ → List ℕ → List ℕ → ℕ → Type 0
+Plans t out o r = Put out 0 (answerOf t (length out)) r o

@@ -16,9 +16,10 @@ use Rattle.file_read.specs.declared.Body.the-variants as body
 use Rattle.file_read.specs.Reader as file
 use Rattle.file_tables.specs.Runs.{runs}
 use Rattle.file_write.specs.Writer.{sizeFor}
-use Rattle.output.specs.Put.{Put}
 use Rattle.file_runs.specs.Ticks.{ticksOf}
-use Rattle.share_plan.specs.Answer.{planRuns, planFile, writePlanOf, answerOf}
+use Rattle.share_text.specs.declared.TableReading.{TableReading}
+use Rattle.share_text.specs.Table.{ReadsText}
+use Rattle.share_plan.specs.Answer.{planRuns, planFile, writePlanOf, Plans}
 
 -- a file that comes out is accepted by the reader, with the table's records and the harmonic rule's plan; and "what the harmonic rule writes is always accepted" by the checker
 abbrev pub FileServes : Type 0
@@ -38,11 +39,17 @@ FileExactly =
     → (writePlanOf ps ts room ≡ Fills n)
     ↔ (GoodTables longest ps ts × Harmonic ps × (allWanted ps (frame ps) ≤ frame ps) × (n ≡ sizeFor ps ts (planRuns ps)) × (n ≤ room))
 
--- "any two outcomes it permits are equal"
+-- "any two outcomes it permits are equal", of the planner and of the share table's reader
 abbrev pub OneAnswer : Type 0
-OneAnswer = (t out m o : List ℕ) (p r : ℕ) → Put out 0 (answerOf t (length out)) p m → Put out 0 (answerOf t (length out)) r o → (p ≡ r) × (m ≡ o)
+OneAnswer = (t out o o′ : List ℕ) (r r′ : ℕ) → Plans t out o r → Plans t out o′ r′ → (r ≡ r′) × (o ≡ o′)
+
+abbrev pub TextOne : Type 0
+TextOne =
+    (t parts tasks p p′ q q′ : List ℕ) (r r′ : TableReading) → ReadsText t parts tasks p q r → ReadsText t parts tasks p′ q′ r′
+    → (r ≡ r′) × (p ≡ p′) × (q ≡ q′)
 
 pub record Proved : Type 0 where
   pub file-serves : FileServes
   pub file-exactly : FileExactly
   pub one-answer : OneAnswer
+  pub text-one : TextOne

@@ -6,18 +6,15 @@ use rules::limits::TASK_NUMBERS;
 use share_text::TableReading;
 ghost use Prim.Native.Nat.{_≤_, max};
 ghost use lib.ListN.{length};
-ghost use Rattle.output.specs.Put.{Put};
 ghost use Rattle.rules.specs.Limits.{longestLine};
-ghost use Rattle.share_plan.specs.Answer.{answerOf};
+ghost use Rattle.share_plan.specs.Answer.{Plans};
 
 mod plan_file; // plan_file.rt: the plan file of two tables, or the line of its refusal
 
 // Puts what the program writes at the start of `out`, as far as there is room. The answer is its length.
 pub fn plan(text: &[u8], out: &mut [u8]) -> usize
-    ensures { λ r. ⌜
-        Put (now (out .entry)) 0 (answerOf (now (text .entry)) (length (now (out .entry)))) r (now (out .exit))
-        × (r ≤ max longestLine (length (now (out .entry))))
-        ⌝ }
+    ensures { λ r. ⌜ Plans (now (text .entry)) (now (out .entry)) (now (out .exit)) r
+        × (r ≤ max longestLine (length (now (out .entry)))) ⌝ }
 {
     let mut parts = [0u16; PART_NUMBERS];
     let mut tasks = [0u16; TASK_NUMBERS];

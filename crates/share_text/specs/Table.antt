@@ -1,5 +1,6 @@
 -- A share table as text: its lines in order, the first that is wrong, and the records of each kind. Assumes nothing.
 use Prim.Native.Nat.{ℕ, zero, suc, _+_}
+use mathlib.Core.Path.{_≡_}
 use mathlib.Core.List.{List, [], _∷_}
 use mathlib.Core.Bool.{Bool}
 use lib.ListN.{length, take, drop}
@@ -88,3 +89,8 @@ abbrev pub tableLeft : TableReading → List ℕ → List ℕ → List ℕ
 tableLeft (Numbers p t) nums out = sets out 0 nums
 tableLeft (Expected line what) nums out = out
 tableLeft (Refused r) nums out = out
+
+-- the answer r of the call, and p and q what the lent tables then hold
+abbrev pub ReadsText : List ℕ → List ℕ → List ℕ → List ℕ → List ℕ → TableReading → Type 0
+ReadsText t parts tasks p q r =
+    (r ≡ readTextOf t (length parts) (length tasks)) × (p ≡ tableLeft r (recordsOf Partitions t) parts) × (q ≡ tableLeft r (recordsOf Tasks t) tasks)

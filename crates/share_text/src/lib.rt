@@ -3,9 +3,7 @@ use rules::Refusal;
 use share_line::What;
 use tables::gather;
 use tables::read_of;
-ghost use mathlib.Core.Path.{_≡_};
-ghost use lib.ListN.{length};
-ghost use Rattle.share_text.specs.Table.{recordsOf, readTextOf, tableLeft};
+ghost use Rattle.share_text.specs.Table.{ReadsText};
 
 mod lines; // lines.rt: the lines of a text in order, and the first that is wrong
 mod tables; // tables.rt: the numbers of each kind
@@ -32,11 +30,8 @@ pub enum TableReading {
 
 // The table's records, put into the lent tables where all of them fit.
 pub fn read(text: &[u8], parts: &mut [u16], tasks: &mut [u16]) -> TableReading
-    ensures { λ r. ⌜
-        (r ≡ readTextOf (now (text .entry)) (length (now (parts .entry))) (length (now (tasks .entry))))
-        × (now (parts .exit) ≡ tableLeft r (recordsOf Kind.Partitions (now (text .entry))) (now (parts .entry)))
-        × (now (tasks .exit) ≡ tableLeft r (recordsOf Kind.Tasks (now (text .entry))) (now (tasks .entry)))
-        ⌝ }
+    ensures { λ r. ⌜ ReadsText (now (text .entry)) (now (parts .entry)) (now (tasks .entry))
+        (now (parts .exit)) (now (tasks .exit)) r ⌝ }
 {
     let t = read_of(text, parts.len(), tasks.len());
     match t {

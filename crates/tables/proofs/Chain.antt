@@ -168,8 +168,8 @@ module _ (frame : ℕ) (ps ts : List ℕ) where
   pub good-exactly : (tablesOf frame ps ts ≡ Good) ↔ GoodTables frame ps ts
   good-exactly = (good-of, of-good)
 
-  -- what holds of 3, of any 6 and of any 7 holds of the chain's refusal
-  pub refusals : (P : Refusal → Type 0) → P Limits → ((k : ℕ) → P (Partition k)) → ((j : ℕ) → P (Task j)) → (r : Refusal) → tablesOf frame ps ts ≡ Refused r → P r
+  -- what holds of 3, of any 6 and of any 7 with a place from 1 on holds of the chain's refusal
+  pub refusals : (P : Refusal → Type 0) → P Limits → ((k : ℕ) → P (Partition k)) → ((j : ℕ) → P (Task (j + 1))) → (r : Refusal) → tablesOf frame ps ts ≡ Refused r → P r
   unfolding tablesOf
   refusals P three six seven r e =
       at (withinLimits frame (length ps) (length ts)) (ltb (firstBadPart frame ps) (partitions ps)) (ltb (firstBadTask (partitions ps) ts) (tasks ts)) e
@@ -195,14 +195,14 @@ module _ (frame : ℕ) (ps ts : List ℕ) where
 
   -- one that is no refusal of the chain is what follows
   pub unless-given : {A : Type 0} (refused : Refusal → A) (next z : A)
-      → ¬ (refused Limits ≡ z) → ((k : ℕ) → ¬ (refused (Partition k) ≡ z)) → ((j : ℕ) → ¬ (refused (Task j) ≡ z))
+      → ¬ (refused Limits ≡ z) → ((k : ℕ) → ¬ (refused (Partition k) ≡ z)) → ((j : ℕ) → ¬ (refused (Task (j + 1)) ≡ z))
       → unless refused (tablesOf frame ps ts) next ≡ z → GoodTables frame ps ts × (next ≡ z)
   unless-given refused next z three six seven e =
       ⊎-elim (λ g. g) (λ h. absurd (refusals (λ r. ¬ (refused r ≡ z)) three six seven (h .0) (h .1) (h .2))) (unless-cases refused next z e)
 
   -- what holds of the answers to 3, to any 6 and 7 and of what follows holds of the answer
   pub unless-holds : {A : Type 0} (P : A → Type 0) (refused : Refusal → A) (next : A)
-      → P (refused Limits) → ((k : ℕ) → P (refused (Partition k))) → ((j : ℕ) → P (refused (Task j))) → P next → P (unless refused (tablesOf frame ps ts) next)
+      → P (refused Limits) → ((k : ℕ) → P (refused (Partition k))) → ((j : ℕ) → P (refused (Task (j + 1)))) → P next → P (unless refused (tablesOf frame ps ts) next)
   unless-holds P refused next three six seven h = go (tablesOf frame ps ts) refl
     where
       go : (t : Finding) → tablesOf frame ps ts ≡ t → P (unless refused t next)

@@ -1,17 +1,20 @@
 -- What the verdict's answers mean. Assumes nothing.
-use Prim.Native.Nat.{ℕ, _-_, _≤_, _<_}
-use mathlib.Core.Path.{_≡_, refl, sym, _∙_}
-use mathlib.Core.Bool.{Bool, true, false, _&&_}
+use Prim.Native.Nat.{ℕ, _+_, _-_, _≤_, _<_}
+use mathlib.Core.Path.{_≡_, refl, sym, ap, _∙_}
+use mathlib.Core.Bool.{Bool, true, false, true≢false, _&&_}
 use mathlib.Core.List.{List, []}
 use native.Mathlib.Omega.{arith}
-use lib.Dec.{leb}
+use lib.Dec.{leb, ltb}
 use lib.ListN.{length}
 use borrow.Author.Tests.{le-leb, lt-leb, leb-true, leb-false}
 use Rattle.rules.specs.Walk.{pick}
 use Rattle.rules.specs.Table.{partitions, tasks, deadline}
 use Rattle.tables.specs.Tables.{unless, GoodTables}
 use Rattle.rules.specs.declared.Refusal.{Refusal}
-use Rattle.rules.specs.declared.Refusal.the-variants.{Limits, Partition, Task}
+use Rattle.rules.specs.declared.Refusal.the-variants.{Limits, Partition, Task, Tick, Shortfall}
+use Rattle.rules.specs.declared.Told.{Told}
+use Rattle.rules.specs.Refusals.{placed}
+use Rattle.rules.proofs.Known.{named, by-told}
 use Rattle.tables.proofs.Chain.{without-tasks, unless-given, unless-good}
 use Rattle.rules.proofs.Tests.{pick-first, pick-second, and-parts}
 use Rattle.theory.specs.Plan.{own}
@@ -20,13 +23,15 @@ use Rattle.theory.proofs.Points.{point-smallest}
 use Rattle.theory.proofs.Tasks.{task-last, points-enough, run-theorem, endless-theorem}
 use Rattle.rules.specs.declared.Finding.{Finding}
 use Rattle.rules.specs.declared.Finding.the-variants as found
-use Rattle.plan_check.specs.Check.{planCheckOf, checkOf}
+use Rattle.plan_check.specs.Check.{scanOf, planCheckOf, checkOf}
 use Rattle.plan_check.proofs.Answers.{frame-some}
+use Rattle.plan_check.proofs.Orders.{shortPart}
+use Rattle.tables.specs.Contracts.{firstBadTick}
 use Rattle.task_points.specs.declared.Judged.{Judged}
 use Rattle.task_points.specs.declared.Judged.the-variants.{Pass, Fail, Refused}
-use Rattle.task_points.specs.Task.{taskOf}
+use Rattle.task_points.specs.Task.{taskOf, toldJudged}
 use Rattle.task_verdict.specs.Verdict.{placeOf, verdictOf}
-use Rattle.task_verdict.specs.Theorems.{Answered, AnsweredExactly, PassExactly, FailExactly, PassPoint, EndsInTime, EndsInTimeForEver, VerdictOne, Proved}
+use Rattle.task_verdict.specs.Theorems.{Answered, AnsweredExactly, OutsideTable, PassExactly, FailExactly, PassPoint, EndsInTime, EndsInTimeForEver, VerdictOne, Proved}
 use Rattle.theory.specs.Contracts.{leastFor}
 
 -- no refusal
@@ -53,7 +58,7 @@ module _ (plan ps ts : List ℕ) (place : ℕ) where
   given : (z : Judged) → Given z → verdictOf plan ps ts place ≡ z → Answered plan ps ts place × (taskOf plan ts (place - 1) ≡ z)
   unfolding verdictOf placeOf
   given z g e =
-      let a = unless-given (length plan) ps ts Refused (placeOf plan ps ts place) z (g Limits) (λ k. g (Partition k)) (λ j. g (Task j)) e in
+      let a = unless-given (length plan) ps ts Refused (placeOf plan ps ts place) z (g Limits) (λ k. g (Partition k)) (λ j. g (Task (j + 1))) e in
       let p = pick-first (leb 1 place && leb place (tasks ts)) _ _ z (g _) (a .1) in
       let i = and-parts (leb 1 place) (leb place (tasks ts)) (p .0) in
       let s = after-given (planCheckOf plan ps) (taskOf plan ts (place - 1)) z g (p .1) in (
@@ -97,6 +102,45 @@ module _ (plan ts : List ℕ) (i : ℕ) where
   unfolding taskOf
   is-fail h = rw (lt-leb _ _ h)
 
+-- ---- 7 with place 0
+
+judged-refused : (j : Judged) (t : Told) → 1 ≤ t .number → toldJudged j ≡ t → j ≡ Refused (named (t .number) (t .first) (t .second) (t .third) (t .fourth))
+judged-refused (Pass n) t h e = let z : 0 ≡ t .number = ap (λ (u : Told). u .number) e in absurd (omega arith)
+judged-refused Fail t h e = let z : 0 ≡ t .number = ap (λ (u : Told). u .number) e in absurd (omega arith)
+judged-refused (Refused r) t h e = ap Refused (by-told r t e)
+
+-- neither 8 nor 9 nor a task's own answer is a 7
+no-seven : (c d b : Bool) (t p s h w u : ℕ)
+    → ¬ (unless Refused (unless found.Refused (pick c (found.Refused (Tick t)) found.Good) (pick d (found.Refused (Shortfall p s h w)) found.Good)) (pick b (Pass u) Fail) ≡ Refused (Task 0))
+no-seven true d b t p s h w u e = let z : _≡_ {A = ℕ} 0 1 = cc in absurd (omega arith)
+no-seven false true b t p s h w u e = let z : _≡_ {A = ℕ} 0 1 = cc in absurd (omega arith)
+no-seven false false true t p s h w u e = let z : _≡_ {A = ℕ} 0 1 = cc in absurd (omega arith)
+no-seven false false false t p s h w u e = let z : _≡_ {A = ℕ} 0 1 = cc in absurd (omega arith)
+
+module _ (plan ps ts : List ℕ) (place : ℕ) where
+  behind : Judged
+  behind = unless Refused (planCheckOf plan ps) (taskOf plan ts (place - 1))
+
+  behind-no-seven : ¬ (behind ≡ Refused (Task 0))
+  unfolding behind planCheckOf scanOf taskOf
+  behind-no-seven =
+      no-seven (ltb (firstBadTick (partitions ps) plan) (length plan)) (ltb (shortPart plan ps) (partitions ps))
+      (leb (taskPoint own plan ts (place - 1)) (deadline ts (place - 1))) _ _ _ _ _ _
+
+  outside : verdictOf plan ps ts place ≡ Refused (Task 0) → GoodTables (length plan) ps ts × (leb 1 place && leb place (tasks ts) ≡ false)
+  unfolding verdictOf placeOf behind
+  outside e =
+      let a = unless-given (length plan) ps ts Refused (placeOf plan ps ts place) (Refused (Task 0))
+      (λ q. let z : _≡_ {A = ℕ} 0 1 = cc in absurd (omega arith))
+      (λ k q. let z : _≡_ {A = ℕ} 0 1 = cc in absurd (omega arith))
+      (λ j q. let z : j + 1 ≡ 0 = cc in absurd (omega arith))
+      e in
+      (a .0, pick-second (leb 1 place && leb place (tasks ts)) behind (Refused (Task 0)) (Refused (Task 0)) behind-no-seven (a .1) .0)
+
+  is-outside : GoodTables (length plan) ps ts → leb 1 place && leb place (tasks ts) ≡ false → verdictOf plan ps ts place ≡ Refused (Task 0)
+  unfolding verdictOf placeOf
+  is-outside g e = unless-good (length plan) ps ts Refused (placeOf plan ps ts place) g ∙ rw e
+
 -- ---- the statements
 
 module _ (plan ps ts : List ℕ) (place : ℕ) where
@@ -139,6 +183,18 @@ answered-exactly plan ps ts place = (
   λ a r e. not-task-refused plan ps ts place r (sym (answer plan ps ts place a) ∙ e),
 )
 
+pub outside-table : OutsideTable
+outside-table plan ps ts place = (
+  λ e. let a = outside plan ps ts place (judged-refused (verdictOf plan ps ts place) (placed 7 0) (omega arith) e) in
+      (a .0, λ i. absurd (true≢false (sym (rw (le-leb 1 place (i .0), le-leb place (tasks ts) (i .1))) ∙ a .1))),
+  λ a. rw (is-outside plan ps ts place (a .0) (none (leb 1 place) (leb place (tasks ts)) refl refl (a .1))),
+)
+  where
+    none : (b c : Bool) → leb 1 place ≡ b → leb place (tasks ts) ≡ c → ¬ ((1 ≤ place) × (place ≤ tasks ts)) → b && c ≡ false
+    none true true e f n = absurd (n (leb-true 1 place e, leb-true place (tasks ts) f))
+    none true false e f n = refl
+    none false c e f n = refl
+
 pub pass-exactly : PassExactly
 pass-exactly plan ps ts place = (λ w. passed plan ps ts place (w .0) (w .1), passes plan ps ts place)
 
@@ -167,6 +223,7 @@ verdict-one plan ps ts place r r′ e f = e ∙ sym f
 pub proved : Proved
 proved = record {
   answered-exactly = answered-exactly;
+  outside-table = outside-table;
   pass-exactly = pass-exactly;
   fail-exactly = fail-exactly;
   pass-point = pass-point;

@@ -13,9 +13,11 @@ use Rattle.theory.specs.Load.{demand, point}
 use Rattle.theory.specs.Task.{taskLoad, TaskPasses}
 use Rattle.rules.specs.declared.Finding.the-variants as found
 use Rattle.plan_check.specs.Check.{checkOf}
+use Rattle.rules.specs.Refusals.{placed}
+use Rattle.task_points.specs.Task.{toldJudged}
 use Rattle.task_points.specs.declared.Judged.{Judged}
 use Rattle.task_points.specs.declared.Judged.the-variants.{Pass, Fail, Refused}
-use Rattle.task_verdict.specs.Verdict.{verdictOf}
+use Rattle.task_verdict.specs.Verdict.{verdictOf, Judges}
 
 -- nothing is refused: the plan is accepted, the tables are good, and the place is in the table
 pub record Answered (plan ps ts : List ℕ) (place : ℕ) : Type 0 where
@@ -27,6 +29,12 @@ pub record Answered (plan ps ts : List ℕ) (place : ℕ) : Type 0 where
 -- a verdict is given exactly then
 abbrev pub AnsweredExactly : Type 0
 AnsweredExactly = (plan ps ts : List ℕ) (place : ℕ) → ((r : _) → ¬ (verdictOf plan ps ts place ≡ Refused r)) ↔ Answered plan ps ts place
+
+-- "a place outside the table is 7 with place 0, after the other 7s", and before 8 and 9: whatever the plan
+abbrev pub OutsideTable : Type 0
+OutsideTable =
+    (plan ps ts : List ℕ) (place : ℕ)
+    → (toldJudged (verdictOf plan ps ts place) ≡ placed 7 0) ↔ (GoodTables (length plan) ps ts × ¬ ((1 ≤ place) × (place ≤ tasks ts)))
 
 -- "Task i passes exactly when demand(t) ≤ least(t) for some t from 1 to D."
 abbrev pub PassExactly : Type 0
@@ -62,10 +70,11 @@ EndsInTimeForEver =
 
 -- "any two outcomes it permits are equal"
 abbrev pub VerdictOne : Type 0
-VerdictOne = (plan ps ts : List ℕ) (place : ℕ) (r r′ : Judged) → r ≡ verdictOf plan ps ts place → r′ ≡ verdictOf plan ps ts place → r ≡ r′
+VerdictOne = (plan ps ts : List ℕ) (place : ℕ) (r r′ : Judged) → Judges plan ps ts place r → Judges plan ps ts place r′ → r ≡ r′
 
 pub record Proved : Type 0 where
   pub answered-exactly : AnsweredExactly
+  pub outside-table : OutsideTable
   pub pass-exactly : PassExactly
   pub fail-exactly : FailExactly
   pub pass-point : PassPoint

@@ -1,5 +1,6 @@
 -- What the verdict answers. Assumes nothing.
 use Prim.Native.Nat.{ℕ, _-_}
+use mathlib.Core.Path.{_≡_}
 use mathlib.Core.List.{List}
 use mathlib.Core.Bool.{_&&_}
 use lib.ListN.{length}
@@ -21,3 +22,7 @@ placeOf plan ps ts place =
 -- "the verdict 3, 6, 7, 8, 9"
 unfoldable pub verdictOf : List ℕ → List ℕ → List ℕ → ℕ → Judged
 verdictOf plan ps ts place = unless Refused (tablesOf (length plan) ps ts) (placeOf plan ps ts place)
+
+-- the answer r of the call
+abbrev pub Judges : List ℕ → List ℕ → List ℕ → ℕ → Judged → Type 0
+Judges plan ps ts place r = r ≡ verdictOf plan ps ts place

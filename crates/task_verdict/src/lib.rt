@@ -5,7 +5,7 @@ ghost use mathlib.Core.Path.{_≡_};
 ghost use Prim.Native.Nat.{_≤_};
 ghost use Rattle.rules.specs.Limits.{mostTasks};
 ghost use Rattle.rules.specs.Table.{tasks};
-ghost use Rattle.task_verdict.specs.Verdict.{placeOf, verdictOf};
+ghost use Rattle.task_verdict.specs.Verdict.{placeOf, Judges};
 use task_points::Judged;
 
 // The answer for a place counted from 1, in tables whose records are good.
@@ -28,7 +28,7 @@ fn at_place(plan: &[u16], parts: &[u16], table: &[u16], place: usize) -> Judged
 
 // Whether the task at a place, counted from 1, meets its deadline in every legal run.
 pub fn verdict(plan: &[u16], parts: &[u16], table: &[u16], place: usize) -> Judged
-    ensures { λ r. ⌜ r ≡ verdictOf (now (plan .entry)) (now (parts .entry)) (now (table .entry)) place ⌝ }
+    ensures { λ r. ⌜ Judges (now (plan .entry)) (now (parts .entry)) (now (table .entry)) place r ⌝ }
 {
     let tables = tables::judge_tables(plan.len(), parts, table);
     match tables {

@@ -1,4 +1,3 @@
-use mathlib.Core.Path.{sym, _∙_}
 use borrow.Author.Needs.{needs}
 use Rattle.api.proofs.merkazobi_build.Statement.{statement}
 use Rattle.api.proofs.merkazobi_build.Tie as tie
@@ -22,13 +21,13 @@ same-length : tie.Need-same-length
 same-length c = search needs
 
 returns : tie.Need-returns
-returns c = let e = sym (c .before .before .before .before .before .before .build .ensures .0) ∙ c .before .before .built .given .1 in (rw e (c .answer .ensures), rw (← c .before .before .before .before .before .before .build .ensures .0) (c .before .before .before .before .before .before .build .ensures .1))
+returns c = (c .before .before .before .before .before .before .build .result, c .before .before .before .before .before .before .build .ensures, rw (c .before .before .built .given .1) (c .answer .ensures))
 
 same-length-2 : tie.Need-same-length-2
 same-length-2 c = search needs
 
 returns-2 : tie.Need-returns-2
-returns-2 c = let e = sym (c .before .before .before .before .before .before .build .ensures .0) ∙ c .before .before .built2 .given .1 in (rw e (c .tell .ensures), rw (← c .before .before .before .before .before .before .build .ensures .0) (c .before .before .before .before .before .before .build .ensures .1))
+returns-2 c = (c .before .before .before .before .before .before .build .result, c .before .before .before .before .before .before .build .ensures, rw (c .before .before .built2 .given .1) (c .tell .ensures))
 
 pub merkazobi-build-spec : {M : Type 1} → statement M
 merkazobi-build-spec =

@@ -1,4 +1,3 @@
-use mathlib.Core.Path.{sym, _∙_}
 use borrow.Author.Needs.{needs}
 use Rattle.api.proofs.merkazobi_check.Statement.{statement}
 use Rattle.api.proofs.merkazobi_check.Tie as tie
@@ -19,10 +18,10 @@ tell-requires : tie.Need-tell-requires
 tell-requires c κs = search needs
 
 returns : tie.Need-returns
-returns c = rw (sym (c .before .before .before .check .ensures) ∙ c .before .enum-told .given .1) (c .answer .ensures)
+returns c = (c .before .before .before .check .result, c .before .before .before .check .ensures, rw (c .before .enum-told .given .1) (c .answer .ensures))
 
 returns-2 : tie.Need-returns-2
-returns-2 c = rw (sym (c .before .before .before .before .check .ensures) ∙ c .before .before .checked .given .1) (c .tell .ensures)
+returns-2 c = (c .before .before .before .before .check .result, c .before .before .before .before .check .ensures, rw (c .before .before .checked .given .1) (c .tell .ensures))
 
 pub merkazobi-check-spec : {M : Type 1} → statement M
 merkazobi-check-spec =

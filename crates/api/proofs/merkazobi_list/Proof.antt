@@ -1,4 +1,3 @@
-use mathlib.Core.Path.{sym, _∙_}
 use borrow.Author.Needs.{needs}
 use Rattle.api.proofs.merkazobi_list.Statement.{statement}
 use Rattle.api.proofs.merkazobi_list.Tie as tie
@@ -22,13 +21,13 @@ same-length : tie.Need-same-length
 same-length c = search needs
 
 returns : tie.Need-returns
-returns c = let e = sym (c .before .before .before .before .before .before .listing .ensures .0) ∙ c .before .before .listed .given .1 in (rw e (c .answer .ensures), c .before .before .before .before .before .before .listing .ensures .1 .0)
+returns c = (c .before .before .before .before .before .before .listing .result, c .before .before .before .before .before .before .listing .ensures .0, rw (c .before .before .listed .given .1) (c .answer .ensures))
 
 same-length-2 : tie.Need-same-length-2
 same-length-2 c = search needs
 
 returns-2 : tie.Need-returns-2
-returns-2 c = let e = sym (c .before .before .before .before .before .before .listing .ensures .0) ∙ c .before .before .listed2 .given .1 in (rw e (c .tell .ensures), c .before .before .before .before .before .before .listing .ensures .1 .0)
+returns-2 c = (c .before .before .before .before .before .before .listing .result, c .before .before .before .before .before .before .listing .ensures .0, rw (c .before .before .listed2 .given .1) (c .tell .ensures))
 
 pub merkazobi-list-spec : {M : Type 1} → statement M
 merkazobi-list-spec =

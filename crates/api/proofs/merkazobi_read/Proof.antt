@@ -1,4 +1,3 @@
-use mathlib.Core.Path.{sym, _∙_}
 use borrow.Author.Needs.{needs}
 use Rattle.api.proofs.merkazobi_read.Statement.{statement}
 use Rattle.api.proofs.merkazobi_read.Tie as tie
@@ -16,10 +15,10 @@ tell-requires : tie.Need-tell-requires
 tell-requires c κs = search needs
 
 returns : tie.Need-returns
-returns c = rw (sym (c .before .before .before .read .ensures) ∙ c .before .reading .given .1)
+returns c = (c .before .before .before .read .result, c .before .before .before .read .ensures, rw (c .before .reading .given .1))
 
 returns-2 : tie.Need-returns-2
-returns-2 c = rw (sym (c .before .before .before .before .read .ensures) ∙ c .before .before .reading2 .given .1) (c .tell .ensures)
+returns-2 c = (c .before .before .before .before .read .result, c .before .before .before .before .read .ensures, rw (c .before .before .reading2 .given .1) (c .tell .ensures))
 
 pub merkazobi-read-spec : {M : Type 1} → statement M
 merkazobi-read-spec =

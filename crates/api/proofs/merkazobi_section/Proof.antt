@@ -1,41 +1,46 @@
-use borrow.Author.Tests.{eq-eqb, ne-eqb}
 use borrow.Author.Needs.{needs}
 use Rattle.api.proofs.merkazobi_section.Statement.{statement}
 use Rattle.api.proofs.merkazobi_section.Tie as tie
+use Rattle.api.proofs.merkazobi_section.Reads as reads
+use Rattle.api.proofs.merkazobi_section.Lts as lts
+use Rattle.api.proofs.answer.Reads as answer-reads
+use Rattle.api.proofs.part_at.Reads as part-at-reads
+use Rattle.file_read.proofs.read.Reads as read-reads
+use Rattle.rules.proofs.tell.Reads as tell-reads
 
-stretch-requires : tie.Need-stretch-requires
-stretch-requires c κs = search needs
+read-requires : tie.Need-read-requires
+read-requires c κs = search needs
 
-returns : tie.Need-returns
-returns c = rw (eq-eqb _ _ (c .before .if1 .taken)) (c .stretch .ensures)
+enum-known-reading : tie.Need-enum-known-reading
+enum-known-reading c = search needs
 
-stretch-requires-2 : tie.Need-stretch-requires-2
-stretch-requires-2 c κs = search needs
-
-returns-2 : tie.Need-returns-2
-returns-2 c = rw (ne-eqb _ _ (c .before .before .if1 .left), eq-eqb _ _ (c .before .if2 .taken)) (c .stretch2 .ensures)
-
-stretch-requires-3 : tie.Need-stretch-requires-3
-stretch-requires-3 c κs = search needs
-
-returns-3 : tie.Need-returns-3
-returns-3 c = rw (ne-eqb _ _ (c .before .before .before .if1 .left), ne-eqb _ _ (c .before .before .if2 .left), eq-eqb _ _ (c .before .if3 .taken)) (c .stretch3 .ensures)
+part-at-requires : tie.Need-part-at-requires
+part-at-requires c κs = search needs
 
 answer-requires : tie.Need-answer-requires
 answer-requires c κs = search needs
 
-returns-4 : tie.Need-returns-4
-returns-4 c = rw (ne-eqb _ _ (c .before .before .before .if1 .left), ne-eqb _ _ (c .before .before .if2 .left), ne-eqb _ _ (c .before .if3 .left)) (c .answer .ensures)
+enum-known-reading-2 : tie.Need-enum-known-reading-2
+enum-known-reading-2 c = search needs
+
+tell-requires : tie.Need-tell-requires
+tell-requires c κs = search needs
+
+returns : tie.Need-returns
+returns c = ?
+
+returns-2 : tie.Need-returns-2
+returns-2 c = ?
 
 pub merkazobi-section-spec : {M : Type 1} → statement M
 merkazobi-section-spec =
     tie.close
     (tie.spec
-    stretch-requires
-    returns
-    stretch-requires-2
-    returns-2
-    stretch-requires-3
-    returns-3
+    read-requires
+    enum-known-reading
+    part-at-requires
     answer-requires
-    returns-4)
+    enum-known-reading-2
+    tell-requires
+    returns
+    returns-2)

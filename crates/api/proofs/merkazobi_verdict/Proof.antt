@@ -1,4 +1,3 @@
-use mathlib.Core.Path.{sym, _∙_}
 use borrow.Author.Needs.{needs}
 use Rattle.api.proofs.merkazobi_verdict.Statement.{statement}
 use Rattle.api.proofs.merkazobi_verdict.Tie as tie
@@ -25,13 +24,13 @@ tell-requires : tie.Need-tell-requires
 tell-requires c κs = search needs
 
 returns : tie.Need-returns
-returns c = rw (sym (c .before .before .before .before .verdict .ensures) ∙ c .before .before .judged .given .1) (c .answer .ensures)
+returns c = (c .before .before .before .before .verdict .result, c .before .before .before .before .verdict .ensures, rw (c .before .before .judged .given .1) (c .answer .ensures))
 
 returns-2 : tie.Need-returns-2
-returns-2 c = rw (sym (c .before .before .before .verdict .ensures) ∙ c .before .enum-told .given .1) (c .answer2 .ensures)
+returns-2 c = (c .before .before .before .verdict .result, c .before .before .before .verdict .ensures, rw (c .before .enum-told .given .1) (c .answer2 .ensures))
 
 returns-3 : tie.Need-returns-3
-returns-3 c = rw (sym (c .before .before .before .before .verdict .ensures) ∙ c .before .before .judged2 .given .1) (c .tell .ensures)
+returns-3 c = (c .before .before .before .before .verdict .result, c .before .before .before .before .verdict .ensures, rw (c .before .before .judged2 .given .1) (c .tell .ensures))
 
 pub merkazobi-verdict-spec : {M : Type 1} → statement M
 merkazobi-verdict-spec =

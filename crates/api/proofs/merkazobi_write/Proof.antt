@@ -1,4 +1,3 @@
-use mathlib.Core.Path.{sym, _∙_}
 use borrow.Author.Needs.{needs}
 use Rattle.api.proofs.merkazobi_write.Statement.{statement}
 use Rattle.api.proofs.merkazobi_write.Tie as tie
@@ -22,13 +21,13 @@ same-length : tie.Need-same-length
 same-length c = search needs
 
 returns : tie.Need-returns
-returns c = let e = sym (c .before .before .before .before .before .before .write .ensures .0) ∙ c .before .before .written .given .1 in (rw e (c .answer .ensures), c .before .before .before .before .before .before .write .ensures .1)
+returns c = (c .before .before .before .before .before .before .write .result, c .before .before .before .before .before .before .write .ensures, rw (c .before .before .written .given .1) (c .answer .ensures))
 
 same-length-2 : tie.Need-same-length-2
 same-length-2 c = search needs
 
 returns-2 : tie.Need-returns-2
-returns-2 c = let e = sym (c .before .before .before .before .before .before .write .ensures .0) ∙ c .before .before .written2 .given .1 in (rw e (c .tell .ensures), c .before .before .before .before .before .before .write .ensures .1)
+returns-2 c = (c .before .before .before .before .before .before .write .result, c .before .before .before .before .before .before .write .ensures, rw (c .before .before .written2 .given .1) (c .tell .ensures))
 
 pub merkazobi-write-spec : {M : Type 1} → statement M
 merkazobi-write-spec =

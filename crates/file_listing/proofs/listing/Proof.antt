@@ -15,7 +15,7 @@ compose-requires : tie.Need-compose-requires
 compose-requires c κs = search needs
 
 returns : tie.Need-returns
-returns c = let l = listed-short _ _ _ (c .before .before .before .before .before .before .args .out .now) _ (c .before .before .compose .ensures .0) (search needs) in (l .0, (l .1, omega (arith, c .before .before .compose .ensures .0 .place, c .before .before .compose .ensures .1)))
+returns c = let l = listed-short _ _ _ (c .before .before .before .before .before .before .args .out .now) _ (c .before .before .compose .ensures .0) (search needs) in ((l .0, l .1), omega (arith, c .before .before .compose .ensures .0 .place, c .before .before .compose .ensures .1))
 
 array-share-prefix-page : tie.Need-array-share-prefix-page
 array-share-prefix-page c = search needs
@@ -30,7 +30,7 @@ same-length : tie.Need-same-length
 same-length c = search needs
 
 returns-2 : tie.Need-returns-2
-returns-2 c = let l = listed-text _ _ _ (c .before .before .before .before .before .before .before .before .before .before .before .args .out .now) _ (c .before .before .before .before .before .before .before .compose .ensures .0) (search needs) (search needs) _ _ (c .before .before .put-text .ensures) in (l .0, (l .1, omega (arith, c .before .before .before .before .before .before .before .compose .ensures .0 .place, c .before .before .before .before .before .before .before .compose .ensures .1)))
+returns-2 c = let l = listed-text _ _ _ (c .before .before .before .before .before .before .before .before .before .before .before .args .out .now) _ (c .before .before .before .before .before .before .before .compose .ensures .0) (search needs) (search needs) _ _ (c .before .before .put-text .ensures) in ((l .0, l .1), omega (arith, c .before .before .before .before .before .before .before .compose .ensures .0 .place, c .before .before .before .before .before .before .before .compose .ensures .1))
 
 pub listing-spec : {M : Type 1} → statement M
 listing-spec =
