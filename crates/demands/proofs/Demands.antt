@@ -1,58 +1,69 @@
--- The three demands, joined from the crates' records. Assumes nothing.
-use Prim.Native.Nat.{ℕ, _+_, _-_}
-use mathlib.Core.Path.{refl}
-use mathlib.Core.Bool.{Bool, true, false, not, _&&_}
+-- The three demands, from the crates' records and each entry's own contract. Assumes nothing.
+use Prim.Native.Nat.{ℕ, _+_, _-_, _≤_}
+use mathlib.Core.Path.{_≡_, refl, sym, ap, subst, _∙_}
+use mathlib.Core.Bool.{Bool, true, false, true≢false, not, _&&_, _||_}
 use mathlib.Core.List.{List, [], _∷_}
-use lib.Dec.{leb, ltb}
+use native.Mathlib.Omega.{arith}
+use borrow.Author.Tests.{eqb-true, not-true}
+use lib.Dec.{leb, ltb, eqb}
 use lib.ListN.{length, take, drop}
 use Rattle.rules.specs.Walk.{pick}
 use Rattle.rules.specs.Limits.{longest, places}
 use Rattle.rules.specs.Table.{partitions, tasks, deadline}
 use Rattle.tables.specs.Tables.{unless}
 use Rattle.tables.specs.Contracts.{firstBadTick}
-use Rattle.rules.specs.declared.Refusal.the-variants.{Task, Tick, Shortfall, Unharmonic, Want, Output, Rules, TooFar}
+use Rattle.rules.specs.declared.Told.{Told}
+use Rattle.rules.specs.declared.Refusal.{Refusal}
+use Rattle.rules.specs.declared.Refusal.the-variants.{Task, Tick, Shortfall, Unharmonic, Want, Output, Rules, Numbers, Past, Busy, Full, NoPlace, TooFar}
+use Rattle.rules.specs.Refusals.{told, toldFinding, toldFilling, Tells}
+use Rattle.rules.specs.Filling.{leftBy}
+use Rattle.rules.proofs.Known.{not-0, found-good, filling-fills, tells-one}
+use Rattle.rules.proofs.Tests.{and-parts}
 use Rattle.tables.proofs.Chain.{unless-holds, unless-parts-hold}
 use Rattle.output.proofs.Proved as output
 use Rattle.theory.specs.Plan.{own}
-use Rattle.theory.specs.Harmonic.{frame, allWanted}
+use Rattle.theory.specs.Harmonic.{frame, allWanted, harmonicPlan}
 use Rattle.theory.specs.Task.{taskPoint}
 use Rattle.theory.proofs.Proved as theory
 use Rattle.rules.specs.declared.Finding.{Finding}
 use Rattle.rules.specs.declared.Finding.the-variants as found
-use Rattle.plan_check.specs.Check.{scanOf, planCheckOf, checkOf}
+use Rattle.plan_check.specs.Check.{scanOf, planCheckOf, checkOf, Checks}
 use Rattle.plan_check.proofs.Orders.{shortPart}
 use Rattle.plan_check.proofs.Answers as checker
 use Rattle.rules.specs.declared.Filling.{Filling}
 use Rattle.rules.specs.declared.Filling.the-variants as filling
-use Rattle.plan_build.specs.Build.{unharmonic, laidOf, buildOf}
+use Rattle.plan_build.specs.Build.{unharmonic, laidOf, buildOf, Builds}
 use Rattle.plan_build.proofs.Answers as builder
 use Rattle.task_points.specs.declared.Judged.{Judged}
 use Rattle.task_points.specs.declared.Judged.the-variants as judged
-use Rattle.task_points.specs.Task.{taskOf}
-use Rattle.task_verdict.specs.Verdict.{placeOf, verdictOf}
+use Rattle.task_points.specs.Task.{taskOf, toldJudged}
+use Rattle.task_verdict.specs.Verdict.{placeOf, verdictOf, Judges}
 use Rattle.task_verdict.proofs.Answers as verdict
 use Rattle.file_tables.proofs.Chain.{file-holds}
 use Rattle.file_read.specs.declared.Reading.{Reading}
 use Rattle.file_read.specs.declared.Reading.the-variants as reading
 use Rattle.file_read.specs.declared.Body.the-variants.{Partitions, Tasks, Runs}
-use Rattle.file_read.specs.Reader.{tableBy, judgedBy, readOf}
+use Rattle.file_read.specs.Reader.{tableBy, judgedBy, readOf, toldReading, Reads}
 use Rattle.file_read.proofs.Reader.{contents-hold}
 use Rattle.file_read.proofs.Proved as reader
-use Rattle.file_write.specs.Writer.{sizeFor, writeOf}
+use Rattle.file_write.specs.Writer.{fileOf, sizeFor, writeOf, Writes}
 use Rattle.file_write.proofs.Proved as writer
 use Rattle.file_runs.proofs.Proved as runs
-use Rattle.file_listing.specs.Listing.{listingOf, listOf}
+use Rattle.file_listing.specs.Listing.{listingOf, listOf, Lists}
 use Rattle.file_listing.proofs.Proved as listing
 use Rattle.share_plan.proofs.Proved as planner
 use Rattle.desk.specs.declared.Job.{Job}
+use Rattle.desk.specs.declared.Desk.{Desk}
+use Rattle.desk.specs.declared.Answer.{Answer}
 use Rattle.desk.specs.declared.Answer.the-variants.{Opened, Taken, Refused}
-use Rattle.desk.specs.Table.{job, filled, Outcome, outcome, tableOk, deskOk, openOf}
-use Rattle.desk.specs.Request.{kept, busy, Place, At, Nowhere, find, tooFar, insertAt, taking, numbersOk, requestOf}
-use Rattle.desk.specs.Call.{said}
+use Rattle.desk.specs.Table.{job, filled, flexes, Outcome, outcome, tableOk, deskOk, openOf}
+use Rattle.desk.specs.Request.{kept, busy, Place, At, Nowhere, find, tooFar, insertAt, taking, dropping, numbersOk, drops, requestOf}
+use Rattle.desk.specs.Call.{deskOf, Leaves, said}
 use Rattle.desk.proofs.Proved as desk
 use Rattle.desk_lent.proofs.Proved as lent
-use Rattle.api.specs.Answers.{toldFinding, toldFilling, toldJudged, toldReading}
-use Rattle.demands.specs.Demands.{Numbered, Demand1, Demand2, Demand3, Demands}
+use Rattle.api.specs.Answers.{TellsCheck, TellsBuild, TellsVerdict, TellsRead, toldPart, TellsSection, TellsWrite, TellsList, TellsRequest}
+use Rattle.demands.specs.Demands.{among, Told-as, Numbered, Demand1, OneOutcome, Afresh, Demand2, Demand3, Demands}
+use Rattle.demands.proofs.Entries.{entries}
 
 -- ---- the numbers, whatever the tests give: one case for each answer
 
@@ -90,59 +101,248 @@ open-told : (a : Bool) (l l′ : List Job) (n clock : ℕ) → Numbered (13 ∷ 
 open-told true l l′ n clock = refl
 open-told false l l′ n clock = refl
 
-abbrev Requests : Outcome → Type 0
-Requests o = Numbered (13 ∷ 14 ∷ 15 ∷ 16 ∷ 17 ∷ 18 ∷ 19 ∷ []) (said (o .answer))
+-- what holds of each outcome that a request may have holds of its outcome
+module _ (P : Outcome → Type 0) (clock n : ℕ) (l : List Job) (t c d : ℕ) where
+  abbrev js : List Job
+  js = kept t (take n l)
 
-taking-told : (clock n : ℕ) (l : List Job) (t c d : ℕ) (js : List Job) (p : Place) → Requests (taking (outcome l n clock (Refused TooFar)) t c d js p)
-taking-told clock n l t c d js Nowhere = refl
-taking-told clock n l t c d js (At i s) = at (tooFar (s + c) (drop i js))
+  abbrev stays : Refusal → Outcome
+  stays r = outcome l n clock (Refused r)
+
+  abbrev takes : ℕ → ℕ → Outcome
+  takes i s = outcome (filled (insertAt i (job s c d 0) js)) (length js + 1) t (Taken i s)
+
+  taking-holds : (p : Place) → P (dropping t js NoPlace) → P (stays TooFar) → ((i s : ℕ) → P (takes i s)) → P (taking (stays TooFar) t c d js p)
+  taking-holds Nowhere none far new = none
+  taking-holds (At i s) none far new = at (tooFar (s + c) (drop i js))
+    where
+      at : (b : Bool) → P (pick b (stays TooFar) (takes i s))
+      at true = far
+      at false = new i s
+
+  choice : (b : Bool) (o p : Outcome) → P o → P p → P (pick b o p)
+  choice true o p h g = h
+  choice false o p h g = g
+
+  request-holds : P (stays Rules) → P (stays Numbers) → P (stays Past) → P (dropping t js Busy) → P (dropping t js Full) → P (dropping t js NoPlace) → P (stays TooFar)
+      → ((i s : ℕ) → P (takes i s)) → P (requestOf clock n l t c d)
+  unfolding requestOf
+  request-holds thirteen fourteen fifteen sixteen seventeen eighteen nineteen new =
+      choice (not (deskOk clock n l)) _ _ thirteen (choice (not (numbersOk t c d)) _ _ fourteen (choice (ltb t clock) _ _ fifteen
+      (choice (busy t js) _ _ sixteen (choice (leb places (length js)) _ _ seventeen (taking-holds (find t c d js) eighteen nineteen new)))))
+
+-- ---- from what is told to the rule's answer, and back
+
+module _ (plan ps : List ℕ) (t : Told) (p : TellsCheck plan ps t) where
+  check-is : t ≡ toldFinding (checkOf plan ps)
+  check-is = tells-one toldFinding (Checks plan ps) (checkOf plan ps) (λ r e. e) t p
+
+  accepted-is : t .number ≡ 0 → checkOf plan ps ≡ found.Good
+  accepted-is e = found-good (checkOf plan ps) (rw (← check-is) e)
+
+build-is : (ps out o : List ℕ) (t : Told) → TellsBuild ps out o t → t ≡ toldFilling (buildOf ps (length out))
+build-is ps out o t p = tells-one toldFilling (Builds ps out o) (buildOf ps (length out)) (λ r e. e .0) t p
+
+module _ (plan ps ts : List ℕ) (place : ℕ) (t : Told) (p : TellsVerdict plan ps ts place t) where
+  verdict-is : t ≡ toldJudged (verdictOf plan ps ts place)
+  verdict-is = tells-one toldJudged (Judges plan ps ts place) (verdictOf plan ps ts place) (λ r e. e) t p
+
+  passed-is : t .number ≡ 0 → 1 ≤ t .first → verdictOf plan ps ts place ≡ judged.Pass (t .first)
+  passed-is e h = rw verdict-is (pass (verdictOf plan ps ts place) (rw (← verdict-is) e) (rw (← verdict-is) h))
+    where
+      pass : (j : Judged) → toldJudged j .number ≡ 0 → 1 ≤ toldJudged j .first → j ≡ judged.Pass (toldJudged j .first)
+      pass (judged.Pass u) e h = refl
+      pass judged.Fail e h = absurd (omega arith)
+      pass (judged.Refused r) e h = absurd (not-0 r e)
+
+read-is : (b : List ℕ) (t : Told) → TellsRead b t → t ≡ toldReading (readOf b)
+read-is b t p = tells-one toldReading (Reads b) (readOf b) (λ r e. e) t p
+
+section-is : (b : List ℕ) (which : ℕ) (t : Told) → TellsSection b which t → t ≡ toldPart which (readOf b)
+section-is b which t p = tells-one (toldPart which) (Reads b) (readOf b) (λ r e. e) t p
+
+write-is : (f : ℕ) (ps ts rs out o : List ℕ) (t : Told) → TellsWrite f ps ts rs out o t → t ≡ toldFilling (writeOf f ps ts rs (length out))
+write-is f ps ts rs out o t p = tells-one toldFilling (Writes f ps ts rs out o) (writeOf f ps ts rs (length out)) (λ r e. e .0) t p
+
+list-is : (b out o : List ℕ) (t : Told) → TellsList b out o t → t ≡ toldFilling (listOf b (length out))
+list-is b out o t p = tells-one toldFilling (Lists b out o) (listOf b (length out)) (λ r e. e .0) t p
+
+-- the desk's two entries, whose outcome is o
+module _ (o : Outcome) (k′ : Desk) (l′ : List Job) (t : Told) (p : Tells said (λ (a : Answer). Leaves o a k′ l′) t) where
+  desk-is : t ≡ said (o .answer)
+  desk-is = tells-one said (λ (a : Answer). Leaves o a k′ l′) (o .answer) (λ r e. e .0) t p
+
+  -- a number from 1 on is a refusal's
+  refusal-is : ¬ (t .number ≡ 0) → (r : Refusal) × (o .answer ≡ Refused r) × (t .number ≡ told r .number)
+  refusal-is n = go (o .answer) refl
+    where
+      go : (a : Answer) → o .answer ≡ a → (r : Refusal) × (o .answer ≡ Refused r) × (t .number ≡ told r .number)
+      go Opened e = absurd (n (rw (desk-is, e)))
+      go (Taken i s) e = absurd (n (rw (desk-is, e)))
+      go (Refused r) e = (r, e, rw (desk-is, e))
+
+  left-is : (q : Outcome) → o ≡ q → (k′ ≡ deskOf q) × (l′ ≡ q .jobs)
+  left-is q e = (p .1 .1 ∙ ap deskOf e, p .1 .2 ∙ ap (λ (x : Outcome). x .jobs) e)
+
+  afresh-is : (¬ (said (o .answer) .number ≡ 13) → flexes (take (o .count) (o .jobs)) ≡ take (o .count) (o .jobs)) → ¬ (t .number ≡ 13) → Afresh k′ l′
+  afresh-is h n = rw (p .1 .1, p .1 .2) (h (λ e. n (rw desk-is e)))
+
+-- ---- what a refusal leaves
+
+left-refused : (r : Filling) (new out : List ℕ) → ¬ (toldFilling r .number ≡ 0) → leftBy r new out ≡ out
+left-refused (filling.Fills m) new out n = absurd (n refl)
+left-refused (filling.Refused x) new out n = refl
+
+abbrev every : (ℕ → Bool) → List ℕ → Bool
+every p [] = true
+every p (m ∷ ms) = p m && every p ms
+
+-- what holds of each number of a list holds of one of them
+every-among : (p : ℕ → Bool) (ms : List ℕ) (n : ℕ) → every p ms ≡ true → among ms n ≡ true → p n ≡ true
+every-among p [] n h e = absurd (true≢false (sym e))
+every-among p (m ∷ ms) n h e = at (eqb m n) refl (every-among p ms n (and-parts (p m) (every p ms) h .1)) e
   where
-    at : (b : Bool) → Requests (pick b (outcome l n clock (Refused TooFar)) (outcome (filled (insertAt i (job s c d 0) js)) (length js + 1) t (Taken i s)))
-    at true = refl
-    at false = refl
+    at : (b : Bool) → eqb m n ≡ b → (among ms n ≡ true → p n ≡ true) → b || among ms n ≡ true → p n ≡ true
+    at true q rest e = rw (← eqb-true m n q) (and-parts (p m) (every p ms) h .0)
+    at false q rest e = rest e
 
-request-told : (a b c d e : Bool) (v w x y z o : Outcome) → Requests v → Requests w → Requests x → Requests y → Requests z → Requests o
-    → Requests (pick a v (pick b w (pick c x (pick d y (pick e z o)))))
-request-told true b c d e v w x y z o p q r s t u = p
-request-told false true c d e v w x y z o p q r s t u = q
-request-told false false true d e v w x y z o p q r s t u = r
-request-told false false false true e v w x y z o p q r s t u = s
-request-told false false false false true v w x y z o p q r s t u = t
-request-told false false false false false v w x y z o p q r s t u = u
+abbrev dropsBy : ℕ → Bool
+dropsBy n = leb 16 n && leb n 18
+
+module _ (k k′ : Desk) (l l′ : List Job) (time c d : ℕ) (t : Told) (p : TellsRequest k l time c d k′ l′ t) where
+  abbrev asked : Outcome
+  asked = requestOf (k .clock) (k .count) l time c d
+
+  abbrev left : List Job
+  left = kept time (take (k .count) l)
+
+  abbrev Leaving : Bool → Type 0
+  Leaving b = (r : Refusal) × (asked ≡ pick b (dropping time left r) (outcome l (k .count) (k .clock) (Refused r)))
+
+  leaving : (ms : List ℕ) (b : Bool) → ((n : ℕ) → among ms n ≡ true → dropsBy n ≡ b) → ¬ (among ms 0 ≡ true) → Told-as ms t → Leaving b
+  leaving ms b which some e =
+      let r = refusal-is asked k′ l′ t p (λ z. some (rw (← z) e)) in
+      let f : drops (r .0) ≡ b = which (told (r .0) .number) (rw (← r .2) e) in
+      (r .0, rw (← f) (desk.proved .request-leaves (k .clock) (k .count) l time c d (r .0) (r .1)))
+
+  stayed : Told-as (13 ∷ 14 ∷ 15 ∷ 19 ∷ []) t → (k′ ≡ k) × (l′ ≡ l)
+  stayed e =
+      let a = leaving (13 ∷ 14 ∷ 15 ∷ 19 ∷ []) false (λ n h. not-true (dropsBy n) (every-among (λ n. not (dropsBy n)) (13 ∷ 14 ∷ 15 ∷ 19 ∷ []) n refl h)) (λ z. true≢false (sym z)) e in
+      left-is asked k′ l′ t p _ (a .1)
+
+  dropped : Told-as (16 ∷ 17 ∷ 18 ∷ []) t → (k′ .clock ≡ time) × (k′ .count ≡ length left) × (l′ ≡ filled left)
+  dropped e =
+      let a = leaving (16 ∷ 17 ∷ 18 ∷ []) true (λ n h. every-among dropsBy (16 ∷ 17 ∷ 18 ∷ []) n refl h) (λ z. true≢false (sym z)) e in
+      let q = left-is asked k′ l′ t p _ (a .1) in
+      (ap (λ (x : Desk). x .clock) (q .0), ap (λ (x : Desk). x .count) (q .0), q .1)
+
+  not-opened : ¬ (asked .answer ≡ Opened)
+  not-opened = request-holds (λ o. ¬ (o .answer ≡ Opened)) (k .clock) (k .count) l time c d other other other other other other other (λ i s e. let z : _≡_ {A = ℕ} 0 1 = cc in absurd (omega arith))
+    where
+      other : {r : Refusal} → ¬ (_≡_ {A = Answer} (Refused r) Opened)
+      other e = let z : _≡_ {A = ℕ} 0 1 = cc in absurd (omega arith)
+
+  taken : t .number ≡ 0 → k′ .clock ≡ time
+  taken e = ap (λ (x : Desk). x .clock) (p .1 .1) ∙ go (asked .answer) refl
+    where
+      go : (a : Answer) → asked .answer ≡ a → asked .clock ≡ time
+      go Opened f = absurd (not-opened f)
+      go (Taken i s) f = desk.proved .taken-sets-clock (k .clock) (k .count) l time c d i s f
+      go (Refused r) f = absurd (not-0 r (rw (desk-is asked k′ l′ t p, f) at e))
+
+-- ---- sections
+
+abbrev Partly : Reading → ℕ → Type 0
+Partly c which = ¬ (toldReading c .number ≡ 0) → toldPart which c ≡ toldReading c
+
+no-part : (b : List ℕ) (which : ℕ) → Partly (readOf b) which
+no-part b which = at (readOf b)
+  where
+    at : (c : Reading) → Partly c which
+    at (reading.Contents f p t r) n = absurd (n refl)
+    at (reading.Refused x) n = refl
+
+a-part : (b : List ℕ) (which : ℕ) → toldReading (readOf b) .number ≡ 0 → toldPart which (readOf b) .number ≡ 0
+a-part b which = at (readOf b)
+  where
+    at : (c : Reading) → toldReading c .number ≡ 0 → toldPart which c .number ≡ 0
+    at (reading.Contents f p t r) e = refl
+    at (reading.Refused x) e = absurd (not-0 x e)
 
 first : Demand1
-unfolding checkOf planCheckOf scanOf buildOf laidOf verdictOf placeOf taskOf readOf writeOf listOf openOf requestOf
+unfolding checkOf planCheckOf scanOf buildOf laidOf verdictOf placeOf taskOf readOf writeOf listOf openOf
 first = record {
-  build-numbers = λ ps room.
-      unless-parts-hold longest ps (λ (r : Filling). Numbered (3 ∷ 6 ∷ 10 ∷ 11 ∷ 12 ∷ []) (toldFilling r)) filling.Refused (laidOf ps room) refl (λ k. refl)
-      (build-told (unharmonic ps) (ltb (frame ps) (allWanted ps (frame ps))) (ltb room (frame ps)) _);
-  check-numbers = λ plan ps.
-      unless-parts-hold (length plan) ps (λ (r : Finding). Numbered (3 ∷ 6 ∷ 8 ∷ 9 ∷ []) (toldFinding r)) found.Refused (planCheckOf plan ps) refl (λ k. refl)
-      (check-told (ltb (firstBadTick (partitions ps) plan) (length plan)) (ltb (shortPart plan ps) (partitions ps)) _ _ _ _ _);
-  verdict-numbers = λ plan ps ts place.
-      unless-holds (length plan) ps ts (λ (r : Judged). Numbered (3 ∷ 6 ∷ 7 ∷ 8 ∷ 9 ∷ []) (toldJudged r)) judged.Refused (placeOf plan ps ts place) refl (λ k. refl) (λ j. refl)
+  build-numbers = λ ps out o t p.
+      rw (build-is ps out o t p)
+      (unless-parts-hold longest ps (λ (r : Filling). Numbered (3 ∷ 6 ∷ 10 ∷ 11 ∷ 12 ∷ []) (toldFilling r)) filling.Refused (laidOf ps (length out)) refl (λ k. refl)
+      (build-told (unharmonic ps) (ltb (frame ps) (allWanted ps (frame ps))) (ltb (length out) (frame ps)) _));
+  check-numbers = λ plan ps t p.
+      rw (check-is plan ps t p)
+      (unless-parts-hold (length plan) ps (λ (r : Finding). Numbered (3 ∷ 6 ∷ 8 ∷ 9 ∷ []) (toldFinding r)) found.Refused (planCheckOf plan ps) refl (λ k. refl)
+      (check-told (ltb (firstBadTick (partitions ps) plan) (length plan)) (ltb (shortPart plan ps) (partitions ps)) _ _ _ _ _));
+  verdict-numbers = λ plan ps ts place t p.
+      rw (verdict-is plan ps ts place t p)
+      (unless-holds (length plan) ps ts (λ (r : Judged). Numbered (3 ∷ 6 ∷ 7 ∷ 8 ∷ 9 ∷ []) (toldJudged r)) judged.Refused (placeOf plan ps ts place) refl (λ k. refl) (λ j. refl)
       (verdict-told (leb 1 place && leb place (tasks ts)) (ltb (firstBadTick (partitions ps) plan) (length plan)) (ltb (shortPart plan ps) (partitions ps))
-      (leb (taskPoint own plan ts (place - 1)) (deadline ts (place - 1))) _ _ _ _ _ _);
-  read-numbers = λ b.
-      contents-hold b (λ (c : Reading). Numbered (1 ∷ 2 ∷ 3 ∷ 4 ∷ 5 ∷ 6 ∷ 7 ∷ 8 ∷ []) (toldReading (judgedBy c b))) refl refl refl refl refl
+      (leb (taskPoint own plan ts (place - 1)) (deadline ts (place - 1))) _ _ _ _ _ _));
+  read-numbers = λ b t p.
+      rw (read-is b t p)
+      (contents-hold b (λ (c : Reading). Numbered (1 ∷ 2 ∷ 3 ∷ 4 ∷ 5 ∷ 6 ∷ 7 ∷ 8 ∷ []) (toldReading (judgedBy c b))) refl refl refl refl refl
       (λ f p t r. file-holds f (tableBy (reading.Contents f p t r) b Partitions) (tableBy (reading.Contents f p t r) b Tasks) (tableBy (reading.Contents f p t r) b Runs)
-      (λ (c : Reading). Numbered (1 ∷ 2 ∷ 3 ∷ 4 ∷ 5 ∷ 6 ∷ 7 ∷ 8 ∷ []) (toldReading c)) reading.Refused (reading.Contents f p t r) refl (λ k. refl) (λ j. refl) (λ r. refl) refl);
-  write-numbers = λ frame ps ts rs room.
-      file-holds frame ps ts rs (λ (w : Filling). Numbered (3 ∷ 6 ∷ 7 ∷ 8 ∷ 12 ∷ []) (toldFilling w)) filling.Refused _ refl (λ k. refl) (λ j. refl) (λ r. refl)
-      (write-told (ltb room (sizeFor ps ts rs)) _);
-  list-numbers = λ b room. list-told (ltb room (length (listingOf b))) _;
-  open-numbers = λ clock n l. open-told (tableOk n l) _ _ n clock;
-  request-numbers = λ clock n l t c d.
-      let js = kept t (take n l) in
-      request-told (not (deskOk clock n l)) (not (numbersOk t c d)) (ltb t clock) (busy t js) (leb places (length js)) _ _ _ _ _ _ refl refl refl refl refl (taking-told clock n l t c d js (find t c d js));
-  build-refused = λ ps out r. refl;
-  write-refused = writer.proved .untouched;
-  open-refused = desk.proved .open-leaves;
-  request-refused = desk.proved .request-leaves;
+      (λ (c : Reading). Numbered (1 ∷ 2 ∷ 3 ∷ 4 ∷ 5 ∷ 6 ∷ 7 ∷ 8 ∷ []) (toldReading c)) reading.Refused (reading.Contents f p t r) refl (λ k. refl) (λ j. refl) (λ r. refl) refl));
+  section-refused = λ b which t u p q n. section-is b which t p ∙ no-part b which (λ z. n (rw (read-is b u q) z)) ∙ sym (read-is b u q);
+  section-good = λ b which t u p q e. rw (section-is b which t p) (a-part b which (rw (read-is b u q) at e));
+  write-numbers = λ f ps ts rs out o t p.
+      rw (write-is f ps ts rs out o t p)
+      (file-holds f ps ts rs (λ (w : Filling). Numbered (3 ∷ 6 ∷ 7 ∷ 8 ∷ 12 ∷ []) (toldFilling w)) filling.Refused _ refl (λ k. refl) (λ j. refl) (λ r. refl)
+      (write-told (ltb (length out) (sizeFor ps ts rs)) _));
+  list-numbers = λ b out o t p. rw (list-is b out o t p) (list-told (ltb (length out) (length (listingOf b))) _);
+  open-numbers = λ k k′ l l′ t p. rw (desk-is _ k′ l′ t p) (open-told (tableOk (k .count) l) _ _ (k .count) (k .clock));
+  request-numbers = λ k k′ l l′ time c d t p. (
+    rw (desk-is _ k′ l′ t p) (request-holds (λ o. Numbered (13 ∷ 14 ∷ 15 ∷ 16 ∷ 17 ∷ 18 ∷ 19 ∷ []) (said (o .answer))) (k .clock) (k .count) l time c d refl refl refl refl refl refl refl (λ i s. refl)),
+    λ e. absurd (desk.proved .never-too-far (k .clock) (k .count) l time c d (rw (desk-is _ k′ l′ t p) at e)),
+  );
+  build-refused = λ ps out o t p n. p .1 .1 ∙ left-refused (p .0) (harmonicPlan ps) out (λ z. n (rw (p .2) z));
+  write-refused = λ f ps ts rs out o t p n. p .1 .1 ∙ left-refused (writeOf f ps ts rs (length out)) (fileOf f ps ts rs) out (λ z. n (rw (write-is f ps ts rs out o t p) z));
+  list-refused = λ b out o t p n. p .1 .1 ∙ left-refused (listOf b (length out)) (listingOf b) out (λ z. n (rw (list-is b out o t p) z));
+  open-refused = λ k k′ l l′ t p n.
+      let r = refusal-is _ k′ l′ t p n in left-is _ k′ l′ t p _ (desk.proved .open-leaves (k .clock) (k .count) l (r .0) (r .1));
+  request-refused = stayed;
+  request-drops = dropped;
+  request-taken = taken;
+}
+
+-- ---- one outcome
+
+module _ {A : Type 0} (tell : A → Told) where
+  same-told : (Answers : A → Type 0) → ((r r′ : A) → Answers r → Answers r′ → r ≡ r′) → (t t′ : Told) → Tells tell Answers t → Tells tell Answers t′ → t ≡ t′
+  same-told Answers one t t′ (r, p, e) (r′, p′, e′) = e ∙ ap tell (one r r′ p p′) ∙ sym e′
+
+  same-left : {C : Type 0} (Answers : C → A → Type 0) → ((o o′ : C) (r r′ : A) → Answers o r → Answers o′ r′ → (r ≡ r′) × (o ≡ o′))
+      → (o o′ : C) (t t′ : Told) → Tells tell (Answers o) t → Tells tell (Answers o′) t′ → (t ≡ t′) × (o ≡ o′)
+  same-left Answers one o o′ t t′ (r, p, e) (r′, p′, e′) = let q = one o o′ r r′ p p′ in (e ∙ ap tell (q .0) ∙ sym e′, q .1)
+
+desk-one : (o : Outcome) (k₁ k₂ : Desk) (l₁ l₂ : List Job) (t t′ : Told)
+    → Tells said (λ (a : Answer). Leaves o a k₁ l₁) t → Tells said (λ (a : Answer). Leaves o a k₂ l₂) t′ → (t ≡ t′) × (k₁ ≡ k₂) × (l₁ ≡ l₂)
+desk-one o k₁ k₂ l₁ l₂ t t′ (r, p, e) (r′, p′, e′) =
+    let q = lent.proved .lent-one o r r′ k₁ k₂ l₁ l₂ p p′ in (e ∙ ap said (q .0) ∙ sym e′, q .1, q .2)
+
+one-outcome : OneOutcome
+one-outcome = record {
+  check-one = λ plan ps. same-told toldFinding (Checks plan ps) (checker.proved .check-one plan ps);
+  build-one = λ ps out. same-left toldFilling (Builds ps out) (builder.proved .build-one ps out);
+  verdict-one = λ plan ps ts place. same-told toldJudged (Judges plan ps ts place) (verdict.proved .verdict-one plan ps ts place);
+  read-one = λ b. same-told toldReading (Reads b) (reader.proved .one-read b);
+  section-one = λ b which. same-told (toldPart which) (Reads b) (reader.proved .one-read b);
+  write-one = λ f ps ts rs out. same-left toldFilling (Writes f ps ts rs out) (writer.proved .one-write f ps ts rs out);
+  list-one = λ b out. same-left toldFilling (Lists b out) (listing.proved .listing-one b out);
+  open-one = λ k k₁ k₂ l l₁ l₂ t t′. desk-one (openOf (k .clock) (k .count) l) k₁ k₂ l₁ l₂ t t′;
+  request-one = λ k k₁ k₂ l l₁ l₂ time c d t t′. desk-one (requestOf (k .clock) (k .count) l time c d) k₁ k₂ l₁ l₂ t t′;
 }
 
 second : Demand2
 second = record {
+  one-outcome = one-outcome;
   of-rules = theory.proved;
   of-output = output.proved;
   of-checker = checker.proved;
@@ -157,21 +357,25 @@ second = record {
   of-lent-desk = lent.proved;
   read-write = writer.proved .read-write;
   write-read = writer.proved .write-read;
-  open-afresh = desk.proved .open-afresh;
-  request-afresh = desk.proved .request-afresh;
+  open-afresh = λ k k′ l l′ t p. afresh-is _ k′ l′ t p (desk.proved .open-afresh (k .clock) (k .count) l);
+  request-afresh = λ k k′ l l′ time c d t p. afresh-is _ k′ l′ t p (desk.proved .request-afresh (k .clock) (k .count) l time c d);
 }
 
 third : Demand3
 third = record {
-  ends-in-time = verdict.ends-in-time;
-  ends-in-time-for-ever = verdict.ends-in-time-for-ever;
+  ends-in-time = λ plan ps ts place t u p e q f h.
+      verdict.ends-in-time plan ps ts place (u .first) (accepted-is plan ps t p e) (passed-is plan ps ts place u q f h);
+  ends-in-time-for-ever = λ plan ps ts place t u p e q f h.
+      verdict.ends-in-time-for-ever plan ps ts place (u .first) (accepted-is plan ps t p e) (passed-is plan ps ts place u q f h);
   runs-exist = theory.proved .legal-exists;
   runs-unique = theory.proved .legal-one;
-  built-serves = builder.built-serves;
-  want-exactly = builder.want-exactly;
-  want-none = builder.want-none;
-  want-checked = builder.want-checked;
+  built-serves = λ ps out o t u (r, b, e) n q.
+      let h : r ≡ filling.Fills (t .first) = rw e (filling-fills r (rw e at n)) in
+      rw (check-is (take (t .first) o) ps u q, builder.built-serves ps out o (t .first) (subst (Builds ps out o) h b));
+  want-exactly = λ ps out o t p. rw (build-is ps out o t p) (builder.want-exactly ps (length out));
+  want-none = λ ps out o t p e. builder.want-none ps (length out) (rw (build-is ps out o t p) at e);
+  want-checked = λ ps out o t p e plan u q n. builder.want-checked ps (length out) (rw (build-is ps out o t p) at e) plan (accepted-is plan ps u q n);
 }
 
 pub demands : Demands
-demands = record { first = first; second = second; third = third }
+demands = record { entries = λ M 𝓤 H A mem run. entries 𝓤 H A mem run; first = first; second = second; third = third }

@@ -1,2 +1,4 @@
 pub mod Worked
 pub mod Demands
+pub mod Entries
+pub mod EachRefusal

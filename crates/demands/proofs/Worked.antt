@@ -18,31 +18,31 @@ use Rattle.file_runs.specs.Ticks.{ticksOf}
 use Rattle.output.specs.Decimal.{digits, decimal}
 use Rattle.file_lines.specs.Lines.{frameLine, partitionLine, passLine}
 use Rattle.file_page.specs.Page.{partLine, taskLine, pageOf}
-use Rattle.file_listing.specs.Listing.{tablesLines, listingOf}
+use Rattle.file_listing.specs.Listing.{tablesLines, listingOf, listOf}
 use Rattle.desk.specs.Table.{openOf}
 use Rattle.desk.specs.Request.{requestOf}
 use Rattle.demands.specs.Document01.{Document01}
 
 pub worked : Document01
-unfolding only fails first sum count smallest largest walk gathered roundUp wants countedIn withinLimits tablesOf goodShare goodTimes owner owned least pairs frame allWanted sooner rank give turn planned ticks rival taskLoad asked demand multiple point pointFits firstPoint shortAt scanOf planCheckOf checkOf unharmonic laidOf buildOf taskOf placeOf verdictOf numsOf runOwner runLength repeats goodRun runsJudged fileTablesOf tableBy countsOf contentsOf readOf ticksOf digits decimal frameLine partitionLine passLine partLine taskLine pageOf tablesLines listingOf openOf requestOf
+unfolding only fails first sum count smallest largest walk gathered roundUp wants countedIn withinLimits tablesOf goodShare goodTimes owner owned least pairs frame allWanted sooner rank give turn planned ticks rival taskLoad asked demand multiple point pointFits firstPoint shortAt scanOf planCheckOf checkOf unharmonic laidOf buildOf taskOf placeOf verdictOf numsOf runOwner runLength repeats goodRun runsJudged fileTablesOf tableBy countsOf contentsOf readOf ticksOf digits decimal frameLine partitionLine passLine partLine taskLine pageOf tablesLines listingOf listOf openOf requestOf
 worked = record {
   p1-wants = (refl, refl, refl);
-  p1 = (refl, refl);
-  p1-serves = refl;
-  p2 = (refl, refl);
-  p3 = (refl, refl);
-  p4 = refl;
-  p5 = refl;
+  p1 = (_, (refl, refl), refl);
+  p1-serves = (_, refl, refl);
+  p2 = (_, (refl, refl), refl);
+  p3 = (refl, (_, (refl, refl), refl));
+  p4 = (_, (refl, refl), refl);
+  p5 = (_, refl, refl);
   s1 = (refl, refl, refl, refl);
-  v1 = refl;
-  v2 = (refl, refl);
-  d1 = refl;
-  d2 = refl;
-  d3 = refl;
-  d4 = refl;
+  v1 = (_, refl, refl);
+  v2 = ((_, refl, refl), (_, refl, refl));
+  d1 = (_, (refl, refl, refl), refl);
+  d2 = (_, (refl, refl, refl), refl);
+  d3 = (_, (refl, refl, refl), refl);
+  d4 = (_, (refl, refl, refl), refl);
   d4-rooms = (refl, refl, refl);
-  d5 = refl;
-  d6 = refl;
-  w1-read = refl;
-  w1 = refl;
+  d5 = (_, (refl, refl, refl), refl);
+  d6 = (_, (refl, refl, refl), refl);
+  w1-read = (_, refl, refl);
+  w1 = (_, (refl, refl), refl);
 }

@@ -1,26 +1,18 @@
--- The worked examples of document 01, under one statement about what the entries' contracts say that they answer and leave. Assumes nothing.
+-- The worked examples of document 01, under one statement: each is what its entry tells and leaves. Assumes nothing.
 use Prim.Native.Nat.{ℕ}
 use mathlib.Core.Path.{_≡_}
 use mathlib.Core.List.{List, [], _∷_, _++_}
-use Rattle.rules.specs.Table.{wanted}
-use Rattle.rules.specs.declared.Refusal.the-variants.{Shortfall, Unharmonic, Want, Busy, NoPlace}
-use Rattle.rules.specs.Filling.{leftBy}
+use lib.ListN.{replicate}
+use Rattle.rules.specs.Table.{WantsIs}
+use Rattle.rules.specs.Refusals.{placed, telling}
 use Rattle.output.specs.Text.{bytes}
-use Rattle.theory.specs.Plan.{own, least}
-use Rattle.theory.specs.Harmonic.{frame, allWanted, harmonicPlan}
-use Rattle.rules.specs.declared.Finding.the-variants as found
-use Rattle.plan_check.specs.Check.{checkOf}
-use Rattle.rules.specs.declared.Filling.the-variants as filling
-use Rattle.plan_build.specs.Build.{buildOf}
-use Rattle.task_points.specs.declared.Judged.the-variants as judged
-use Rattle.task_verdict.specs.Verdict.{verdictOf}
-use Rattle.file_read.specs.declared.Reading.the-variants.{Contents}
-use Rattle.file_read.specs.Reader.{readOf}
-use Rattle.file_listing.specs.Listing.{listingOf}
+use Rattle.theory.specs.Plan.{LeastIs}
+use Rattle.theory.specs.Harmonic.{frame, allWanted}
 use Rattle.desk.specs.declared.Job.{Job}
-use Rattle.desk.specs.declared.Answer.the-variants.{Opened, Taken, Refused}
-use Rattle.desk.specs.Table.{job, filled, outcome, openOf}
-use Rattle.desk.specs.Request.{room, requestOf}
+use Rattle.desk.specs.declared.Desk.{Desk}
+use Rattle.desk.specs.Table.{job, filled}
+use Rattle.desk.specs.Request.{room}
+use Rattle.api.specs.Answers.{TellsCheck, TellsBuild, TellsVerdict, TellsRead, TellsList, TellsOpen, TellsRequest}
 
 -- "Cycles 4, 8, 8, shares 1/4, 3/8" and a third share
 abbrev pub three : ℕ → ℕ → List ℕ
@@ -46,6 +38,9 @@ plan5 = 1 ∷ 1 ∷ 0 ∷ 0 ∷ 0 ∷ 0 ∷ 1 ∷ 1 ∷ []
 abbrev pub two : ℕ → List ℕ
 two d = 2 ∷ 2 ∷ 8 ∷ 16 ∷ 2 ∷ 2 ∷ d ∷ 32 ∷ []
 
+abbrev pub desk : ℕ → ℕ → Desk
+desk clock count = record { clock = clock; count = count }
+
 -- the table of D1, as lent (any x and any clock) and as opened
 abbrev pub lent : List Job
 lent = filled (job 10 3 20 0 ∷ job 15 5 24 7 ∷ job 30 2 40 0 ∷ [])
@@ -57,6 +52,10 @@ opened = filled (job 10 3 20 6 ∷ job 15 5 24 4 ∷ job 30 2 40 8 ∷ [])
 abbrev pub file : List ℕ
 file = 0 ∷ 1 ∷ 0 ∷ 4 ∷ 0 ∷ 16 ∷ 0 ∷ 2 ∷ 0 ∷ 28 ∷ 0 ∷ 1 ∷ 0 ∷ 36 ∷ 0 ∷ 2 ∷ 0 ∷ 4 ∷ 0 ∷ 1 ∷ 0 ∷ 2 ∷ 0 ∷ 4 ∷ 0 ∷ 1 ∷ 0 ∷ 3 ∷ 0 ∷ 1 ∷ 0 ∷ 1 ∷ 0 ∷ 4 ∷ 0 ∷ 4 ∷ 0 ∷ 1 ∷ 0 ∷ 2 ∷ 0 ∷ 2 ∷ 0 ∷ 2 ∷ []
 
+-- an output as long as the listing, that holds something
+abbrev pub page : List ℕ
+page = replicate 100 7
+
 -- "Its listing"
 abbrev pub listing : List ℕ
 listing =
@@ -67,37 +66,35 @@ listing =
 
 pub record Document01 : Type 0 where
   -- "q = 1, 3, 1; plan 1 2 2 2 1 3 0 0"
-  pub p1-wants : (wanted (three 1 100) 0 ≡ 1) × (wanted (three 1 100) 1 ≡ 3) × (wanted (three 1 100) 2 ≡ 1)
-  pub p1 : (buildOf (three 1 100) 8 ≡ filling.Fills 8) × (leftBy (filling.Fills 8) (harmonicPlan (three 1 100)) eight ≡ plan1)
-  pub p1-serves : checkOf plan1 (three 1 100) ≡ found.Good
+  pub p1-wants : WantsIs 4 1 4 1 × WantsIs 8 3 8 3 × WantsIs 8 1 100 1
+  pub p1 : TellsBuild (three 1 100) eight plan1 (placed 0 8)
+  pub p1-serves : TellsCheck plan1 (three 1 100) (placed 0 0)
   -- "Third share 3/8: plan 1 2 2 2 1 3 3 3, full."
-  pub p2 : (buildOf (three 3 8) 8 ≡ filling.Fills 8) × (leftBy (filling.Fills 8) (harmonicPlan (three 3 8)) eight ≡ plan2)
+  pub p2 : TellsBuild (three 3 8) eight plan2 (placed 0 8)
   -- "Third share 1/2: 2 + 3 + 4 = 9 > 8, refusal 11."
-  pub p3 : (allWanted (three 1 2) (frame (three 1 2)) ≡ 9) × (buildOf (three 1 2) 8 ≡ filling.Refused Want)
+  pub p3 : (allWanted (three 1 2) (frame (three 1 2)) ≡ 9) × TellsBuild (three 1 2) eight eight (placed 11 0)
   -- "Cycles 4 and 6: refusal 10."
-  pub p4 : buildOf (4 ∷ 1 ∷ 2 ∷ 6 ∷ 1 ∷ 2 ∷ []) 8 ≡ filling.Refused Unharmonic
+  pub p4 : TellsBuild (4 ∷ 1 ∷ 2 ∷ 6 ∷ 1 ∷ 2 ∷ []) eight eight (placed 10 0)
   -- "One partition, cycle 4, share 1/2, plan 1 1 0 0 0 0 1 1: refusal 9 at start 1, which holds 1 and wants 2."
-  pub p5 : checkOf plan5 (4 ∷ 1 ∷ 2 ∷ []) ≡ found.Refused (Shortfall 1 1 1 2)
+  pub p5 : TellsCheck plan5 (4 ∷ 1 ∷ 2 ∷ []) (telling 9 1 1 1 2)
   -- "In P1, partition 2 has least(5) = 0, least(8) = 3, least(13) = 3, least(14) = 4."
-  pub s1 : (least own plan1 2 5 ≡ 0) × (least own plan1 2 8 ≡ 3) × (least own plan1 2 13 ≡ 3) × (least own plan1 2 14 ≡ 4)
+  pub s1 : LeastIs plan1 2 5 0 × LeastIs plan1 2 8 3 × LeastIs plan1 2 13 3 × LeastIs plan1 2 14 4
   -- "first task .. passes at 8. Second .. with D 13 it fails (4 > 3), with D 14 it passes at 14."
-  pub v1 : verdictOf plan1 (three 1 100) (two 14) 1 ≡ judged.Pass 8
-  pub v2 : (verdictOf plan1 (three 1 100) (two 13) 2 ≡ judged.Fail) × (verdictOf plan1 (three 1 100) (two 14) 2 ≡ judged.Pass 14)
+  pub v1 : TellsVerdict plan1 (three 1 100) (two 14) 1 (placed 0 8)
+  pub v2 : TellsVerdict plan1 (three 1 100) (two 13) 2 (placed 0 0) × TellsVerdict plan1 (three 1 100) (two 14) 2 (placed 0 14)
   -- "Opened with (10, 3, 20), (15, 5, 24), (30, 2, 40), x is 6, 4, 8."
-  pub d1 : openOf 77 3 lent ≡ outcome opened 3 0 Opened
+  pub d1 : TellsOpen (desk 77 3) lent (desk 0 3) opened (placed 0 0)
   -- "t 8, C 6, d 16: start 8. Starts become 8, 14, 17, 30, x 2, 2, 2, 8."
-  pub d2 : requestOf 0 3 opened 8 6 16
-      ≡ outcome (filled (job 8 6 16 2 ∷ job 14 3 20 2 ∷ job 17 5 24 2 ∷ job 30 2 40 8 ∷ [])) 4 8 (Taken 0 8)
+  pub d2 : TellsRequest (desk 0 3) opened 8 6 16 (desk 8 4) (filled (job 8 6 16 2 ∷ job 14 3 20 2 ∷ job 17 5 24 2 ∷ job 30 2 40 8 ∷ [])) (telling 0 0 8 0 0)
   -- "From D1, t 8, C 8, d 40: start 8."
-  pub d3 : requestOf 0 3 opened 8 8 40 .answer ≡ Taken 0 8
+  pub d3 : TellsRequest (desk 0 3) opened 8 8 40 (desk 8 4) (filled (job 8 8 40 0 ∷ job 16 3 20 0 ∷ job 19 5 24 0 ∷ job 30 2 40 8 ∷ [])) (telling 0 0 8 0 0)
   -- "C 9, d 40: rooms 8, 6, 18, start 20, new x 9."
-  pub d4 : requestOf 0 3 opened 8 9 40
-      ≡ outcome (filled (job 10 3 20 6 ∷ job 15 5 24 4 ∷ job 20 9 40 9 ∷ job 30 2 40 8 ∷ [])) 4 8 (Taken 2 20)
+  pub d4 : TellsRequest (desk 0 3) opened 8 9 40 (desk 8 4) (filled (job 10 3 20 6 ∷ job 15 5 24 4 ∷ job 20 9 40 9 ∷ job 30 2 40 8 ∷ [])) (telling 0 2 20 0 0)
   pub d4-rooms : (room 8 40 (job 10 3 20 6) ≡ 8) × (room 13 40 (job 15 5 24 4) ≡ 6) × (room 20 40 (job 30 2 40 8) ≡ 18)
   -- "From D1, t 12: busy."
-  pub d5 : requestOf 0 3 opened 12 1 40 ≡ outcome opened 3 12 (Refused Busy)
+  pub d5 : TellsRequest (desk 0 3) opened 12 1 40 (desk 12 3) opened (placed 16 0)
   -- "From D1, t 25, C 4, d 29: no place."
-  pub d6 : requestOf 0 3 opened 25 4 29 ≡ outcome (filled (job 30 2 40 8 ∷ [])) 1 25 (Refused NoPlace)
+  pub d6 : TellsRequest (desk 0 3) opened 25 4 29 (desk 25 1) (filled (job 30 2 40 8 ∷ [])) (placed 18 0)
   -- the whole example's contents, and "Its listing"
-  pub w1-read : readOf file ≡ Contents 4 2 1 2
-  pub w1 : listingOf file ≡ listing
+  pub w1-read : TellsRead file (telling 0 4 2 1 2)
+  pub w1 : TellsList file page listing (placed 0 100)

@@ -1,2 +1,4 @@
 pub mod Document01
 pub mod Demands
+pub mod Entries
+pub mod EachRefusal

@@ -13,8 +13,8 @@ mod plan_file; // plan_file.rt: the plan file of two tables, or the line of its 
 
 // Puts what the program writes at the start of `out`, as far as there is room. The answer is its length.
 pub fn plan(text: &[u8], out: &mut [u8]) -> usize
-    ensures { λ r. ⌜ Plans (now (text .entry)) (now (out .entry)) (now (out .exit)) r
-        × (r ≤ max longestLine (length (now (out .entry)))) ⌝ }
+    ensures { λ r. ⌜ Plans (now (text .entry)) (now (out .entry)) (now (out .exit)) r ⌝ }
+    ensures { λ r. ⌜ r ≤ max longestLine (length (now (out .entry))) ⌝ }
 {
     let mut parts = [0u16; PART_NUMBERS];
     let mut tasks = [0u16; TASK_NUMBERS];

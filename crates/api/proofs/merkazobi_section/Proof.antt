@@ -1,12 +1,8 @@
+use mathlib.Core.Path.{sym, _∙_}
+use Rattle.file_read.proofs.Reader.{few-read}
 use borrow.Author.Needs.{needs}
 use Rattle.api.proofs.merkazobi_section.Statement.{statement}
 use Rattle.api.proofs.merkazobi_section.Tie as tie
-use Rattle.api.proofs.merkazobi_section.Reads as reads
-use Rattle.api.proofs.merkazobi_section.Lts as lts
-use Rattle.api.proofs.answer.Reads as answer-reads
-use Rattle.api.proofs.part_at.Reads as part-at-reads
-use Rattle.file_read.proofs.read.Reads as read-reads
-use Rattle.rules.proofs.tell.Reads as tell-reads
 
 read-requires : tie.Need-read-requires
 read-requires c κs = search needs
@@ -15,7 +11,7 @@ enum-known-reading : tie.Need-enum-known-reading
 enum-known-reading c = search needs
 
 part-at-requires : tie.Need-part-at-requires
-part-at-requires c κs = search needs
+part-at-requires c κs = rw (sym (c .before .before .before .read .ensures) ∙ c .before .reading .given .1) at (few-read (c .before .before .before .before .before .args .file .now))
 
 answer-requires : tie.Need-answer-requires
 answer-requires c κs = search needs
@@ -27,10 +23,10 @@ tell-requires : tie.Need-tell-requires
 tell-requires c κs = search needs
 
 returns : tie.Need-returns
-returns c = ?
+returns c = (c .before .before .before .before .before .read .result, c .before .before .before .before .before .read .ensures, rw (c .before .before .before .reading .given .1, ← c .before .part-at .ensures) (c .answer .ensures))
 
 returns-2 : tie.Need-returns-2
-returns-2 c = ?
+returns-2 c = (c .before .before .before .before .read .result, c .before .before .before .before .read .ensures, rw (c .before .before .reading2 .given .1) (c .tell .ensures))
 
 pub merkazobi-section-spec : {M : Type 1} → statement M
 merkazobi-section-spec =

@@ -1,0 +1,136 @@
+-- One call for each refusal number and each entry that uses it, and for each limit one call at it and one beyond: what is told, and what is left in all that
+-- was lent. (19 never comes: `Demand1`.) Assumes nothing.
+use Prim.Native.Nat.{ℕ, zero, suc, _+_}
+use mathlib.Core.List.{List, [], _∷_, _++_}
+use lib.ListN.{take, drop, replicate}
+use Rattle.rules.specs.Refusals.{placed, telling}
+use Rattle.output.specs.Text.{bytes}
+use Rattle.share_plan.specs.Answer.{Plans}
+use Rattle.desk.specs.declared.Job.{Job}
+use Rattle.desk.specs.Table.{job, filled, flexes}
+use Rattle.api.specs.Answers.{TellsCheck, TellsBuild, TellsVerdict, TellsRead, TellsSection, TellsWrite, TellsList, TellsOpen, TellsRequest}
+use Rattle.demands.specs.Document01.{three, eight, plan1, plan5, two, desk, opened, file, page}
+
+-- a partition of cycle 4 that wants 2, and one like it with share 0
+abbrev pub half : List ℕ
+half = 4 ∷ 1 ∷ 2 ∷ []
+
+abbrev pub nothing : List ℕ
+nothing = 4 ∷ 0 ∷ 2 ∷ []
+
+-- the whole example with another byte at place i
+abbrev pub file-with : ℕ → ℕ → List ℕ
+file-with i v = take i file ++ (v ∷ drop (i + 1) file)
+
+-- its tables and runs, and those where the second partition holds too little
+abbrev pub parts : List ℕ
+parts = 4 ∷ 1 ∷ 2 ∷ 4 ∷ 1 ∷ 3 ∷ []
+
+abbrev pub tasks : List ℕ
+tasks = 1 ∷ 1 ∷ 4 ∷ 4 ∷ []
+
+abbrev pub runs : List ℕ
+runs = 1 ∷ 2 ∷ 2 ∷ 2 ∷ []
+
+abbrev pub unfair : List ℕ
+unfair = take 39 file ++ (3 ∷ 0 ∷ 2 ∷ 0 ∷ 1 ∷ [])
+
+-- outputs that hold something
+abbrev pub file-room : List ℕ
+file-room = replicate 44 7
+
+abbrev pub line : List ℕ
+line = replicate 10 7
+
+-- the checker's, the builder's and the verdict's
+pub record EachPlan : Type 0 where
+  pub check-3 : TellsCheck [] half (placed 3 0)
+  pub check-6 : TellsCheck plan5 (half ++ nothing) (placed 6 2)
+  pub check-8 : TellsCheck (1 ∷ 1 ∷ 0 ∷ 2 ∷ []) half (placed 8 4)
+  pub check-9 : TellsCheck plan5 half (telling 9 1 1 1 2)
+  pub build-3 : TellsBuild [] eight eight (placed 3 0)
+  pub build-6 : TellsBuild (half ++ nothing) eight eight (placed 6 2)
+  pub build-10 : TellsBuild (half ++ (6 ∷ 1 ∷ 2 ∷ [])) eight eight (placed 10 0)
+  pub build-11 : TellsBuild (three 1 2) eight eight (placed 11 0)
+  pub build-12 : TellsBuild (three 1 100) (take 7 eight) (take 7 eight) (placed 12 0)
+  pub verdict-3 : TellsVerdict [] (three 1 100) (two 14) 1 (placed 3 0)
+  pub verdict-6 : TellsVerdict plan1 (three 0 100) (two 14) 1 (placed 6 3)
+  pub verdict-7 : TellsVerdict plan1 (three 1 100) (two 33) 1 (placed 7 2)
+  -- a place outside the table comes after a bad record, and before 8
+  pub verdict-7-first : TellsVerdict plan1 (three 1 100) (two 33) 3 (placed 7 2)
+  pub verdict-7-0 : TellsVerdict plan1 (three 1 100) (two 14) 0 (placed 7 0)
+  pub verdict-7-past : TellsVerdict (4 ∷ drop 1 plan1) (three 1 100) (two 14) 3 (placed 7 0)
+  pub verdict-8 : TellsVerdict (4 ∷ drop 1 plan1) (three 1 100) (two 14) 1 (placed 8 1)
+  pub verdict-9 : TellsVerdict plan1 (three 3 8) (two 14) 1 (telling 9 3 0 1 3)
+
+-- the reader's, the writer's and the listing's
+pub record EachFile : Type 0 where
+  pub read-1 : TellsRead (take 15 file) (placed 1 0)
+  pub read-2 : TellsRead (file-with 1 2) (placed 2 0)
+  pub read-3 : TellsRead (file-with 3 0) (placed 3 0)
+  pub read-4 : TellsRead (file-with 5 17) (placed 4 0)
+  pub read-5 : TellsRead (file ++ (0 ∷ [])) (placed 5 0)
+  pub read-6 : TellsRead (file-with 25 0) (placed 6 2)
+  pub read-7 : TellsRead (file-with 31 0) (placed 7 1)
+  pub read-8 : TellsRead (file-with 41 3) (placed 8 2)
+  -- a section tells the reader's, whatever part is asked for; else where the part starts and ends
+  pub section-1 : TellsSection (take 15 file) 0 (placed 1 0)
+  pub section-2 : TellsSection (file-with 1 2) 1 (placed 2 0)
+  pub section-3 : TellsSection (file-with 3 0) 2 (placed 3 0)
+  pub section-4 : TellsSection (file-with 5 17) 3 (placed 4 0)
+  pub section-5 : TellsSection (file ++ (0 ∷ [])) 0 (placed 5 0)
+  pub section-6 : TellsSection (file-with 25 0) 1 (placed 6 2)
+  pub section-7 : TellsSection (file-with 31 0) 2 (placed 7 1)
+  pub section-8 : TellsSection (file-with 41 3) 0 (placed 8 2)
+  pub sections : TellsSection file 0 (telling 0 16 28 0 0) × TellsSection file 1 (telling 0 28 36 0 0) × TellsSection file 2 (telling 0 36 44 0 0)
+  pub section-other : TellsSection file 3 (telling 0 0 0 0 0)
+  pub write-0 : TellsWrite 4 parts tasks runs file-room file (placed 0 44)
+  pub write-3 : TellsWrite 0 parts tasks runs file-room file-room (placed 3 0)
+  pub write-6 : TellsWrite 4 (half ++ nothing) tasks runs file-room file-room (placed 6 2)
+  pub write-7 : TellsWrite 4 parts (1 ∷ 0 ∷ 4 ∷ 4 ∷ []) runs file-room file-room (placed 7 1)
+  pub write-8 : TellsWrite 4 parts tasks (1 ∷ 2 ∷ 3 ∷ 2 ∷ []) file-room file-room (placed 8 2)
+  pub write-12 : TellsWrite 4 parts tasks runs (take 43 file-room) (take 43 file-room) (placed 12 0)
+  -- a refused file is listed too, as one line
+  pub list-1 : TellsList (take 15 file) line (bytes "refused 1\n") (placed 0 10)
+  pub list-2 : TellsList (file-with 1 2) line (bytes "refused 2\n") (placed 0 10)
+  pub list-3 : TellsList (file-with 3 0) line (bytes "refused 3\n") (placed 0 10)
+  pub list-4 : TellsList (file-with 5 17) line (bytes "refused 4\n") (placed 0 10)
+  pub list-5 : TellsList (file ++ (0 ∷ [])) line (bytes "refused 5\n") (placed 0 10)
+  pub list-6 : TellsList (file-with 25 0) line (bytes "refused 6\n") (placed 0 10)
+  pub list-7 : TellsList (file-with 31 0) line (bytes "refused 7\n") (placed 0 10)
+  pub list-8 : TellsList (file-with 41 3) line (bytes "refused 8\n") (placed 0 10)
+  pub list-9 : TellsList unfair line (bytes "refused 9\n") (placed 0 10)
+  pub list-12 : TellsList file (take 99 page) (take 99 page) (placed 12 0)
+
+-- the planner's, as the line that it writes
+pub record EachText : Type 0 where
+  pub plan-3 : Plans [] line (bytes "refused 3\n") 10
+  pub plan-6 : Plans (bytes "partition 0 1/2") line (bytes "refused 6\n") 10
+  pub plan-7 : Plans (bytes "partition 4 1/2\ntask 2 1 1 1") line (bytes "refused 7\n") 10
+  pub plan-10 : Plans (bytes "partition 4 1/2\npartition 6 1/2") (7 ∷ line) (bytes "refused 10\n") 11
+  pub plan-11 : Plans (bytes "partition 1 1/1\npartition 1 1/1") (7 ∷ line) (bytes "refused 11\n") 11
+  pub plan-12 : Plans (bytes "partition 1 1/1") (7 ∷ line) (bytes "refused 12\n") 11
+
+-- n jobs from start a on, one tick each, one behind the other
+abbrev pub row : ℕ → ℕ → List Job
+row a zero = []
+row a (suc n) = job a 1 1000000 0 ∷ row (a + 1) n
+
+abbrev pub full : List Job
+full = flexes (row 10 64)
+
+-- the desk's
+pub record EachDesk : Type 0 where
+  pub open-13 : TellsOpen (desk 77 4) opened (desk 77 4) opened (placed 13 0)
+  pub request-13 : TellsRequest (desk 0 4) opened 8 6 16 (desk 0 4) opened (placed 13 0)
+  pub request-14 : TellsRequest (desk 0 3) opened 8 0 16 (desk 0 3) opened (placed 14 0)
+  pub request-15 : TellsRequest (desk 9 3) opened 8 6 16 (desk 9 3) opened (placed 15 0)
+  pub request-16 : TellsRequest (desk 0 3) opened 12 1 40 (desk 12 3) opened (placed 16 0)
+  pub request-17 : TellsRequest (desk 0 64) full 9 1 40 (desk 9 64) full (placed 17 0)
+  pub request-18 : TellsRequest (desk 0 3) opened 25 4 29 (desk 25 1) (filled (job 30 2 40 8 ∷ [])) (placed 18 0)
+
+pub record EachRefusal : Type 0 where
+  pub plans : EachPlan
+  pub files : EachFile
+  pub texts : EachText
+  pub desks : EachDesk
