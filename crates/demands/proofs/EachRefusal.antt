@@ -7,18 +7,27 @@ use Rattle.theory.specs.Plan.{owner, owned, least}
 use Rattle.theory.specs.Harmonic.{pairs, frame, allWanted, sooner, rank, give, turn, planned, ticks}
 use Rattle.plan_check.specs.Check.{shortAt, scanOf, planCheckOf, checkOf}
 use Rattle.plan_build.specs.Build.{unharmonic, laidOf, buildOf}
+use Rattle.theory.specs.Load.{asked, demand, multiple, point, pointFits, firstPoint}
+use Rattle.theory.specs.Task.{rival, taskLoad}
+use Rattle.task_points.specs.Task.{taskOf}
 use Rattle.task_verdict.specs.Verdict.{placeOf, verdictOf}
 use Rattle.file_codec.specs.Bytes.{numsOf, bytesOf}
 use Rattle.file_tables.specs.Runs.{runOwner, runLength, repeats, goodRun, runsJudged, fileTablesOf}
 use Rattle.file_read.specs.Reader.{tableBy, countsOf, contentsOf, readOf}
 use Rattle.file_write.specs.Writer.{fileOf, writeOf}
-use Rattle.file_runs.specs.Ticks.{ticksOf}
-use Rattle.output.specs.Decimal.{digits, decimal}
+use Rattle.file_runs.specs.Ticks.{ticksOf, joined, runsOf}
+use Rattle.output.specs.Decimal.{digits, decimal, value}
 use Rattle.output.specs.Refused.{refusedLine}
+use Rattle.file_lines.specs.Lines.{frameLine, partitionLine, passLine}
+use Rattle.file_page.specs.Page.{partLine, taskLine, pageOf}
+use Rattle.share_words.specs.Words.{blank, stops, stopsAt, width, wordOf, restOf, differs, same, isNumber, numeral}
+use Rattle.share_line.specs.Rows.{partRow, taskRow, recordOf, rowOf}
+use Rattle.share_text.specs.Table.{lineOf, afterLine, fromLine, rowAt, wrongAt, numsAt, recordsOf, seenOf, sizedOf, readTextOf}
+use Rattle.share_plan.specs.Answer.{planFile, writeBuiltOf, writePlanOf, fileOrLine, answerOf}
 use Rattle.file_listing.specs.Listing.{tablesLines, listingOf, listOf}
 use Rattle.desk.specs.Table.{openOf}
 use Rattle.desk.specs.Request.{requestOf}
-use Rattle.demands.specs.EachRefusal.{EachPlan, EachFile, EachText, EachDesk, EachRefusal}
+use Rattle.demands.specs.EachRefusal.{EachPlan, EachFile, EachText, EachDesk, EachLimit, EachRefusal}
 
 plans : EachPlan
 unfolding only fails first sum count smallest largest walk gathered roundUp wants countedIn withinLimits tablesOf goodShare goodTimes owner owned least pairs frame allWanted sooner rank give turn planned ticks shortAt scanOf planCheckOf checkOf unharmonic laidOf buildOf placeOf verdictOf
@@ -43,7 +52,7 @@ plans = record {
 }
 
 files : EachFile
-unfolding only fails first sum count smallest largest gathered roundUp wants countedIn withinLimits tablesOf goodShare goodTimes owner owned shortAt scanOf planCheckOf checkOf numsOf bytesOf runOwner runLength repeats goodRun runsJudged fileTablesOf tableBy countsOf contentsOf readOf fileOf writeOf ticksOf digits decimal refusedLine tablesLines listingOf listOf
+unfolding only fails first sum count smallest largest gathered roundUp wants countedIn withinLimits tablesOf goodShare goodTimes owner owned shortAt scanOf planCheckOf checkOf numsOf bytesOf runOwner runLength repeats goodRun runsJudged fileTablesOf tableBy countsOf contentsOf readOf fileOf writeOf ticksOf digits decimal refusedLine least rival taskLoad asked demand multiple point pointFits firstPoint taskOf frameLine partitionLine passLine partLine taskLine pageOf tablesLines listingOf listOf
 files = record {
   read-1 = (_, refl, refl);
   read-2 = (_, refl, refl);
@@ -82,13 +91,14 @@ files = record {
 }
 
 texts : EachText
+unfolding only fails first sum count smallest largest gathered roundUp wants countedIn withinLimits tablesOf goodShare goodTimes pairs frame allWanted unharmonic laidOf buildOf digits decimal value refusedLine blank stops stopsAt width wordOf restOf differs same isNumber numeral partRow taskRow recordOf rowOf lineOf afterLine fromLine rowAt wrongAt numsAt recordsOf seenOf sizedOf readTextOf joined runsOf repeats runOwner runLength goodRun runsJudged fileTablesOf owner owned sooner rank give turn planned ticks walk writeOf planFile writeBuiltOf writePlanOf fileOrLine answerOf
 texts = record {
-  plan-3 = record { place = ?; bytes = ? };
-  plan-6 = record { place = ?; bytes = ? };
-  plan-7 = record { place = ?; bytes = ? };
-  plan-10 = record { place = ?; bytes = ? };
-  plan-11 = record { place = ?; bytes = ? };
-  plan-12 = record { place = ?; bytes = ? };
+  plan-3 = record { place = refl; bytes = refl };
+  plan-6 = record { place = refl; bytes = refl };
+  plan-7 = record { place = refl; bytes = refl };
+  plan-10 = record { place = refl; bytes = refl };
+  plan-11 = record { place = refl; bytes = refl };
+  plan-12 = record { place = refl; bytes = refl };
 }
 
 desks : EachDesk
@@ -103,5 +113,33 @@ desks = record {
   request-18 = (_, (refl, refl, refl), refl);
 }
 
+limits : EachLimit
+unfolding only fails first sum count smallest largest gathered roundUp wants countedIn withinLimits tablesOf goodShare goodTimes pairs frame allWanted unharmonic laidOf buildOf numsOf runOwner runLength repeats goodRun runsJudged fileTablesOf countsOf contentsOf readOf writeOf openOf requestOf
+limits = record {
+  partitions-16 = (_, (refl, refl), refl);
+  partitions-17 = (_, (refl, refl), refl);
+  tasks-128 = (_, (refl, refl), refl);
+  tasks-129 = (_, (refl, refl), refl);
+  frame-4096 = (_, (refl, refl), refl);
+  frame-4097 = (_, (refl, refl), refl);
+  runs-4096 = (_, refl, refl);
+  runs-4097 = (_, refl, refl);
+  cycle-4096 = (_, (refl, refl), refl);
+  cycle-4097 = (_, (refl, refl), refl);
+  share-1000 = (_, (refl, refl), refl);
+  share-1001 = (_, (refl, refl), refl);
+  period-4096 = (_, (refl, refl), refl);
+  period-4097 = (_, (refl, refl), refl);
+  places-64 = (_, (refl, refl, refl), refl);
+  places-63 = (_, (refl, refl, refl), refl);
+  places-65 = (_, (refl, refl, refl), refl);
+  time-1000000 = (_, (refl, refl, refl), refl);
+  time-1000001 = (_, (refl, refl, refl), refl);
+  budget-1000001 = (_, (refl, refl, refl), refl);
+  deadline-1000001 = (_, (refl, refl, refl), refl);
+  clock-1000001 = (_, (refl, refl, refl), refl);
+  listed-1000001 = (_, (refl, refl, refl), refl);
+}
+
 pub each-refusal : EachRefusal
-each-refusal = record { plans = plans; files = files; texts = texts; desks = desks }
+each-refusal = record { plans = plans; files = files; texts = texts; desks = desks; limits = limits }

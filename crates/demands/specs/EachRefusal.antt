@@ -129,8 +129,52 @@ pub record EachDesk : Type 0 where
   pub request-17 : TellsRequest (desk 0 64) full 9 1 40 (desk 9 64) full (placed 17 0)
   pub request-18 : TellsRequest (desk 0 3) opened 25 4 29 (desk 25 1) (filled (job 30 2 40 8 ∷ [])) (placed 18 0)
 
+-- a table n times over
+abbrev pub times : ℕ → List ℕ → List ℕ
+times zero ns = []
+times (suc n) ns = ns ++ times n ns
+
+-- the contents of the whole example with another number of runs
+abbrev pub head-with : ℕ → ℕ → List ℕ
+head-with high low = take 14 file ++ (high ∷ low ∷ [])
+
+abbrev pub empty : List Job
+empty = filled []
+
+-- At a limit no rule is broken but a later one (12 and 5: there is no room, and no more of the file; 18: the table is empty); beyond it the limit's own is.
+pub record EachLimit : Type 0 where
+  -- "Partitions 1 to 16, tasks 0 to 128, frame 1 to 4,096 ticks, runs 1 to 4,096."
+  pub partitions-16 : TellsWrite 4 (times 16 half) [] runs [] [] (placed 12 0)
+  pub partitions-17 : TellsWrite 4 (times 17 half) [] runs [] [] (placed 3 0)
+  pub tasks-128 : TellsWrite 4 parts (times 128 tasks) runs [] [] (placed 12 0)
+  pub tasks-129 : TellsWrite 4 parts (times 129 tasks) runs [] [] (placed 3 0)
+  pub frame-4096 : TellsWrite 4096 parts tasks (1 ∷ 4096 ∷ []) [] [] (placed 12 0)
+  pub frame-4097 : TellsWrite 4097 parts tasks (1 ∷ 4097 ∷ []) [] [] (placed 3 0)
+  pub runs-4096 : TellsRead (head-with 16 0) (placed 5 0)
+  pub runs-4097 : TellsRead (head-with 16 1) (placed 3 0)
+  -- "Cycle 1 to 4,096. Share num/den with 1 ≤ num ≤ den ≤ 1,000."
+  pub cycle-4096 : TellsBuild (4096 ∷ 1 ∷ 1 ∷ []) [] [] (placed 12 0)
+  pub cycle-4097 : TellsBuild (4097 ∷ 1 ∷ 1 ∷ []) [] [] (placed 6 1)
+  pub share-1000 : TellsBuild (4 ∷ 1 ∷ 1000 ∷ []) [] [] (placed 12 0)
+  pub share-1001 : TellsBuild (4 ∷ 1 ∷ 1001 ∷ []) [] [] (placed 6 1)
+  -- "A task has 1 ≤ C ≤ D ≤ T ≤ 4,096"
+  pub period-4096 : TellsWrite 4 parts (1 ∷ 1 ∷ 4 ∷ 4096 ∷ []) runs [] [] (placed 12 0)
+  pub period-4097 : TellsWrite 4 parts (1 ∷ 1 ∷ 4 ∷ 4097 ∷ []) runs [] [] (placed 7 1)
+  -- "Desk: 64 jobs; times and budgets up to 1,000,000."
+  pub places-64 : TellsOpen (desk 0 64) (row 10 64) (desk 0 64) full (placed 0 0)
+  pub places-63 : TellsOpen (desk 0 0) (drop 1 empty) (desk 0 0) (drop 1 empty) (placed 13 0)
+  pub places-65 : TellsOpen (desk 0 65) (row 10 65) (desk 0 65) (row 10 65) (placed 13 0)
+  pub time-1000000 : TellsRequest (desk 1000000 0) empty 1000000 1000000 1000000 (desk 1000000 0) empty (placed 18 0)
+  pub time-1000001 : TellsRequest (desk 0 0) empty 1000001 1 1 (desk 0 0) empty (placed 14 0)
+  pub budget-1000001 : TellsRequest (desk 0 0) empty 1 1000001 1 (desk 0 0) empty (placed 14 0)
+  pub deadline-1000001 : TellsRequest (desk 0 0) empty 1 1 1000001 (desk 0 0) empty (placed 14 0)
+  pub clock-1000001 : TellsRequest (desk 1000001 0) empty 1 1 1 (desk 1000001 0) empty (placed 13 0)
+  pub listed-1000001 :
+      TellsOpen (desk 0 1) (filled (job 1 1 1000001 0 ∷ [])) (desk 0 1) (filled (job 1 1 1000001 0 ∷ [])) (placed 13 0)
+
 pub record EachRefusal : Type 0 where
   pub plans : EachPlan
   pub files : EachFile
   pub texts : EachText
   pub desks : EachDesk
+  pub limits : EachLimit
