@@ -62,7 +62,7 @@ use Rattle.desk.specs.Call.{deskOf, Leaves, said}
 use Rattle.desk.proofs.Proved as desk
 use Rattle.desk_lent.proofs.Proved as lent
 use Rattle.api.specs.Answers.{TellsCheck, TellsBuild, TellsVerdict, TellsRead, toldPart, TellsSection, TellsWrite, TellsList, TellsRequest}
-use Rattle.demands.specs.Demands.{among, Told-as, Numbered, Demand1, OneOutcome, Afresh, Demand2, Demand3, Demands}
+use Rattle.demands.specs.Demands.{among, ToldAs, Numbered, Demand1, OneOutcome, Afresh, Demand2, Demand3, Demands}
 use Rattle.demands.proofs.Entries.{entries}
 
 -- ---- the numbers, whatever the tests give: one case for each answer
@@ -219,18 +219,18 @@ module _ (k k′ : Desk) (l l′ : List Job) (time c d : ℕ) (t : Told) (p : Te
   abbrev Leaving : Bool → Type 0
   Leaving b = (r : Refusal) × (asked ≡ pick b (dropping time left r) (outcome l (k .count) (k .clock) (Refused r)))
 
-  leaving : (ms : List ℕ) (b : Bool) → ((n : ℕ) → among ms n ≡ true → dropsBy n ≡ b) → ¬ (among ms 0 ≡ true) → Told-as ms t → Leaving b
+  leaving : (ms : List ℕ) (b : Bool) → ((n : ℕ) → among ms n ≡ true → dropsBy n ≡ b) → ¬ (among ms 0 ≡ true) → ToldAs ms t → Leaving b
   leaving ms b which some e =
       let r = refusal-is asked k′ l′ t p (λ z. some (rw (← z) e)) in
       let f : drops (r .0) ≡ b = which (told (r .0) .number) (rw (← r .2) e) in
       (r .0, rw (← f) (desk.proved .request-leaves (k .clock) (k .count) l time c d (r .0) (r .1)))
 
-  stayed : Told-as (13 ∷ 14 ∷ 15 ∷ 19 ∷ []) t → (k′ ≡ k) × (l′ ≡ l)
+  stayed : ToldAs (13 ∷ 14 ∷ 15 ∷ 19 ∷ []) t → (k′ ≡ k) × (l′ ≡ l)
   stayed e =
       let a = leaving (13 ∷ 14 ∷ 15 ∷ 19 ∷ []) false (λ n h. not-true (dropsBy n) (every-among (λ n. not (dropsBy n)) (13 ∷ 14 ∷ 15 ∷ 19 ∷ []) n refl h)) (λ z. true≢false (sym z)) e in
       left-is asked k′ l′ t p _ (a .1)
 
-  dropped : Told-as (16 ∷ 17 ∷ 18 ∷ []) t → (k′ .clock ≡ time) × (k′ .count ≡ length left) × (l′ ≡ filled left)
+  dropped : ToldAs (16 ∷ 17 ∷ 18 ∷ []) t → (k′ .clock ≡ time) × (k′ .count ≡ length left) × (l′ ≡ filled left)
   dropped e =
       let a = leaving (16 ∷ 17 ∷ 18 ∷ []) true (λ n h. every-among dropsBy (16 ∷ 17 ∷ 18 ∷ []) n refl h) (λ z. true≢false (sym z)) e in
       let q = left-is asked k′ l′ t p _ (a .1) in

@@ -46,12 +46,12 @@ among [] n = false
 among (m ∷ ms) n = eqb m n || among ms n
 
 -- an answer's number is one of these
-abbrev pub Told-as : List ℕ → Told → Type 0
-Told-as ms t = among ms (t .number) ≡ true
+abbrev pub ToldAs : List ℕ → Told → Type 0
+ToldAs ms t = among ms (t .number) ≡ true
 
 -- it is 0 or one of those that the call uses
 abbrev pub Numbered : List ℕ → Told → Type 0
-Numbered ms = Told-as (0 ∷ ms)
+Numbered ms = ToldAs (0 ∷ ms)
 
 abbrev pub Refused : Told → Type 0
 Refused t = ¬ (t .number ≡ 0)
@@ -89,10 +89,10 @@ pub record Demand1 : Type 0 where
   pub open-refused : (k k′ : Desk) (l l′ : List Job) (t : Told) → TellsOpen k l k′ l′ t → Refused t → (k′ ≡ k) × (l′ ≡ l)
   pub request-refused :
       (k k′ : Desk) (l l′ : List Job) (time c d : ℕ) (t : Told) → TellsRequest k l time c d k′ l′ t
-      → Told-as (13 ∷ 14 ∷ 15 ∷ 19 ∷ []) t → (k′ ≡ k) × (l′ ≡ l)
+      → ToldAs (13 ∷ 14 ∷ 15 ∷ 19 ∷ []) t → (k′ ≡ k) × (l′ ≡ l)
   -- "16, 17, 18 set the clock to t and drop finished jobs .. nothing else changes."
   pub request-drops :
-      (k k′ : Desk) (l l′ : List Job) (time c d : ℕ) (t : Told) → TellsRequest k l time c d k′ l′ t → Told-as (16 ∷ 17 ∷ 18 ∷ []) t
+      (k k′ : Desk) (l l′ : List Job) (time c d : ℕ) (t : Told) → TellsRequest k l time c d k′ l′ t → ToldAs (16 ∷ 17 ∷ 18 ∷ []) t
       → (k′ .clock ≡ time) × (k′ .count ≡ length (kept time (take (k .count) l))) × (l′ ≡ filled (kept time (take (k .count) l)))
   -- "A job taken in sets the clock too."
   pub request-taken :
