@@ -6,7 +6,7 @@ use native.Mathlib.Nat.{not-suc-le-zero, le-of-suc-le-suc, div-add-mod'}
 use native.Mathlib.Numerals.{add-one}
 use native.Mathlib.Omega.{arith}
 use lib.ListN.{length, getD, set, take, drop, length-drop, drop-of-length-le}
-use lib.Seq.{take-suc, drop-cons, set-at, length-take-le, take-all, take-at, drop-at, drop-drop}
+use lib.Seq.{take-suc, drop-cons, set-at, getD-take, length-take-le, take-all, take-at, drop-at, drop-drop}
 use Rattle.file_codec.specs.Bytes.{numsOf, bytesOf, Bytes}
 use Rattle.file_codec.specs.Contracts.{over}
 
@@ -28,6 +28,12 @@ numsOf-at [] k h = absurd (omega arith)
 numsOf-at (x ∷ []) k h = absurd (omega arith)
 numsOf-at (x ∷ y ∷ bs) zero h = refl
 numsOf-at (x ∷ y ∷ bs) (suc k) h = rw (double-more k 1, double k) (numsOf-at bs k (omega arith))
+
+-- the first bytes hold the first numbers
+pub numsOf-take : (b : List ℕ) (n k : ℕ) → n ≤ length b → k < n / 2 → getD (numsOf (take n b)) k 0 ≡ getD (numsOf b) k 0
+numsOf-take b n k h l =
+    let m : length (take n b) ≡ n = length-take-le n b h in
+    rw (numsOf-at (take n b) k (omega arith), numsOf-at b k (omega arith), getD-take n b (2 * k) 0 (omega arith), getD-take n b (2 * k + 1) 0 (omega arith))
 
 pub bytesOf-length : (ns : List ℕ) → length (bytesOf ns) ≡ 2 * length ns
 unfolding bytesOf

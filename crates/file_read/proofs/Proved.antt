@@ -1,16 +1,20 @@
 -- Every promise of specs/Theorems.antt, proved. Assumes nothing.
-use Prim.Native.Nat.{ℕ, _+_, _-_, _*_, _≤_}
-use mathlib.Core.Path.{_≡_, sym, ap, _∙_}
+use Prim.Native.Nat.{ℕ, _+_, _-_, _*_, _≤_, _<_}
+use mathlib.Core.Path.{_≡_, refl, sym, ap, _∙_}
+use mathlib.Core.Logic.{_⊎_, inl, inr}
 use mathlib.Core.List.{List, _++_}
 use native.Mathlib.Omega.{arith}
 use lib.ListN.{length, take}
 use lib.Seq.{take-all, take-add}
 use Rattle.rules.specs.Limits.{partWidth, taskWidth, runWidth, headBytes}
+use Rattle.rules.proofs.Sum.{le-or-lt}
 use Rattle.file_codec.specs.Bytes.{part}
 use Rattle.file_codec.specs.Contents.{tasksAt, runsAt, sizeOf}
-use Rattle.file_read.specs.Reader.{sectionOf}
-use Rattle.file_read.specs.Theorems.{SectionExact, SectionNone, Proved}
-use Rattle.file_read.proofs.Reader.{contained, accepted, part-length}
+use Rattle.file_read.specs.declared.Reading.{Reading}
+use Rattle.file_read.specs.declared.Reading.the-variants.{Contents, Refused}
+use Rattle.file_read.specs.Reader.{contentsOf, judgedBy, readOf, sectionOf}
+use Rattle.file_read.specs.Theorems.{SectionExact, SectionNone, ReadFirst, Proved}
+use Rattle.file_read.proofs.Reader.{contained, accepted, part-length, contents-short, contents-first}
 
 -- a part behind what stands before it
 part-add : (b : List ℕ) (n e : ℕ) → n ≤ e → take n b ++ part b n e ≡ take e b
@@ -40,10 +44,23 @@ section-none : SectionNone
 unfolding sectionOf
 section-none b x which e = rw e
 
+read-first : ReadFirst
+unfolding readOf
+read-first b n h = by-length (le-or-lt (length b) n)
+  where
+    long : n < length b → (c : Reading) → contentsOf b ≡ c → judgedBy c (take n b) ≡ judgedBy c b
+    long l (Refused x) e = refl
+    long l (Contents f p t r) e = absurd (omega (arith, contents-short b f p t r e))
+
+    by-length : (length b ≤ n) ⊎ (n < length b) → judgedBy (contentsOf (take n b)) (take n b) ≡ judgedBy (contentsOf b) b
+    by-length (inl l) = rw (take-all n b l)
+    by-length (inr l) = rw (contents-first b n h (omega arith)) (long l (contentsOf b) refl)
+
 pub proved : Proved
 proved = record {
   section-exact = section-exact;
   section-none = section-none;
+  read-first = read-first;
   one-read = λ b r s e f. e ∙ sym f;
   one-section = λ b which r s e f. e ∙ sym f;
 }

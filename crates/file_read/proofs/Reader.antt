@@ -1,4 +1,4 @@
--- The order of the reader's refusals at the numbers that the code holds, what contents that are right say, and what an accepted file is. Assumes nothing.
+-- The order of the reader's refusals at the numbers that the code holds, what contents that are right say, what an accepted file is, and one too long for any. Assumes nothing.
 use Prim.Native.Nat.{ℕ, _+_, _-_, _*_, _/_, _≤_, _<_, min}
 use mathlib.Core.Path.{_≡_, refl, ap}
 use mathlib.Core.List.{List}
@@ -8,7 +8,7 @@ use lib.ListN.{length, take, drop, length-drop}
 use lib.Seq.{length-take-le, take-at, take-all}
 use lib.Dec.{ltb, eqb}
 use borrow.Author.Tests.{lt-ltb, le-ltb, eq-eqb, ne-eqb, eqb-true, not-false}
-use Rattle.rules.specs.Limits.{longest, mostPartitions, mostTasks, partWidth, taskWidth, runWidth, headBytes, numberBytes}
+use Rattle.rules.specs.Limits.{longest, mostPartitions, mostTasks, partWidth, taskWidth, runWidth, headBytes, numberBytes, longestFile}
 use Rattle.rules.specs.Walk.{pick}
 use Rattle.tables.specs.Tables.{withinLimits}
 use Rattle.rules.specs.declared.Refusal.{Refusal}
@@ -19,7 +19,7 @@ use Rattle.file_codec.specs.Bytes.{numsOf, part}
 use Rattle.file_tables.specs.Contracts.{runsCounted}
 use Rattle.file_codec.specs.Contracts.{over}
 use Rattle.file_codec.specs.Contents.{tasksAt, runsAt, sizeOf}
-use Rattle.file_codec.proofs.Bytes.{numsOf-length}
+use Rattle.file_codec.proofs.Bytes.{numsOf-length, numsOf-take}
 use Rattle.file_tables.proofs.Chain.{GoodFile, counted-runs, of-good, follows}
 use Rattle.file_read.specs.declared.Reading.{Reading}
 use Rattle.file_read.specs.declared.Reading.the-variants.{Contents, Refused}
@@ -276,3 +276,44 @@ inside-read b which = step (readOf b) refl
     step : (c : Reading) → readOf b ≡ c → Inside b c which
     step (Refused x) e = record { in-order = omega arith; in-file = omega arith }
     step (Contents f p t r) e = rw (accepted b f p t r e .contents) at (inside b which)
+
+-- ---- a file longer than any that is accepted
+
+pub contents-short : (b : List ℕ) (f p t r : ℕ) → contentsOf b ≡ Contents f p t r → length b ≤ longestFile
+contents-short b f p t r e =
+    let a = contained b f p t r e in
+    let w : Few (Contents f p t r) = counts-few f p t r (a .counts) in
+    omega (arith, a .long)
+
+-- no counts within limits give such a length: which length it is doesn't matter
+counts-first : (m n frame po np to nt ro nr : ℕ) → longestFile < m → longestFile < n → countsOf m frame po np to nt ro nr ≡ countsOf n frame po np to nt ro nr
+unfolding countsOf
+counts-first m n frame po np to nt ro nr hm hn = step (countsRight frame np nt nr) refl
+  where
+    step : (b : Bool) → countsRight frame np nt nr ≡ b → countsOf m frame po np to nt ro nr ≡ countsOf n frame po np to nt ro nr
+    step false e = rw e
+    step true e =
+        let w : Few (Contents frame np nt nr) = counts-few frame np nt nr e in
+        let size : ℕ = sizeOf (partWidth * np) (taskWidth * nt) (runWidth * nr) in
+        let em : eqb m size ≡ false = ne-eqb m size (λ q. omega arith) in
+        let en : eqb n size ≡ false = ne-eqb n size (λ q. omega arith) in
+        rw (e, em, en)
+
+pub contents-first : (b : List ℕ) (n : ℕ) → longestFile < n → n ≤ length b → contentsOf (take n b) ≡ contentsOf b
+unfolding contentsOf
+contents-first b n h l =
+    let w : (k : ℕ) → k < 8 → headNumber (take n b) k ≡ headNumber b k = λ k j. numsOf-take b n k l (omega arith) in
+    rw (
+      length-take-le n b l,
+      le-ltb n headBytes (omega arith),
+      le-ltb (length b) headBytes (omega arith),
+      w 0 (omega arith),
+      w 1 (omega arith),
+      w 2 (omega arith),
+      w 3 (omega arith),
+      w 4 (omega arith),
+      w 5 (omega arith),
+      w 6 (omega arith),
+      w 7 (omega arith),
+      counts-first n (length b) (headNumber b 1) (headNumber b 2) (headNumber b 3) (headNumber b 4) (headNumber b 5) (headNumber b 6) (headNumber b 7) h (omega arith),
+    )

@@ -1,9 +1,9 @@
 -- What is promised of the reader beyond each entry's contract. Each statement's proof is a field of `Proved`. Assumes nothing.
-use Prim.Native.Nat.{ℕ, _*_}
+use Prim.Native.Nat.{ℕ, _*_, _<_}
 use mathlib.Core.Path.{_≡_}
 use mathlib.Core.List.{List, [], _++_}
 use lib.ListN.{length, take}
-use Rattle.rules.specs.Limits.{headBytes, numberBytes, partWidth, taskWidth, runWidth}
+use Rattle.rules.specs.Limits.{headBytes, numberBytes, partWidth, taskWidth, runWidth, longestFile}
 use Rattle.rules.specs.declared.Refusal.{Refusal}
 use Rattle.file_read.specs.declared.Reading.{Reading}
 use Rattle.file_read.specs.declared.Reading.the-variants.{Contents, Refused}
@@ -24,6 +24,10 @@ SectionExact =
 abbrev pub SectionNone : Type 0
 SectionNone = (b : List ℕ) (x : Refusal) (which : Body) → readOf b ≡ Refused x → sectionOf b which ≡ []
 
+-- what is read of a file is read of its first bytes, where these are more than any plan file has
+abbrev pub ReadFirst : Type 0
+ReadFirst = (b : List ℕ) (n : ℕ) → longestFile < n → readOf (take n b) ≡ readOf b
+
 -- "any two outcomes it permits are equal"
 abbrev pub OneRead : Type 0
 OneRead = (b : List ℕ) (r s : Reading) → Reads b r → Reads b s → r ≡ s
@@ -34,5 +38,6 @@ OneSection = (b : List ℕ) (which : Body) (r s : List ℕ) → HandsBack b whic
 pub record Proved : Type 0 where
   pub section-exact : SectionExact
   pub section-none : SectionNone
+  pub read-first : ReadFirst
   pub one-read : OneRead
   pub one-section : OneSection

@@ -10,7 +10,7 @@ use Rattle.rules.specs.Table.{partitions, tasks}
 use Rattle.file_codec.specs.Bytes.{numsOf, bytesOf, part, Bytes}
 use Rattle.file_tables.specs.Runs.{runs}
 use Rattle.file_codec.specs.Contents.{tasksAt, runsAt, sizeOf, contents}
-use Rattle.file_codec.proofs.Bytes.{numsOf-length, numsOf-at, bytesOf-length, bytesOf-append, nums-bytes, bytes-nums}
+use Rattle.file_codec.proofs.Bytes.{numsOf-length, numsOf-take, bytesOf-length, bytesOf-append, nums-bytes, bytes-nums}
 use Rattle.file_tables.proofs.Chain.{GoodFile, of-good, sizes}
 use Rattle.file_read.specs.declared.Reading.the-variants.{Contents}
 use Rattle.file_read.specs.declared.Body.the-variants.{Partitions, Tasks, Runs}
@@ -138,18 +138,12 @@ cases-8 P a b c d e f g h (suc (suc (suc (suc (suc (suc zero)))))) l = g
 cases-8 P a b c d e f g h (suc (suc (suc (suc (suc (suc (suc zero))))))) l = h
 cases-8 P a b c d e f g h (suc (suc (suc (suc (suc (suc (suc (suc k)))))))) l = absurd (omega arith)
 
--- the numbers of the first 16 bytes
-number-take : (b : List ℕ) (k : ℕ) → 16 ≤ length b → k < 8 → getD (numsOf (take 16 b)) k 0 ≡ headNumber b k
-number-take b k h l =
-    let n : length (take 16 b) ≡ 16 = length-take-le 16 b h in
-    rw (numsOf-at (take 16 b) k (omega arith), numsOf-at b k (omega arith), getD-take 16 b (2 * k) 0 (omega arith), getD-take 16 b (2 * k + 1) 0 (omega arith))
-
 head-numbers : (b : List ℕ) (f np nt nr : ℕ) → Contained b f np nt nr → numsOf (take 16 b) ≡ contents f (3 * np) (4 * nt) (2 * nr)
 head-numbers b f np nt nr a =
     let l : 16 ≤ length b = omega (arith, a .long) in
     let n : length (take 16 b) ≡ 16 = length-take-le 16 b l in
     let m : length (numsOf (take 16 b)) ≡ 8 = omega (arith, numsOf-length (take 16 b)) in
-    let w : (k : ℕ) → k < 8 → getD (numsOf (take 16 b)) k 0 ≡ headNumber b k = λ k h. number-take b k l h in
+    let w : (k : ℕ) → k < 8 → getD (numsOf (take 16 b)) k 0 ≡ headNumber b k = λ k h. numsOf-take b 16 k l (omega arith) in
     let qp : np ≡ 3 * np / 3 = omega arith in
     let qt : nt ≡ 4 * nt / 4 = omega arith in
     let qr : nr ≡ 2 * nr / 2 = omega arith in

@@ -45,6 +45,10 @@ numberBytes = 2
 abbrev pub headBytes : ℕ
 headBytes = 16
 
+-- no plan file is longer, in bytes
+abbrev pub longestFile : ℕ
+longestFile = headBytes + numberBytes * (partWidth * mostPartitions + taskWidth * mostTasks + runWidth * longest)
+
 -- no line of a listing is longer, in bytes, and no listing: a line for the frame, each partition and each task
 abbrev pub longestLine : ℕ
 longestLine = 128
