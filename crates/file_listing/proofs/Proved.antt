@@ -1,8 +1,10 @@
 -- Every promise of specs/Theorems.antt, proved. Assumes nothing.
 use Prim.Native.Nat.{ℕ, _+_, _-_, _<_}
-use mathlib.Core.Path.{_≡_, sym, ap, _∙_}
+use mathlib.Core.Path.{_≡_, refl, sym, ap, _∙_}
 use mathlib.Core.List.{List}
 use native.Mathlib.Omega.{arith}
+use lib.ListN.{take}
+use lib.Seq.{take-all}
 use lib.Dec.{ltb}
 use Rattle.rules.specs.Table.{partitions}
 use Rattle.rules.specs.Refusals.{told}
@@ -13,10 +15,14 @@ use Rattle.plan_check.specs.Check.{checkOf, scanOf}
 use Rattle.plan_check.proofs.Orders.{shortPart, shortStart, shortfall}
 use Rattle.task_verdict.specs.Theorems.{Answered}
 use Rattle.task_verdict.proofs.Answers as answers
-use Rattle.file_read.specs.declared.Reading.the-variants.{Contents}
+use Rattle.file_read.specs.declared.Reading.{Reading}
+use Rattle.file_read.specs.declared.Reading.the-variants.{Contents, Refused}
 use Rattle.file_read.specs.declared.Body.the-variants.{Partitions, Tasks}
 use Rattle.file_read.specs.Reader.{readOf, tableOf}
-use Rattle.file_listing.specs.Theorems.{planIn, Proved}
+use Rattle.file_read.proofs.Reader.{accepted, contents-short}
+use Rattle.file_read.proofs.Proved as reader
+use Rattle.file_listing.specs.Listing.{readLines, listingOf}
+use Rattle.file_listing.specs.Theorems.{planIn, ListingFirst, Proved}
 use Rattle.file_listing.proofs.Tables.{fit, scanned}
 
 listed-verdict : (b : List ℕ) (frame np nt nr : ℕ) → readOf b ≡ Contents frame np nt nr → (j : ℕ) → checkOf (planIn b) (tableOf b Partitions) ≡ found.Good → j < nt
@@ -36,6 +42,14 @@ scan-nine plan ps r e =
     let s : shortfall plan ps (shortPart plan ps) (shortStart plan ps (shortPart plan ps)) ≡ r = cc (a .1) in
     ap (λ (x : Refusal). told x .number) (sym s)
 
+listing-first : ListingFirst
+unfolding listingOf
+listing-first b n h = step (readOf b) refl
+  where
+    step : (c : Reading) → readOf b ≡ c → readLines (readOf (take n b)) (take n b) ≡ readLines (readOf b) b
+    step (Refused x) e = rw (reader.proved .read-first b n h, e)
+    step (Contents f np nt nr) e = rw (take-all n b (omega (arith, contents-short b f np nt nr (accepted b f np nt nr e .contents))))
+
 pub proved : Proved
 proved = record {
   listing-counts = λ b frame np nt nr e. (fit b frame np nt nr e .ticks, fit b frame np nt nr e .parts, fit b frame np nt nr e .listed);
@@ -44,5 +58,6 @@ proved = record {
       let z : j + 1 - 1 ≡ j = omega arith in
       (sym (rw z at (answers.answer (planIn b) (tableOf b Partitions) (tableOf b Tasks) (j + 1) a)), answers.answered-exactly (planIn b) (tableOf b Partitions) (tableOf b Tasks) (j + 1) .1 a);
   only-nine = λ b frame np nt nr r e c. scan-nine (planIn b) (tableOf b Partitions) r (sym (scanned b frame np nt nr e) ∙ c);
+  listing-first = listing-first;
   listing-one = λ b out o o′ r r′ e f. (e .0 ∙ sym (f .0), e .1 ∙ sym (f .1));
 }

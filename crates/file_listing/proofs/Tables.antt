@@ -5,14 +5,12 @@ use mathlib.Core.List.{List, [], _++_}
 use native.Mathlib.Omega.{arith}
 use lib.ListN.{length, take, drop, replicate, length-replicate}
 use lib.Seq.{take-at}
-use lib.Dec.{ltb}
-use borrow.Author.Tests.{lt-ltb, le-ltb, ltb-false}
+use borrow.Author.Tests.{lt-ltb, le-ltb}
 use Rattle.rules.specs.Limits.{longest, mostPartitions, mostTasks, partWidth, taskWidth, runWidth}
 use Rattle.rules.specs.Walk.{Every}
 use Rattle.rules.specs.Table.{partitions, tasks, goodTick}
 use Rattle.tables.specs.Tables.{GoodTables}
 use Rattle.rules.specs.declared.Refusal.the-variants.{Tick, Output}
-use Rattle.rules.proofs.Tests.{pick-second}
 use Rattle.tables.proofs.Chain.{good-lowest, without-tasks, unless-good}
 use Rattle.rules.specs.declared.Finding.the-variants as found
 use Rattle.plan_check.specs.Check.{scanOf, planCheckOf, checkOf}
@@ -24,7 +22,7 @@ use Rattle.file_read.specs.Reader.{tableBy, contentsOf, readOf, tableOf}
 use Rattle.file_read.specs.Contracts.{front}
 use Rattle.file_read.proofs.Reader.{contained, accepted, parts-are, tasks-are, runs-are, loaded-front}
 use Rattle.output.specs.Put.{Put}
-use Rattle.output.proofs.Put.{put-front}
+use Rattle.output.proofs.Put.{put-front, put-taken}
 use Rattle.file_runs.specs.Ticks.{ticksOf, ticksPut}
 use Rattle.file_runs.proofs.Ticks.{ticks-some}
 use Rattle.file_runs.proofs.Proved as runs
@@ -131,16 +129,6 @@ module _ (b page0 page out : List ℕ) (n : ℕ) (p : Put page0 0 (listingOf b) 
   pub listed-text : n ≤ length page0 → n ≤ length out → (o : List ℕ) (r : ℕ) → Put out 0 (take n page) r o → (Fills n ≡ listOf b (length out)) × (o ≡ listedLeft b out)
   unfolding listOf
   listed-text hp ho o r q =
-      let f : page ≡ listingOf b ++ drop n page0 = rw long at (put-front p (omega (arith, long))) in
-      let t : take n page ≡ listingOf b = rw f (take-at (listingOf b) (drop n page0) n long) in
-      let w : Put out 0 (listingOf b) r o = rw t at q in
+      let w : Put out 0 (listingOf b) r o = rw (put-taken p hp .1) at q in
       let z : o ≡ listingOf b ++ drop n out = rw long at (put-front w (omega (arith, long))) in
       rw (long, le-ltb (length out) n ho) (refl, z)
-
--- a text is handed over where it fits
-pub text-fits : (b : List ℕ) (room n : ℕ) → listOf b room ≡ Fills n → n ≤ room
-unfolding listOf
-text-fits b room n e =
-    let a = pick-second (ltb room (length (listingOf b))) (Refused Output) (Fills (length (listingOf b))) (Fills n) (λ q. let z : _≡_ {A = ℕ} 0 1 = cc in absurd (omega arith)) e in
-    let l : length (listingOf b) ≡ n = cc (a .1) in
-    omega (arith, ltb-false room (length (listingOf b)) (a .0), l)

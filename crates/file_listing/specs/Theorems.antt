@@ -3,7 +3,8 @@
 use Prim.Native.Nat.{ℕ, _+_, _<_}
 use mathlib.Core.Path.{_≡_}
 use mathlib.Core.List.{List}
-use lib.ListN.{length}
+use lib.ListN.{length, take}
+use Rattle.rules.specs.Limits.{longestFile}
 use Rattle.rules.specs.Table.{partitions, tasks}
 use Rattle.rules.specs.Refusals.{told}
 use Rattle.rules.specs.declared.Refusal.{Refusal}
@@ -17,7 +18,7 @@ use Rattle.file_read.specs.declared.Body.the-variants.{Partitions, Tasks, Runs}
 use Rattle.file_read.specs.Reader.{readOf, tableOf}
 use Rattle.file_runs.specs.Ticks.{ticksOf}
 use Rattle.rules.specs.declared.Filling.{Filling}
-use Rattle.file_listing.specs.Listing.{Lists}
+use Rattle.file_listing.specs.Listing.{listingOf, Lists}
 
 -- the plan of a file, as ticks
 abbrev pub planIn : List ℕ → List ℕ
@@ -42,6 +43,11 @@ OnlyNine =
     (b : List ℕ) (frame np nt nr : ℕ) (r : Refusal) → readOf b ≡ Contents frame np nt nr → checkOf (planIn b) (tableOf b Partitions) ≡ found.Refused r
     → told r .number ≡ 9
 
+-- the listing of a file is that of its first bytes, where these are more than any plan file has: a program that reads one byte more than the longest
+-- file lists what came in, however long that is
+abbrev pub ListingFirst : Type 0
+ListingFirst = (b : List ℕ) (n : ℕ) → longestFile < n → listingOf (take n b) ≡ listingOf b
+
 -- "any two outcomes it permits are equal"
 abbrev pub ListingOne : Type 0
 ListingOne = (b out o o′ : List ℕ) (r r′ : Filling) → Lists b out o r → Lists b out o′ r′ → (r ≡ r′) × (o ≡ o′)
@@ -50,4 +56,5 @@ pub record Proved : Type 0 where
   pub listing-counts : ListingCounts
   pub listing-verdicts : ListingVerdicts
   pub only-nine : OnlyNine
+  pub listing-first : ListingFirst
   pub listing-one : ListingOne

@@ -51,7 +51,8 @@ fn put_tables(frame: usize, parts: &[u16], table: &[u16], runs: &[u16], out: &mu
     put_checked(frame, &plan[..frame], parts, table, out)
 }
 
-fn compose(file: &[u8], out: &mut [u8]) -> usize
+// Puts the listing of a file's bytes at the start of the output, as far as there is room. The answer is its length.
+pub fn compose(file: &[u8], out: &mut [u8]) -> usize
     ensures { λ r. ⌜ Put (now (out .entry)) 0 (listingOf (now (file .entry))) r (now (out .exit))
         × (r ≤ longestListing) ⌝ }
 {

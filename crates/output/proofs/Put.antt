@@ -6,7 +6,7 @@ use native.Mathlib.Nat.{add-zero}
 use native.Mathlib.Numerals.{add-one}
 use native.Mathlib.Omega.{arith}
 use lib.ListN.{length, set, getD, take, drop, length-append}
-use lib.Seq.{sets, sets-eq, take-suc, length-take-le}
+use lib.Seq.{sets, sets-eq, take-suc, take-at, length-take-le}
 use Rattle.output.specs.Put.{Put}
 
 sets-append : (a b l : List ℕ) (i : ℕ) → sets l i (a ++ b) ≡ sets (sets l i a) (i + length a) b
@@ -34,6 +34,12 @@ put-more {o} {m} l i s k h eo em =
 -- into an output with room
 pub put-front : {l o s : List ℕ} {r : ℕ} → Put l 0 s r o → length s ≤ length l → o ≡ s ++ drop (length s) l
 put-front {l} {o} {s} p h = let z : 0 + length s ≡ length s = omega arith in p .bytes ∙ sets-eq s l 0 (omega arith) ∙ rw z
+
+pub put-taken : {l o s : List ℕ} {r : ℕ} → Put l 0 s r o → r ≤ length l → (r ≤ length o) × (take r o ≡ s)
+put-taken {l} {o} {s} {r} p h =
+    let n : length s ≡ r = omega (arith, p .place) in
+    let e : o ≡ s ++ drop (length s) l = put-front p (omega arith) in
+    (rw (e, length-append s (drop (length s) l)) (omega arith), rw e (take-at s (drop (length s) l) r n))
 
 -- what is left to put: s at the start of l is rest at the place of o
 pub record Rest (l s : List ℕ) (at : ℕ) (o rest : List ℕ) : Type 0 where
