@@ -6,10 +6,12 @@ use native.Mathlib.Omega.{arith}
 use lib.ListN.{length, take, drop, length-append}
 use lib.Dec.{ltb}
 use borrow.Author.Tests.{lt-ltb, le-ltb, ltb-false}
-use Rattle.rules.specs.Limits.{headBytes}
+use Rattle.rules.specs.Limits.{headBytes, longestFile}
 use Rattle.rules.specs.Walk.{pick}
+use Rattle.tables.specs.Tables.{unless}
 use Rattle.rules.specs.declared.Refusal.{Refusal}
 use Rattle.rules.specs.declared.Refusal.the-variants.{Output}
+use Rattle.rules.specs.declared.Finding.{Finding}
 use Rattle.rules.specs.declared.Finding.the-variants as found
 use Rattle.rules.proofs.Tests.{pick-second}
 use Rattle.rules.proofs.Answers.{no-filling}
@@ -28,6 +30,19 @@ module _ (frame : ℕ) (ps ts rs : List ℕ) where
 
   pub good-small : fileTablesOf frame ps ts rs ≡ found.Good → Small frame (length ps) (length ts) (length rs)
   good-small e = small (good-of frame ps ts rs e)
+
+  -- an output of the longest file's bytes is long enough for any
+  pub write-room : (room : ℕ) → longestFile ≤ room → writeOf frame ps ts rs room ≡ writeOf frame ps ts rs longestFile
+  unfolding writeOf
+  write-room room h = step (fileTablesOf frame ps ts rs) refl
+    where
+      size : ℕ
+      size = sizeFor ps ts rs
+
+      step : (t : Finding) → fileTablesOf frame ps ts rs ≡ t
+          → unless Refused t (pick (ltb room size) (Refused Output) (Fills size)) ≡ unless Refused t (pick (ltb longestFile size) (Refused Output) (Fills size))
+      step (found.Refused r) e = refl
+      step found.Good e = let s = good-small e in rw (le-ltb room size (omega arith), le-ltb longestFile size (omega arith))
 
   module _ (room : ℕ) where
     pub write-tables : (r : Refusal) → fileTablesOf frame ps ts rs ≡ found.Refused r → Refused r ≡ writeOf frame ps ts rs room

@@ -25,6 +25,7 @@ use Rattle.file_write.specs.Writer.{writeOf, writtenLeft}
 use Rattle.file_write.proofs.Writer.{fit}
 use Rattle.file_write.proofs.Trip.{file-length}
 use Rattle.output.specs.Put.{Put}
+use Rattle.output.proofs.Put.{put-taken}
 use Rattle.file_runs.specs.Ticks.{joined, runsOf, runsPut}
 use Rattle.file_runs.proofs.Ticks.{runs-some}
 use Rattle.rules.specs.Limits.{longestLine}
@@ -41,10 +42,7 @@ use Rattle.share_plan.specs.Answer.{planRuns, planFile, writtenBy, write
 
 -- numbers at the start of a table that has room for them
 pub front : (s l o : List ℕ) (n : ℕ) → n ≡ length s → n ≤ length l → o ≡ sets l 0 s → (n ≤ length o) × (take n o ≡ s)
-front s l o n en h eo =
-    let z : 0 + length s ≡ length s = omega arith in
-    let e : o ≡ s ++ drop (length s) l = eo ∙ sets-eq s l 0 (omega arith) ∙ rw z in
-    (rw (e, length-append s (drop (length s) l)) (omega arith), rw e (take-at s (drop (length s) l) n (sym en)))
+front s l o n en h eo = let p : Put l 0 s n o = record { place = omega arith; bytes = eo } in put-taken p h
 
 -- ---- runs
 

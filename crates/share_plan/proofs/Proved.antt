@@ -1,11 +1,16 @@
 -- Every promise of specs/Theorems.antt, proved. Assumes nothing.
-use Prim.Native.Nat.{ℕ, _≤_}
+use Prim.Native.Nat.{ℕ, _≤_, _<_}
 use mathlib.Core.Path.{_≡_, refl, sym, ap, _∙_}
+use mathlib.Core.Logic.{_⊎_, inl, inr}
 use mathlib.Core.List.{List}
-use lib.ListN.{length, drop, replicate, length-replicate}
-use lib.Seq.{take-at}
-use Rattle.rules.specs.Limits.{longest}
+use native.Mathlib.Omega.{arith}
+use lib.ListN.{length, take, drop, replicate, length-replicate}
+use lib.Seq.{take-at, take-all, length-take-le}
+use borrow.Author.Tests.{lt-ltb}
+use Rattle.rules.specs.Limits.{longest, longestFile}
 use Rattle.rules.specs.Table.{partitions}
+use Rattle.rules.specs.declared.Filling.{Filling}
+use Rattle.rules.proofs.Sum.{le-or-lt}
 use Rattle.tables.specs.Tables.{GoodTables}
 use Rattle.tables.proofs.Chain.{other-frame, without-tasks, unless-good}
 use Rattle.file_tables.proofs.Chain.{GoodFile, of-good}
@@ -23,19 +28,19 @@ use Rattle.rules.specs.Refusals.{toldFilling}
 use Rattle.rules.proofs.Known.{filling-as}
 use Rattle.share_text.specs.declared.Kind.the-variants.{Partitions, Tasks}
 use Rattle.share_text.specs.declared.TableReading.{TableReading}
-use Rattle.share_text.specs.Table.{recordsOf, tableLeft}
+use Rattle.share_text.specs.Table.{longestText, recordsOf, readTextOf, tableLeft}
 use Rattle.file_read.specs.declared.Body.the-variants as body
 use Rattle.file_read.specs.Reader as file
 use Rattle.file_tables.specs.Runs.{runs}
 use Rattle.file_write.specs.Writer.{fileOf, sizeFor, writeOf}
-use Rattle.file_write.proofs.Writer.{fit, write-all}
+use Rattle.file_write.proofs.Writer.{fit, write-room, write-all}
 use Rattle.file_write.proofs.Trip.{read-written, left-file}
 use Rattle.file_runs.specs.Ticks.{ticksOf}
 use Rattle.file_runs.proofs.Ticks.{ticks-back}
 use Rattle.file_runs.proofs.Proved as ticks
 use Rattle.output.proofs.Proved as output
-use Rattle.share_plan.specs.Answer.{planRuns, planFile, writeBuiltOf, writePlanOf}
-use Rattle.share_plan.specs.Theorems.{FileServes, FileExactly, TextOne, Proved}
+use Rattle.share_plan.specs.Answer.{planRuns, planFile, writtenBy, writeBuiltOf, writePlanOf, fileOrLine, answerOf}
+use Rattle.share_plan.specs.Theorems.{FileServes, FileExactly, AnswerFirst, AnswerRoom, TextOne, Proved}
 use Rattle.share_plan.proofs.Laws.{planned-so, file-fits}
 
 -- a built plan is accepted by the checker
@@ -93,6 +98,26 @@ file-exactly : FileExactly
 unfolding Exactly
 file-exactly ps ts room n = (only-then ps ts room n, then-so ps ts room n)
 
+-- ---- what comes in and goes out
+
+answer-first : AnswerFirst
+unfolding answerOf readTextOf
+answer-first t n room h = by-length (le-or-lt (length t) n)
+  where
+    by-length : (length t ≤ n) ⊎ (n < length t) → answerOf (take n t) room ≡ answerOf t room
+    by-length (inl l) = rw (take-all n t l)
+    by-length (inr l) = rw (length-take-le n t (omega arith), lt-ltb longestText n h, lt-ltb longestText (length t) (omega arith))
+
+answer-room : AnswerRoom
+unfolding answerOf fileOrLine writePlanOf writeBuiltOf
+answer-room t room h = rw (built (recordsOf Partitions t) (recordsOf Tasks t) (buildOf (recordsOf Partitions t) longest))
+  where
+    built : (ps ts : List ℕ) (b : Filling) → writtenBy b ps ts room ≡ writtenBy b ps ts longestFile
+    built ps ts (Fills n) = write-room n ps ts (planRuns ps) room h
+    built ps ts (Refused x) = refl
+
+-- ---- one outcome
+
 text-one : TextOne
 text-one t parts tasks p p′ q q′ r r′ a b =
     let e : r ≡ r′ = a .0 ∙ sym (b .0) in
@@ -106,6 +131,8 @@ pub proved : Proved
 proved = record {
   file-serves = file-serves;
   file-exactly = file-exactly;
+  answer-first = answer-first;
+  answer-room = answer-room;
   one-answer = λ t out o o′ r r′ a b. output.proved .one-put _ _ _ _ _ _ _ a b;
   text-one = text-one;
 }

@@ -1,10 +1,10 @@
 -- What is promised of the planner beyond its contract. Each statement's proof is a field of `Proved`. Assumes nothing.
-use Prim.Native.Nat.{ℕ, _≤_}
+use Prim.Native.Nat.{ℕ, _≤_, _<_}
 use mathlib.Core.Path.{_≡_}
 use mathlib.Core.Logic.{_↔_}
 use mathlib.Core.List.{List}
-use lib.ListN.{length}
-use Rattle.rules.specs.Limits.{longest}
+use lib.ListN.{length, take}
+use Rattle.rules.specs.Limits.{longest, longestFile}
 use Rattle.rules.specs.Table.{partitions, tasks}
 use Rattle.tables.specs.Tables.{GoodTables}
 use Rattle.theory.specs.Harmonic.{Harmonic, frame, allWanted, harmonicPlan}
@@ -18,8 +18,8 @@ use Rattle.file_tables.specs.Runs.{runs}
 use Rattle.file_write.specs.Writer.{sizeFor}
 use Rattle.file_runs.specs.Ticks.{ticksOf}
 use Rattle.share_text.specs.declared.TableReading.{TableReading}
-use Rattle.share_text.specs.Table.{ReadsText}
-use Rattle.share_plan.specs.Answer.{planRuns, planFile, writePlanOf, Plans}
+use Rattle.share_text.specs.Table.{longestText, ReadsText}
+use Rattle.share_plan.specs.Answer.{planRuns, planFile, writePlanOf, answerOf, Plans}
 
 -- a file that comes out is accepted by the reader, with the table's records and the harmonic rule's plan; and "what the harmonic rule writes is always accepted" by the checker
 abbrev pub FileServes : Type 0
@@ -39,6 +39,15 @@ FileExactly =
     → (writePlanOf ps ts room ≡ Fills n)
     ↔ (GoodTables longest ps ts × Harmonic ps × (allWanted ps (frame ps) ≤ frame ps) × (n ≡ sizeFor ps ts (planRuns ps)) × (n ≤ room))
 
+-- the answer to a text is that to its first bytes, where these are more than a text may have: a program that reads one byte more than the longest text
+-- answers what came in, however long that is
+abbrev pub AnswerFirst : Type 0
+AnswerFirst = (t : List ℕ) (n room : ℕ) → longestText < n → answerOf (take n t) room ≡ answerOf t room
+
+-- an output of the longest file's bytes is as good as any longer one: no answer is 12 for want of room
+abbrev pub AnswerRoom : Type 0
+AnswerRoom = (t : List ℕ) (room : ℕ) → longestFile ≤ room → answerOf t room ≡ answerOf t longestFile
+
 -- "any two outcomes it permits are equal", of the planner and of the share table's reader
 abbrev pub OneAnswer : Type 0
 OneAnswer = (t out o o′ : List ℕ) (r r′ : ℕ) → Plans t out o r → Plans t out o′ r′ → (r ≡ r′) × (o ≡ o′)
@@ -51,5 +60,7 @@ TextOne =
 pub record Proved : Type 0 where
   pub file-serves : FileServes
   pub file-exactly : FileExactly
+  pub answer-first : AnswerFirst
+  pub answer-room : AnswerRoom
   pub one-answer : OneAnswer
   pub text-one : TextOne
