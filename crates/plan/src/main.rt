@@ -3,15 +3,35 @@ use libc::STDERR_FILENO;
 use libc::STDOUT_FILENO;
 use rules::limits::LONGEST_FILE;
 use share_text::LONGEST_TEXT;
+ghost use mathlib.Core.Path.{_≡_};
+ghost use mathlib.Core.List.{List};
+ghost use Prim.Native.Nat.{ℕ, _≤_, _<_};
+ghost use lib.ListN.{length, take};
+ghost use Rattle.rules.specs.Limits.{longestFile};
+ghost use Rattle.share_text.specs.Table.{longestText};
+ghost use Rattle.share_plan.specs.Answer.{answerOf};
 
 // One byte more than a text may have, so that a longer one is seen.
 const READ: usize = LONGEST_TEXT + 1;
+
+// Of whatever came in, t, `text` has the first n bytes: all of it, or as many as there is room for.
+// Then what is answered to t is put at the start of `out`, which has room for any file; the result is its length.
+fn plan_input(text: &[u8], n: usize, out: &mut [u8]) -> usize
+    requires { ⌜ (n ≤ length (now text))
+        × (longestText < length (now text))
+        × (longestFile ≤ length (now out)) ⌝ }
+    ensures { λ r. ⌜ ((t : List ℕ) → take n (now (text .entry)) ≡ take (length (now (text .entry))) t
+        → take r (now (out .exit)) ≡ answerOf t longestFile) ⌝ }
+    ensures { λ r. ⌜ r ≤ length (now (out .exit)) ⌝ }
+{
+    share_plan::plan(&text[..n], out)
+}
 
 fn main() {
     let mut text = [0u8; READ];
     let n = io::read_full(0, &mut text);
     let mut out = [0u8; LONGEST_FILE];
-    let k = share_plan::plan(&text[..n], &mut out);
+    let k = plan_input(&text, n, &mut out);
     let written = io::write_all(STDOUT_FILENO, &out[..k]);
     if !written {
         io::write_all(STDERR_FILENO, b"a write failed\n");

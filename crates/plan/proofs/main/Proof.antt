@@ -1,5 +1,6 @@
+use mathlib.Core.Path.{sym}
 use native.Mathlib.Omega.{arith}
-use lib.ListN.{length-take}
+use lib.Seq.{length-take-le}
 use borrow.Author.Needs.{needs}
 use Rattle.plan.proofs.main.Statement.{statement}
 use Rattle.plan.proofs.main.Tie as tie
@@ -10,23 +11,20 @@ slice-aggregate-read-full c = search needs
 read-full-requires : tie.Need-read-full-requires
 read-full-requires c κs = search needs
 
-array-share-prefix-text : tie.Need-array-share-prefix-text
-array-share-prefix-text c = search needs
+slice-aggregate-plan-input : tie.Need-slice-aggregate-plan-input
+slice-aggregate-plan-input c = search needs
 
-slice-aggregate-plan : tie.Need-slice-aggregate-plan
-slice-aggregate-plan c = search needs
+slice-aggregate-plan-input-2 : tie.Need-slice-aggregate-plan-input-2
+slice-aggregate-plan-input-2 c = search needs
 
-slice-aggregate-plan-2 : tie.Need-slice-aggregate-plan-2
-slice-aggregate-plan-2 c = search needs
-
-plan-requires : tie.Need-plan-requires
-plan-requires c κs = search needs
+plan-input-requires : tie.Need-plan-input-requires
+plan-input-requires c κs = (search needs, omega arith, omega arith)
 
 array-share-prefix-out : tie.Need-array-share-prefix-out
 array-share-prefix-out c = search needs
 
 slice-aggregate-write-all : tie.Need-slice-aggregate-write-all
-slice-aggregate-write-all c = simp length-take (omega arith)
+slice-aggregate-write-all c = sym (length-take-le _ _ (c .before .before .plan-input .ensures .1))
 
 write-all-requires : tie.Need-write-all-requires
 write-all-requires c κs = search needs
@@ -49,10 +47,9 @@ main-spec =
     (tie.spec
     slice-aggregate-read-full
     read-full-requires
-    array-share-prefix-text
-    slice-aggregate-plan
-    slice-aggregate-plan-2
-    plan-requires
+    slice-aggregate-plan-input
+    slice-aggregate-plan-input-2
+    plan-input-requires
     array-share-prefix-out
     slice-aggregate-write-all
     write-all-requires
