@@ -1,15 +1,18 @@
 #!/bin/sh
-# The comparisons of the library against the second program (tests/second/README.md). Words choose the trials whose
-# names start with one of them. Needs the archive: rt staticlib api.
+# The comparisons of the library and the planner against the second program (tests/second/README.md). Words choose the
+# trials whose names start with one of them. Needs the archive and the program: rt staticlib api, rt check plan.
 set -eu
 cd "$(dirname "$0")/.."
 
+# needed FILE HOW
+needed() {
+    [ -f "$1" ] || { echo "there is no $1: $2 first" >&2 && exit 2; }
+}
 archive=target/staticlib/libapi.a
-if [ ! -f "$archive" ]; then
-    echo "there is no $archive: rt staticlib api first" >&2
-    exit 2
-fi
+needed "$archive" "rt staticlib api"
+needed target/bin/plan "rt check plan"
 tools/x86 cc target/calls tests/c/calls.c "$archive" -std=c11 -Wall -Wextra -Werror -Iinclude
+tools/x86 so target/again.so tests/c/again.c -std=c11 -Wall -Wextra -Werror -Iinclude
 
 # An emulator is many times slower: as many calls as fit, and the numbers say how many those were.
 if tools/x86 emulated; then

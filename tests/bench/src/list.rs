@@ -1,9 +1,10 @@
 //! The listing: sixteen partitions, 128 tasks, the longest frame.
 
-use second::inputs::files::{self, Tables};
+use second::inputs::files::Tables;
 use second::inputs::{plans, tables};
 use second::listing;
 use second::rng::Rng;
+use second::ticks;
 
 use crate::library;
 use crate::timing::line;
@@ -17,7 +18,7 @@ fn largest() -> Vec<u8> {
     let task = |place: u16| [1 + place % 16, 2, period(place), period(place)];
     let tables = Tables {
         frame: 4096,
-        runs: files::runs(&plan),
+        runs: ticks::to_runs(&plan),
         tasks: (0..128).flat_map(task).collect(),
         parts,
     };

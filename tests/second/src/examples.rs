@@ -7,6 +7,7 @@ use crate::file::{read, section, write};
 use crate::limits::JOBS;
 use crate::listing::text;
 use crate::plan::{check, least};
+use crate::planner;
 use crate::verdict::verdict;
 
 const P1_TABLE: [u16; 9] = [4, 1, 4, 8, 3, 8, 8, 1, 100];
@@ -150,6 +151,12 @@ fn w1() {
     let answer = write(4, &parts, &[1, 1, 4, 4], &[1, 2, 2, 2], &mut out);
     assert_eq!(answer, Answer::good([44, 0, 0, 0]));
     assert_eq!((&out[..44], out[44]), (&W1[..], 77));
+}
+
+#[test]
+fn w1_planned() {
+    let text = b"partition 4 1/2\npartition 4 1/3\ntask 1 1 4 4\n";
+    assert_eq!(planner::answer(text), W1);
 }
 
 #[test]

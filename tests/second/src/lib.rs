@@ -1,4 +1,5 @@
-//! The rules of document 01 once more, by plain counting and trying, to compare the library against.
+//! The rules of document 01 once more, and of the share table, by plain counting and trying, to
+//! compare the library and the planner against.
 
 pub mod answer;
 pub mod builder;
@@ -8,10 +9,13 @@ pub mod inputs;
 pub mod limits;
 pub mod listing;
 pub mod plan;
+pub mod planner;
 pub mod records;
 pub mod rng;
 pub mod runs;
+pub mod share_table;
 pub mod shares;
+pub mod ticks;
 pub mod verdict;
 
 #[cfg(test)]

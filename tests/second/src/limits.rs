@@ -11,3 +11,6 @@ pub const PERIOD: u64 = 4096;
 /// "Desk: 64 jobs; times and budgets up to 1,000,000."
 pub const JOBS: usize = 64;
 pub const TIME: i64 = 1_000_000;
+
+/// The share table's text, in bytes (docs/FORMAT.md).
+pub const TEXT: usize = 65_536;

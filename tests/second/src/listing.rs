@@ -1,9 +1,7 @@
 //! The listing of a plan file.
 
 use crate::answer::Answer;
-use crate::file::{self, PlanFile};
-use crate::plan;
-use crate::verdict;
+use crate::{file, plan, ticks, verdict};
 
 /// The listing's bytes into `out`; 12 where they do not fit.
 pub fn list(bytes: &[u8], out: &mut [u8]) -> Answer {
@@ -25,7 +23,7 @@ pub fn text(bytes: &[u8]) -> String {
 
 fn listed(bytes: &[u8]) -> Result<String, Answer> {
     let file = file::parse(bytes)?;
-    let plan = ticks(&file);
+    let plan = ticks::of_runs(&file.runs);
     plan::serves(&plan, &file.partitions)?;
     let mut text = format!("frame {}\n", file.frame);
     for (index, partition) in file.partitions.iter().enumerate() {
@@ -44,11 +42,4 @@ fn listed(bytes: &[u8]) -> Result<String, Answer> {
         text += &format!("task {place} partition {} {end}\n", task.partition);
     }
     Ok(text)
-}
-
-/// The runs as ticks.
-fn ticks(file: &PlanFile) -> Vec<u16> {
-    let runs = file.runs.iter();
-    runs.flat_map(|run| vec![run.owner; run.length as usize])
-        .collect()
 }

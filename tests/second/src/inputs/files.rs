@@ -2,6 +2,7 @@
 
 use super::{faults, plans, tables};
 use crate::rng::Rng;
+use crate::ticks;
 
 #[derive(Clone, Debug, PartialEq)]
 pub struct Tables {
@@ -37,20 +38,6 @@ impl Tables {
     }
 }
 
-/// The ticks as runs.
-pub fn runs(plan: &[u16]) -> Vec<u16> {
-    let mut runs: Vec<u16> = Vec::new();
-    for &owner in plan {
-        let end = runs.len();
-        if end > 0 && runs[end - 2] == owner {
-            runs[end - 1] += 1;
-        } else {
-            runs.extend([owner, 1]);
-        }
-    }
-    runs
-}
-
 /// Good tables, whether the plan serves or not.
 pub fn tables(rng: &mut Rng, longest: usize) -> Tables {
     let frame = rng.between(1, longest);
@@ -65,7 +52,7 @@ pub fn tables(rng: &mut Rng, longest: usize) -> Tables {
         frame: frame as u64,
         parts: tables::partitions(rng, count, frame),
         tasks: tables::tasks(rng, task_count, count, 4096),
-        runs: runs(&plan),
+        runs: ticks::to_runs(&plan),
     }
 }
 
@@ -77,7 +64,7 @@ pub fn serving(rng: &mut Rng, count: usize, longest: usize, task_count: usize) -
     Tables {
         frame: plan.len() as u64,
         tasks: tables::tasks(rng, task_count, partitions, period),
-        runs: runs(&plan),
+        runs: ticks::to_runs(&plan),
         parts,
     }
 }
@@ -89,7 +76,7 @@ pub fn largest(rng: &mut Rng) -> Tables {
         frame: 4096,
         parts: tables::partitions(rng, 16, 4096),
         tasks: tables::tasks(rng, 128, 16, 4096),
-        runs: runs(&plan),
+        runs: ticks::to_runs(&plan),
     }
 }
 

@@ -5,3 +5,4 @@ pub mod files;
 pub mod jobs;
 pub mod plans;
 pub mod tables;
+pub mod texts;

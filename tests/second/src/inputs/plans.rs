@@ -44,19 +44,10 @@ pub fn serving(rng: &mut Rng, parts: &[u16], longest: usize) -> Option<Vec<u16>>
 /// A serving plan for a table of up to `count` partitions, found by trying tables.
 pub fn served(rng: &mut Rng, count: usize, longest: usize) -> (Vec<u16>, Vec<u16>) {
     loop {
-        let parts = some_harmonic(rng, count, longest);
+        let parts = tables::some_harmonic(rng, count, longest);
         if let Some(plan) = serving(rng, &parts, longest) {
             return (plan, parts);
         }
-    }
-}
-
-fn some_harmonic(rng: &mut Rng, count: usize, longest: usize) -> Vec<u16> {
-    let count = rng.between(1, count);
-    if rng.one_in(2) {
-        tables::full(rng, count, longest, false)
-    } else {
-        tables::harmonic(rng, count, longest)
     }
 }
 

@@ -121,3 +121,13 @@ pub fn full(rng: &mut Rng, count: usize, longest: usize, above: bool) -> Vec<u16
         .map(|&number| number as u16)
         .collect()
 }
+
+/// A harmonic table of up to `count` partitions, full or not.
+pub fn some_harmonic(rng: &mut Rng, count: usize, longest: usize) -> Vec<u16> {
+    let count = rng.between(1, count);
+    if rng.one_in(2) {
+        full(rng, count, longest, false)
+    } else {
+        harmonic(rng, count, longest)
+    }
+}

@@ -1,12 +1,12 @@
 //! Calls one behind the other, twice: as they are asked, and as the second program expects them
-//! back. Their shape is told in tests/c/calls.c.
+//! back. Their shape is told in tests/c/batch.h.
 
 use std::ops::Range;
 
 use second::desk::{Desk, Job};
 use second::Answer;
 
-/// The library's entries, by the numbers they have in a batch.
+/// The library's entries and the planner, by the numbers they have in a batch.
 #[derive(Clone, Copy)]
 pub enum Entry {
     Wants,
@@ -21,6 +21,7 @@ pub enum Entry {
     List,
     Open,
     Request,
+    Plan,
 }
 
 /// The numbers of a call: entry, given, answer, and how many slices.

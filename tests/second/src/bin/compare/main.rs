@@ -1,4 +1,4 @@
-//! The library against the second program. Words on the command line choose the trials whose names
+//! The library and the planner against the second program. Words on the command line choose the trials whose names
 //! start with one of them.
 
 mod batch;
@@ -7,7 +7,10 @@ mod desk;
 mod file;
 mod library;
 mod listing;
+mod plan;
+mod programs;
 mod progress;
+mod seen;
 mod service;
 mod settings;
 mod show;
@@ -35,6 +38,7 @@ fn trials() -> Vec<Named> {
         file::TRIALS,
         listing::TRIALS,
         desk::TRIALS,
+        plan::TRIALS,
     ]
     .concat()
 }

@@ -1,10 +1,10 @@
-//! What the environment says: SECOND_SEED, SECOND_CASES, SECOND_SECONDS, SECOND_CALLS.
+//! What the environment says: SECOND_SEED, SECOND_CASES, SECOND_SECONDS, SECOND_CALLS, SECOND_PLAN.
 
 use std::env;
 use std::thread;
 use std::time::{Duration, Instant};
 
-use crate::library::Program;
+use crate::programs::Programs;
 
 const SEED: u64 = 20_011_966;
 
@@ -12,7 +12,7 @@ pub struct Settings {
     pub seed: u64,
     /// How many times as many cases.
     pub times: u64,
-    pub program: Program,
+    pub programs: Programs,
     pub threads: usize,
     end: Option<Instant>,
 }
@@ -23,7 +23,7 @@ impl Settings {
         Ok(Settings {
             seed: number("SECOND_SEED")?.unwrap_or(SEED),
             times: number("SECOND_CASES")?.unwrap_or(1),
-            program: Program::find()?,
+            programs: Programs::find()?,
             threads: thread::available_parallelism().map_or(1, usize::from),
             // A time past all times is no limit.
             end: seconds.and_then(|seconds| Instant::now().checked_add(seconds)),

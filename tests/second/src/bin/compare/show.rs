@@ -13,8 +13,9 @@ type Names = (
 
 /// What is shown as text too.
 const TEXT: &str = "text";
+const LINE: &str = "plan file or line";
 
-const ENTRIES: [Names; 12] = [
+const ENTRIES: [Names; 13] = [
     ("wants", &["m", "num", "den"], &[]),
     ("held", &["p", "s", "n"], &["plan"]),
     ("least", &["p", "t"], &["plan"]),
@@ -27,6 +28,7 @@ const ENTRIES: [Names; 12] = [
     ("list", &[], &["file", TEXT]),
     ("open", &[], &["desk", "jobs"]),
     ("request", &["t", "c", "d"], &["desk", "jobs"]),
+    ("plan", &["read_at_once", "written_at_once"], &[TEXT, LINE]),
 ];
 
 /// So many calls of each entry.
@@ -133,7 +135,7 @@ impl Slice {
         if !behind.is_empty() {
             let _ = write!(text, ", behind it [{}]", elements(behind, self.width));
         }
-        if self.name == TEXT {
+        if [TEXT, LINE].contains(&self.name) {
             let read = String::from_utf8_lossy(lent);
             let _ = write!(text, ": {:?}", read.trim_end_matches('\u{fffd}'));
         }

@@ -11,6 +11,7 @@ use second::Answer;
 
 use crate::batch::{Batch, Call, Entry};
 use crate::library::Library;
+use crate::programs::{Ended, Programs};
 use crate::progress::{InTime, Progress};
 use crate::settings::Settings;
 use crate::show::{self, Tally};
@@ -32,7 +33,9 @@ pub struct Trial {
     times: u64,
     progress: Rc<Progress>,
     shares_left_out: bool,
-    library: Library,
+    programs: Programs,
+    /// What answers the calls; the first one chooses it.
+    library: Option<Library>,
     batch: Batch,
     reply: Vec<u8>,
     most_calls: usize,
@@ -58,7 +61,8 @@ impl Trial {
             times: settings.times,
             progress: Progress::new(until),
             shares_left_out: false,
-            library: Library::new(&settings.program),
+            programs: settings.programs.clone(),
+            library: None,
             batch: Batch::new(),
             reply: Vec::new(),
             most_calls: 1,
@@ -82,15 +86,27 @@ impl Trial {
         if self.batch.calls() >= self.most_calls || self.batch.asked.len() >= MANY_BYTES {
             self.send();
         }
+        let program = self.programs.answering(entry);
+        self.library.get_or_insert_with(|| Library::new(program));
         self.tally[entry as usize] += 1;
         self.batch.call(entry, given, answer)
     }
 
+    /// Runs the planner by itself.
+    pub fn plan_alone(&mut self, text: &[u8]) -> Ended {
+        self.tally[Entry::Plan as usize] += 1;
+        let ended = self.programs.plan(text);
+        ended.unwrap_or_else(|why| self.fail(&why))
+    }
+
     /// Sends the batch, and compares what comes back with what the second program expects.
     fn send(&mut self) {
+        let Some(library) = &mut self.library else {
+            return;
+        };
         let begun = Instant::now();
         self.reply.resize(self.batch.asked.len(), 0);
-        let answered = self.library.answer(&self.batch.asked, &mut self.reply);
+        let answered = library.answer(&self.batch.asked, &mut self.reply);
         answered.unwrap_or_else(|why| self.fail(&why));
         if self.reply != self.batch.expected {
             self.complain();
@@ -144,7 +160,7 @@ impl Trial {
         if self.batch.calls() > 0 {
             self.send();
         }
-        let ended = self.library.end();
+        let ended = self.library.as_mut().map_or(Ok(()), Library::end);
         ended.unwrap_or_else(|why| self.fail(&why));
         let cases = self.progress.ran();
         let mut left_out = String::new();

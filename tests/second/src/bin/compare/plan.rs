@@ -1,0 +1,305 @@
+//! The planner: the program against the second one, from a share table's text to a plan file.
+
+use second::inputs::{faults, tables, texts};
+use second::limits::TEXT;
+use second::rng::Rng;
+use second::share_table::ShareTable;
+use second::{file, plan, planner, ticks, Answer};
+
+use crate::batch::Entry;
+use crate::programs::Ended;
+use crate::seen::Seen;
+use crate::trial::{Named, Trial};
+
+pub const TRIALS: &[Named] = &[
+    ("plan, by hand", by_hand),
+    ("plan, good tables", good_tables),
+    ("plan, full and one tick more", full_and_one_tick_more),
+    ("plan, faults", faults),
+    ("plan, damaged texts", damaged_texts),
+    ("plan, words that don't belong", words_that_dont_belong),
+    ("plan, each word at each place", each_word_at_each_place),
+    ("plan, at the limits", at_the_limits),
+    ("plan, long texts", long_texts),
+    ("plan, far lines", far_lines),
+    ("plan, a process each", a_process_each),
+];
+
+const PATTERN: u8 = 0xA5;
+/// Room for any line, so that a complaint shows the whole of a wrong one.
+const BEHIND: usize = 64;
+
+/// All at once: more bytes than any text or plan file has.
+const WHOLE: u64 = 1 << 20;
+
+/// Gives the text to both programs; reads and writes may come to only so many bytes at a time.
+fn compare_in_pieces(trial: &mut Trial, text: &[u8], read: u64, written: u64) -> Vec<u8> {
+    let wanted = planner::answer(text);
+    let before = vec![PATTERN; wanted.len() + BEHIND];
+    let after = [&wanted[..], &[PATTERN; BEHIND]].concat();
+    let answer = Answer::good([wanted.len() as u64, 0, 0, 0]);
+    let call = trial.call(Entry::Plan, [read, written, 0], answer);
+    call.reads(text).writes(before.len(), &before, &after);
+    wanted
+}
+
+fn compare(trial: &mut Trial, text: &[u8]) -> Vec<u8> {
+    let [read, written] = [0; 2].map(|_| trial.rng.pick(&[WHOLE, WHOLE, WHOLE, 1, 7, 1000]));
+    compare_in_pieces(trial, text, read, written)
+}
+
+/// A plan that was written serves its table.
+fn serves(trial: &Trial, table: &ShareTable, answer: &[u8]) {
+    if let Ok(written) = file::parse(answer) {
+        let ticks = ticks::of_runs(&written.runs);
+        trial.same(table, plan::check(&ticks, &table.parts).number, 0);
+    }
+}
+
+const BY_HAND: [&str; 24] = [
+    "",
+    "\n",
+    "\r\n\t \n",
+    "#",
+    "# only\n  # comments\n",
+    "partition 4 1/2",
+    "partition 4 1/2\n",
+    "partition 4 1/2\r\n",
+    "\r partition\r4\r1\r/\r2\r\n",
+    "partition\t4 1 / 2\n",
+    "partition 4 1/ 2\ntask 1 1 4 4",
+    "task 1 1 4 4\npartition 4 1 /2#x",
+    "partition 4 1/2/3\n",
+    "partition 4 1//2\n",
+    "partition 4 /2\n",
+    "partition 4 1/2 #\npartition 4 1/2#\n#partition 4 1/2\n",
+    "partition 4 1/2 partition 4 1/2\n",
+    "partition\n4 1/2\n",
+    "partition4 1/2\n",
+    "PARTITION 4 1/2\n",
+    "\n\n\n# three lines\npartition 4 1\n",
+    "partition 4 1/4\npartition 8 3/8\npartition 8 1/100\n",
+    "partition 4 1/4\npartition 8 3/8\npartition 8 1/2\n",
+    "partition 4 1/1\npartition 6 1/1\n",
+];
+
+fn by_hand(trial: &mut Trial) {
+    for text in trial.each(BY_HAND) {
+        for read in [WHOLE, 1, 2, 3] {
+            for written in [WHOLE, 1, 2, 3] {
+                compare_in_pieces(trial, text.as_bytes(), read, written);
+            }
+        }
+    }
+}
+
+fn good_tables(trial: &mut Trial) {
+    let mut seen = Seen::default();
+    for _ in trial.cases(20_000) {
+        let longest = trial.rng.pick(&[1, 4, 12, 48, 200, 4096, 4096]);
+        let partitions = trial.rng.pick(&[1, 3, 6, 16, 16]);
+        let tasks = trial.rng.pick(&[0, 1, 2, 5, 20]);
+        let table = texts::table(&mut trial.rng, partitions, longest, tasks);
+        let text = texts::laid_out(&mut trial.rng, &table);
+        let answer = compare(trial, &text);
+        seen.note(&answer);
+        // The checker costs a frame times a cycle.
+        if longest <= 200 {
+            serves(trial, &table, &answer);
+        }
+    }
+    seen.share(trial, &["a plan"], [1, 2]);
+    let shapes = [
+        "one run",
+        "many runs",
+        "idle at the end",
+        "owned at the end",
+    ];
+    seen.share(trial, &shapes, [1, 50]);
+}
+
+fn full_and_one_tick_more(trial: &mut Trial) {
+    let mut seen = Seen::default();
+    for _ in trial.cases(10_000) {
+        let longest = trial.rng.between(1, 100);
+        let count = trial.rng.pick(&[1, 2, 4, 16]);
+        let above = trial.rng.one_in(2);
+        let parts = tables::full(&mut trial.rng, count, longest, above);
+        let tasks = Vec::new();
+        let text = texts::plain(&ShareTable { parts, tasks });
+        seen.note(&compare(trial, &text));
+    }
+    seen.share(trial, &["a plan", "refused 11"], [1, 20]);
+}
+
+/// Numbers that break the rules of the tables, and cycles that don't divide one another.
+fn faults(trial: &mut Trial) {
+    let mut seen = Seen::default();
+    for _ in trial.cases(20_000) {
+        let rng = &mut trial.rng;
+        let tasks = rng.between(0, 5);
+        let mut table = texts::table(rng, 5, 64, tasks);
+        let partitions = table.parts.len() / 3;
+        if rng.one_in(3) {
+            let place = rng.between(0, partitions - 1);
+            table.parts[3 * place] = rng.between(1, 70) as u16;
+        }
+        if rng.one_in(3) {
+            faults::partitions(rng, &mut table.parts, 4096);
+        }
+        if rng.one_in(2) {
+            faults::tasks(rng, &mut table.tasks, partitions);
+        }
+        let text = texts::laid_out(rng, &table);
+        seen.note(&compare(trial, &text));
+    }
+    let refusals = ["refused 3", "refused 6", "refused 7", "refused 10"];
+    seen.share(trial, &refusals, [1, 50]);
+    seen.share(trial, &["a plan"], [1, 20]);
+}
+
+/// What the text's lines are answered with.
+const EXPECTED: [&str; 4] = [
+    "`partition` or `task`",
+    "a number from 0 to 65535",
+    "`/`",
+    "the end of the line",
+];
+
+fn some_text(rng: &mut Rng) -> Vec<u8> {
+    let partitions = rng.pick(&[1, 2, 4]);
+    let tasks = rng.pick(&[0, 1, 3]);
+    let table = texts::table(rng, partitions, 24, tasks);
+    texts::laid_out(rng, &table)
+}
+
+fn damaged_text(rng: &mut Rng) -> Vec<u8> {
+    let mut text = some_text(rng);
+    for _ in 0..rng.pick(&[1, 1, 2, 3]) {
+        texts::damage(rng, &mut text);
+    }
+    text
+}
+
+fn damaged_texts(trial: &mut Trial) {
+    let mut seen = Seen::default();
+    for _ in trial.cases(40_000) {
+        let text = damaged_text(&mut trial.rng);
+        seen.note(&compare(trial, &text));
+    }
+    seen.share(trial, &EXPECTED, [1, 100]);
+    seen.share(trial, &["a plan"], [1, 20]);
+}
+
+fn words_that_dont_belong(trial: &mut Trial) {
+    let mut seen = Seen::default();
+    for _ in trial.cases(40_000) {
+        let rng = &mut trial.rng;
+        let tasks = rng.between(0, 3);
+        let table = texts::table(rng, 3, 24, tasks);
+        let mut lines = texts::lines(&table);
+        rng.shuffle(&mut lines);
+        texts::spoil_words(rng, &mut lines);
+        seen.note(&compare(trial, &texts::joined(&lines)));
+    }
+    seen.share(trial, &EXPECTED, [1, 50]);
+    seen.share(trial, &["a plan"], [1, 20]);
+}
+
+/// Before each word of a line, in its place, and behind the last; the line goes on, or ends there.
+fn each_word_at_each_place(trial: &mut Trial) {
+    let table = ShareTable {
+        parts: vec![8, 1, 4],
+        tasks: vec![1, 1, 8, 8],
+    };
+    let good = texts::lines(&table);
+    for odd in trial.each(texts::ODD_WORDS) {
+        for (at, words) in good.iter().enumerate() {
+            for place in 0..=words.len() {
+                for rest in [place, place + 1, words.len()] {
+                    let rest = words.get(rest..).unwrap_or_default();
+                    let mut lines = good.clone();
+                    lines[at] = [&words[..place], &[odd.to_vec()], rest].concat();
+                    compare(trial, &texts::joined(&lines));
+                }
+            }
+        }
+    }
+}
+
+/// So many partitions and tasks; the first owns every second tick, so that each run is one tick.
+fn many(partitions: usize, tasks: usize) -> ShareTable {
+    let mut parts = [4096, 1, 1000].repeat(partitions);
+    if let [cycle, _, den, ..] = &mut parts[..] {
+        [*cycle, *den] = [2, 2];
+    }
+    let tasks = [1, 1, 2, 4096].repeat(tasks);
+    ShareTable { parts, tasks }
+}
+
+fn at_the_limits(trial: &mut Trial) {
+    let mut longest = 0;
+    for partitions in trial.each([16, 17, 0, 1, 2, 15, 18, 32, 256, 272]) {
+        for tasks in [0, 1, 127, 128, 129, 130, 255, 256, 257, 384] {
+            let text = texts::plain(&many(partitions, tasks));
+            longest = longest.max(compare(trial, &text).len());
+            // A wrong line comes first, a bad record last.
+            for line in ["partition 4 1", "partition 0 1/1", "task 1 2 1 1"] {
+                compare(trial, &[&text[..], line.as_bytes()].concat());
+                compare(trial, &[line.as_bytes(), b"\n", &text[..]].concat());
+            }
+        }
+    }
+    trial.same("the longest plan file", longest, 17_520);
+}
+
+/// A good table filled up to so many bytes: before a word, behind one, within one, in a line of
+/// its own, at the end.
+const PLACES: [usize; 8] = [0, 9, 10, 11, 12, 15, 16, 29];
+
+fn filled(bytes: usize, filler: u8, place: usize) -> Vec<u8> {
+    let (before, behind) = b"partition 8 1/4\ntask 1 1 8 8\n".split_at(place);
+    let more = bytes - before.len() - behind.len();
+    [before, &vec![filler; more], behind].concat()
+}
+
+fn long_texts(trial: &mut Trial) {
+    let fillers = *b" \n#0\tx";
+    let cases = PLACES
+        .iter()
+        .flat_map(|&place| fillers.map(|filler| (place, filler)));
+    for (place, filler) in trial.each(cases) {
+        for bytes in [TEXT - 1, TEXT, TEXT + 1, TEXT + 2, 70_000, 2 * TEXT] {
+            let text = filled(bytes, filler, place);
+            compare_in_pieces(trial, &text, WHOLE, WHOLE);
+        }
+    }
+}
+
+/// A wrong line behind so many blank ones that its number gets a digit or a bit more.
+fn far_lines(trial: &mut Trial) {
+    let edges = faults::EDGES.map(usize::from);
+    let digits = [9, 10, 11, 99, 100, 101, 255, 256, 257, 9999, 10_000];
+    for blank in trial.each([edges.to_vec(), digits.to_vec()].concat()) {
+        let text = [vec![b'\n'; blank], vec![b'x']].concat();
+        compare_in_pieces(trial, &text, WHOLE, WHOLE);
+    }
+}
+
+/// As people run it: over a pipe.
+fn a_process_each(trial: &mut Trial) {
+    for case in trial.cases(60) {
+        let text = match case % 4 {
+            0 => filled(TEXT + case as usize % 3 - 1, b' ', 0),
+            1 => damaged_text(&mut trial.rng),
+            _ => some_text(&mut trial.rng),
+        };
+        let found = trial.plan_alone(&text);
+        let wanted = Ended {
+            status: Some(0),
+            out: planner::answer(&text).escape_ascii().to_string(),
+            said: String::new(),
+        };
+        trial.same(text.escape_ascii().to_string(), found, wanted);
+    }
+}
