@@ -134,8 +134,9 @@ merkazobi_answer merkazobi_verdict(const uint16_t *plan, size_t ticks, const uin
 merkazobi_answer merkazobi_read(const uint8_t *file, size_t bytes);
 
 /* "The reader hands back each body as a part of the file itself": which is 0 for partitions, 1 for tasks, 2 for runs.
-   first and second: the byte where the part starts and the one behind its end; both are 0 for a file that is not
-   accepted, and for any other which. number is always 0. The numbers in the part have two bytes, high byte first. */
+   first and second: the byte where the part starts and the one behind its end; for any other which both are 0, an
+   empty part. The numbers in the part have two bytes, high byte first. A file that is not accepted is answered as by
+   merkazobi_read, whatever which is: refusals 1 to 8. */
 merkazobi_answer merkazobi_section(const uint8_t *file, size_t bytes, size_t which);
 
 /* The writer: "puts each body into its own stretch of the lent output". first: the file's length in bytes. part_numbers

@@ -129,7 +129,7 @@ static void nulls(void)
     expect("null output", merkazobi_build(parts, 3, NULL, 0).number, MERKAZOBI_OUTPUT);
     expect("null tasks", merkazobi_verdict(plan, FRAME, parts, PARTS, NULL, 0, 1).number, MERKAZOBI_TASK);
     expect("null file", merkazobi_read(NULL, 0).number, MERKAZOBI_FILE_SHORT);
-    expect("null part", merkazobi_section(NULL, 0, 0).second, 0);
+    expect("null part", merkazobi_section(NULL, 0, 0).number, MERKAZOBI_FILE_SHORT);
     expect("null listing", merkazobi_list(NULL, 0, NULL, 0).number, MERKAZOBI_OUTPUT);
     expect("null runs", merkazobi_write(1, parts, 3, NULL, 0, NULL, 0, NULL, 0).number, MERKAZOBI_LIMITS);
     expect("null jobs", merkazobi_open(&desk, NULL, 0).number, MERKAZOBI_TABLE);

@@ -146,6 +146,12 @@ fn w1() {
         found,
         bodies.map(|[from, to]| Answer::good([from, to, 0, 0]))
     );
+    let mut bad = W1;
+    bad[27] = 0;
+    for which in 0..4 {
+        assert_eq!(section(&W1[..15], which), Answer::refused(1));
+        assert_eq!(section(&bad, which), Answer::refused_at(6, 2));
+    }
     let mut out = [77; 45];
     let parts = [4, 1, 2, 4, 1, 3];
     let answer = write(4, &parts, &[1, 1, 4, 4], &[1, 2, 2, 2], &mut out);

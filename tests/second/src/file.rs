@@ -99,16 +99,16 @@ pub fn read(file: &[u8]) -> Answer {
     }
 }
 
-/// Where a body of an accepted file starts and ends: 0 partitions, 1 tasks, 2 runs.
+/// Where a body of an accepted file starts and ends: 0 partitions, 1 tasks, 2 runs; any other is
+/// empty. A file that isn't accepted has no bodies, and is answered as by the reader.
 pub fn section(file: &[u8], which: u64) -> Answer {
-    let body = match parse(file) {
-        Ok(good) => {
-            let counts = [good.partitions.len(), good.tasks.len(), good.runs.len()];
-            let which = usize::try_from(which).unwrap_or(usize::MAX);
-            bodies(counts).get(which).cloned().unwrap_or(0..0)
-        }
-        Err(_) => 0..0,
+    let good = match parse(file) {
+        Ok(good) => good,
+        Err(refusal) => return refusal,
     };
+    let counts = [good.partitions.len(), good.tasks.len(), good.runs.len()];
+    let which = usize::try_from(which).unwrap_or(usize::MAX);
+    let body = bodies(counts).get(which).cloned().unwrap_or(0..0);
     Answer::good([body.start as u64, body.end as u64, 0, 0])
 }
 

@@ -27,11 +27,15 @@ const W1: [u8; 44] = [
     1, 0, 4, 0, 4, 0, 1, 0, 2, 0, 2, 0, 2,
 ];
 
-/// The reader and every section; the refusal's number.
+/// The reader and every section; the refusal's number. Of a refused file the sections tell what
+/// the reader does, whichever is asked for.
 fn compare_read(trial: &mut Trial, bytes: &[u8]) -> u64 {
     let answer = read(trial, bytes);
     for which in [0, 1, 2, 3, 1 << 32, u64::MAX] {
-        section(trial, bytes, which);
+        let part = section(trial, bytes, which);
+        if answer.number != 0 {
+            trial.same((bytes, which), part, answer);
+        }
     }
     answer.number
 }
