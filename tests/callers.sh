@@ -24,6 +24,7 @@ tried() {
     is "$1" $? 0
 }
 tried desk.c c99
+tried entries.c c11
 tried limits.c c11
 tried caller.cpp c++11
 

@@ -1,0 +1,421 @@
+/* Each entry with all five numbers of its answers, and with all that is lent to it: after a call there stands what it
+   is to write, and else what stood there before, in the inputs and behind the outputs too. Examples and refusal numbers
+   are document 01's; the numbers are not taken from the header, which limits.c tries against the library. */
+#include <string.h>
+
+#include "expect.h"
+#include "merkazobi.h"
+
+enum { PATTERN = 0xA5 };
+enum { PARTS = 9, TASKS = 8, TICKS = 8, RUNS = 10, FILE_BYTES = 70, PLACES = MERKAZOBI_PLACES };
+
+/* P1 with the tasks of V1 and V2, its file's contents and its listing. */
+static const uint16_t parts[PARTS] = {4, 1, 4, 8, 3, 8, 8, 1, 100};
+static const uint16_t tasks[TASKS] = {2, 2, 8, 16, 2, 2, 14, 32};
+static const uint16_t plan[TICKS] = {1, 2, 2, 2, 1, 3, 0, 0};
+static const uint16_t runs[RUNS] = {1, 1, 2, 3, 1, 1, 3, 1, 0, 2};
+static const uint16_t contents[] = {1, TICKS, 16, PARTS / 3, 34, TASKS / 4, 50, RUNS / 2};
+static const char listing[] = "frame 8\n"
+                              "partition 1 wants 1 in 4 least 1\n"
+                              "partition 2 wants 3 in 8 least 3\n"
+                              "partition 3 wants 1 in 8 least 1\n"
+                              "task 1 partition 2 pass 8\n"
+                              "task 2 partition 2 pass 14\n";
+
+/* Partition 2 wants 5 in 7 ticks, and from tick 3 on it has only 4: four values of which no two are equal. */
+static const uint16_t short_parts[] = {10, 1, 10, 7, 5, 7};
+static const uint16_t short_plan[] = {2, 2, 2, 2, 2, 2, 2, 1, 0, 0};
+
+static const uint8_t w1[] = {0, 1, 0, 4, 0, 16, 0, 2, 0, 28, 0, 1, 0, 36, 0, 2, 0, 4, 0, 1, 0, 2,
+                             0, 4, 0, 1, 0, 3,  0, 1, 0, 1,  0, 4, 0, 4,  0, 1, 0, 2, 0, 2, 0, 2};
+static const char w1_listing[] = "frame 4\n"
+                                 "partition 1 wants 2 in 4 least 2\n"
+                                 "partition 2 wants 2 in 4 least 2\n"
+                                 "task 1 partition 1 pass 4\n";
+
+/* All that is lent, with room behind, and what has to stand there after the call. */
+typedef struct {
+    uint16_t parts[2 * PARTS], tasks[2 * TASKS], plan[2 * TICKS], runs[2 * RUNS];
+    uint16_t ticks[2 * TICKS];
+    uint8_t file[2 * FILE_BYTES];
+    uint8_t out[2 * sizeof listing];
+    merkazobi_desk desk[2];
+    merkazobi_job jobs[PLACES + 1];
+} memory;
+static memory lent, wanted;
+
+/* One number of what is lent is another. */
+#define SET(where, number) (lent.where = wanted.where = (number))
+#define PUT(where, from) (memcpy(lent.where, from, sizeof from), memcpy(wanted.where, from, sizeof from))
+
+static uint8_t *put_numbers(uint8_t *file, const uint16_t *numbers, size_t count)
+{
+    for (size_t i = 0; i < count; i++) {
+        *file++ = (uint8_t)(numbers[i] >> 8);
+        *file++ = (uint8_t)numbers[i];
+    }
+    return file;
+}
+
+/* The tables and the file of P1. */
+static void begin(void)
+{
+    memset(&lent, PATTERN, sizeof lent);
+    memcpy(lent.parts, parts, sizeof parts);
+    memcpy(lent.tasks, tasks, sizeof tasks);
+    memcpy(lent.plan, plan, sizeof plan);
+    memcpy(lent.runs, runs, sizeof runs);
+    uint8_t *bodies = put_numbers(lent.file, contents, 8);
+    bodies = put_numbers(put_numbers(bodies, parts, PARTS), tasks, TASKS);
+    put_numbers(bodies, runs, RUNS);
+    memcpy(&wanted, &lent, sizeof lent);
+}
+
+static void ends(const char *what, merkazobi_answer r, merkazobi_answer told)
+{
+    if (memcmp(&r, &told, sizeof r) != 0) {
+        printf("%s: %zu (%zu %zu %zu %zu), not %zu (%zu %zu %zu %zu)\n", what, r.number, r.first, r.second, r.third,
+               r.fourth, told.number, told.first, told.second, told.third, told.fourth);
+        failures++;
+    }
+    const uint8_t *found = (const uint8_t *)&lent, *stands = (const uint8_t *)&wanted;
+    size_t at = 0;
+    while (at < sizeof lent && found[at] == stands[at])
+        at++;
+    if (at < sizeof lent) {
+        printf("%s: byte %zu of what is lent is %d, not %d\n", what, at, found[at], stands[at]);
+        failures++;
+    }
+}
+
+static merkazobi_answer told(size_t number, size_t first)
+{
+    return (merkazobi_answer){number, first, 0, 0, 0};
+}
+
+/* ---- Shares and plans. */
+
+static void wants(void)
+{
+    expect("wants, P1", merkazobi_wants(8, 3, 8), 3);
+    expect("wants, P1 rounded up", merkazobi_wants(8, 1, 100), 1);
+    expect("wants", merkazobi_wants(8, 3, 5), 5);
+    expect("wants, the longest cycle", merkazobi_wants(4096, 999, 1000), 4092);
+    expect("wants, den 0", merkazobi_wants(8, 3, 0), 0);
+}
+
+static void service(void)
+{
+    begin();
+    expect("held", merkazobi_held(lent.plan, TICKS, 2, 1, 4), 3);
+    expect("held across the end", merkazobi_held(lent.plan, TICKS, 2, 3, 8), 3);
+    expect("held from past the end", merkazobi_held(lent.plan, TICKS, 2, 11, 6), 1);
+    expect("held idle", merkazobi_held(lent.plan, TICKS, 0, 5, 11), 4);
+    const uint32_t times[] = {0, 5, 8, 13, 14};
+    const size_t least[] = {0, 0, 3, 3, 4};
+    for (size_t i = 0; i < 5; i++)
+        expect("S1", merkazobi_least(lent.plan, TICKS, 2, times[i]), least[i]);
+    ends("held and least", told(0, 0), told(0, 0));
+}
+
+static merkazobi_answer build(size_t part_numbers, size_t ticks)
+{
+    return merkazobi_build(lent.parts, part_numbers, lent.ticks, ticks);
+}
+
+static void builds(void)
+{
+    static const uint16_t p2[] = {1, 2, 2, 2, 1, 3, 3, 3};
+    begin();
+    memcpy(wanted.ticks, plan, sizeof plan);
+    ends("P1", build(PARTS, TICKS), told(0, 8));
+    begin();
+    memcpy(wanted.ticks, plan, sizeof plan);
+    ends("P1 into a longer output", build(PARTS, TICKS + 1), told(0, 8));
+    begin();
+    SET(parts[7], 3), SET(parts[8], 8);
+    memcpy(wanted.ticks, p2, sizeof p2);
+    ends("P2", build(PARTS, TICKS), told(0, 8));
+}
+
+static void build_refusals(void)
+{
+    begin();
+    ends("build, 3", build(PARTS - 1, TICKS), told(3, 0));
+    ends("build, 12", build(PARTS, TICKS - 1), told(12, 0));
+    SET(parts[8], 2);
+    ends("P3", build(PARTS, TICKS), told(11, 0));
+    SET(parts[3], 6);
+    ends("P4", build(6, TICKS), told(10, 0));
+    SET(parts[4], 0);
+    ends("build, 6", build(PARTS, TICKS), told(6, 2));
+}
+
+static merkazobi_answer check(size_t ticks, size_t part_numbers)
+{
+    return merkazobi_check(lent.plan, ticks, lent.parts, part_numbers);
+}
+
+static void checks(void)
+{
+    static const uint16_t p5[] = {1, 1, 0, 0, 0, 0, 1, 1};
+    begin();
+    ends("check", check(TICKS, PARTS), told(0, 0));
+    ends("check, 3", check(0, PARTS), told(3, 0));
+    SET(plan[5], 4);
+    ends("check, 8", check(TICKS, PARTS), told(8, 6));
+    SET(parts[6], TICKS + 1);
+    ends("check, 6", check(TICKS, PARTS), told(6, 3));
+    begin();
+    PUT(plan, p5);
+    SET(parts[2], 2);
+    ends("P5", check(TICKS, 3), (merkazobi_answer){9, 1, 1, 1, 2});
+    begin();
+    PUT(plan, short_plan);
+    PUT(parts, short_parts);
+    ends("check, 9", check(10, 6), (merkazobi_answer){9, 2, 3, 4, 5});
+}
+
+static merkazobi_answer verdict(size_t task_numbers, size_t place)
+{
+    return merkazobi_verdict(lent.plan, TICKS, lent.parts, PARTS, lent.tasks, task_numbers, place);
+}
+
+static void verdicts(void)
+{
+    begin();
+    ends("V1", verdict(TASKS, 1), told(0, 8));
+    ends("V2", verdict(TASKS, 2), told(0, 14));
+    ends("a place behind the table", verdict(TASKS, 3), told(7, 0));
+    ends("place 0", verdict(TASKS, 0), told(7, 0));
+    SET(tasks[6], 13);
+    ends("V2, fail", verdict(TASKS, 2), told(0, 0));
+    ends("verdict, 3", verdict(TASKS - 1, 1), told(3, 0));
+    SET(plan[6], 4);
+    ends("verdict, 8", verdict(TASKS, 1), told(8, 7));
+    SET(tasks[5], 14);
+    ends("verdict, 7", verdict(TASKS, 1), told(7, 2));
+    SET(parts[6], 0);
+    ends("verdict, 6", verdict(TASKS, 1), told(6, 3));
+    begin();
+    PUT(plan, short_plan);
+    PUT(parts, short_parts);
+    ends("verdict, 9", merkazobi_verdict(lent.plan, 10, lent.parts, 6, lent.tasks, TASKS, 1),
+         (merkazobi_answer){9, 2, 3, 4, 5});
+}
+
+/* ---- The plan file. */
+
+/* Another number, or another length, has the file refused. */
+static const struct {
+    size_t at;
+    uint16_t number;
+    size_t bytes;
+    merkazobi_answer told;
+} refused[] = {
+    {0, 1, 15, {.number = 1}},
+    {0, 2, FILE_BYTES, {.number = 2}},
+    {1, 0, FILE_BYTES, {.number = 3}},
+    {4, 36, FILE_BYTES, {.number = 4}},
+    {0, 1, FILE_BYTES + 1, {.number = 5}},
+    {15, 0, FILE_BYTES, {.number = 6, .first = 3}},
+    {22, 0, FILE_BYTES, {.number = 7, .first = 2}},
+    {31, 4, FILE_BYTES, {.number = 8, .first = 4}},
+};
+enum { REFUSED = sizeof refused / sizeof *refused };
+
+static void begin_file(size_t at, uint16_t number)
+{
+    begin();
+    put_numbers(&lent.file[2 * at], &number, 1);
+    put_numbers(&wanted.file[2 * at], &number, 1);
+}
+
+static merkazobi_answer section(size_t which, size_t bytes)
+{
+    return merkazobi_section(lent.file, bytes, which);
+}
+
+static void reads(void)
+{
+    begin();
+    ends("read", merkazobi_read(lent.file, FILE_BYTES), (merkazobi_answer){0, 8, 3, 2, 5});
+    PUT(file, w1);
+    ends("W1", merkazobi_read(lent.file, sizeof w1), (merkazobi_answer){0, 4, 2, 1, 2});
+    ends("W1, partitions", section(0, sizeof w1), (merkazobi_answer){0, 16, 28, 0, 0});
+    ends("W1, tasks", section(1, sizeof w1), (merkazobi_answer){0, 28, 36, 0, 0});
+    ends("W1, runs", section(2, sizeof w1), (merkazobi_answer){0, 36, 44, 0, 0});
+    ends("W1, no such part", section(3, sizeof w1), told(0, 0));
+    ends("W1, no such part either", section(SIZE_MAX, sizeof w1), told(0, 0));
+    for (size_t i = 0; i < REFUSED; i++) {
+        begin_file(refused[i].at, refused[i].number);
+        ends("read, refused", merkazobi_read(lent.file, refused[i].bytes), refused[i].told);
+        for (size_t which = 0; which < 4; which++)
+            ends("section, refused", section(which, refused[i].bytes), refused[i].told);
+    }
+}
+
+static merkazobi_answer write_out(size_t frame, size_t bytes)
+{
+    return merkazobi_write(frame, lent.parts, PARTS, lent.tasks, TASKS, lent.runs, RUNS, lent.out, bytes);
+}
+
+static void writes(void)
+{
+    static const uint16_t w1_parts[] = {4, 1, 2, 4, 1, 3}, w1_tasks[] = {1, 1, 4, 4}, w1_runs[] = {1, 2, 2, 2};
+    begin();
+    PUT(parts, w1_parts);
+    PUT(tasks, w1_tasks);
+    PUT(runs, w1_runs);
+    memcpy(wanted.out, w1, sizeof w1);
+    ends("W1 written", merkazobi_write(4, lent.parts, 6, lent.tasks, 4, lent.runs, 4, lent.out, sizeof w1),
+         told(0, 44));
+    begin();
+    memcpy(wanted.out, lent.file, FILE_BYTES);
+    ends("written into a longer output", write_out(TICKS, FILE_BYTES + 1), told(0, FILE_BYTES));
+}
+
+static void write_refusals(void)
+{
+    begin();
+    ends("write, 12", write_out(TICKS, FILE_BYTES - 1), told(12, 0));
+    ends("write, 3", write_out(0, FILE_BYTES), told(3, 0));
+    SET(runs[9], 3);
+    ends("write, 8", write_out(TICKS, FILE_BYTES), told(8, 5));
+    SET(tasks[4], 4);
+    ends("write, 7", write_out(TICKS, FILE_BYTES), told(7, 2));
+    SET(parts[6], TICKS + 1);
+    ends("write, 6", write_out(TICKS, FILE_BYTES), told(6, 3));
+}
+
+static merkazobi_answer list(size_t file_bytes, size_t bytes)
+{
+    return merkazobi_list(lent.file, file_bytes, lent.out, bytes);
+}
+
+static void lists(const char *what, size_t file_bytes, const char *text)
+{
+    const size_t length = strlen(text);
+    ends(what, list(file_bytes, length - 1), told(12, 0));
+    memcpy(wanted.out, text, length);
+    ends(what, list(file_bytes, length), told(0, length));
+    ends(what, list(file_bytes, length + 1), told(0, length));
+}
+
+static void listings(void)
+{
+    begin();
+    lists("the listing", FILE_BYTES, listing);
+    begin();
+    PUT(file, w1);
+    lists("W1's listing", sizeof w1, w1_listing);
+    char line[] = "refused 1\n";
+    for (size_t i = 0; i < REFUSED; i++, line[8]++) {
+        begin_file(refused[i].at, refused[i].number);
+        lists("a refused file's listing", refused[i].bytes, line);
+    }
+    begin_file(31, 2);
+    lists("the listing of a plan that doesn't serve", FILE_BYTES, "refused 9\n");
+}
+
+/* ---- The desk. */
+
+static const merkazobi_job d1[] = {{10, 3, 20, 6}, {15, 5, 24, 4}, {30, 2, 40, 8}};
+
+/* The clock, and so many jobs with zeros behind them. */
+static void stand(memory *at, uint32_t clock, const merkazobi_job *jobs, uint32_t count)
+{
+    memset(at->jobs, 0, PLACES * sizeof *jobs);
+    memcpy(at->jobs, jobs, count * sizeof *jobs);
+    at->desk[0] = (merkazobi_desk){clock, count};
+}
+
+static void begin_desk(uint32_t clock, const merkazobi_job *jobs, uint32_t count)
+{
+    begin();
+    stand(&lent, clock, jobs, count);
+    stand(&wanted, clock, jobs, count);
+}
+
+static void opens(void)
+{
+    begin_desk(77, d1, 3);
+    lent.jobs[0].x = lent.jobs[2].x = 0, lent.jobs[1].x = 7;
+    stand(&wanted, 0, d1, 3);
+    ends("D1", merkazobi_open(lent.desk, lent.jobs, PLACES), told(0, 0));
+    begin_desk(77, d1, 3);
+    SET(jobs[0].x, 0);
+    SET(jobs[1].d, 19);
+    ends("open, 13", merkazobi_open(lent.desk, lent.jobs, PLACES), told(13, 0));
+}
+
+static merkazobi_answer request(uint32_t t, uint32_t c, uint32_t d)
+{
+    return merkazobi_request(lent.desk, lent.jobs, PLACES, t, c, d);
+}
+
+static void requests(void)
+{
+    static const merkazobi_job d2[] = {{8, 6, 16, 2}, {14, 3, 20, 2}, {17, 5, 24, 2}, {30, 2, 40, 8}};
+    static const merkazobi_job d3[] = {{8, 8, 40, 0}, {16, 3, 20, 0}, {19, 5, 24, 0}, {30, 2, 40, 8}};
+    static const merkazobi_job d4[] = {{10, 3, 20, 6}, {15, 5, 24, 4}, {20, 9, 40, 9}, {30, 2, 40, 8}};
+    begin_desk(0, d1, 3);
+    stand(&wanted, 8, d2, 4);
+    ends("D2", request(8, 6, 16), (merkazobi_answer){0, 0, 8, 0, 0});
+    begin_desk(0, d1, 3);
+    stand(&wanted, 8, d3, 4);
+    ends("D3", request(8, 8, 40), (merkazobi_answer){0, 0, 8, 0, 0});
+    begin_desk(0, d1, 3);
+    stand(&wanted, 8, d4, 4);
+    ends("D4", request(8, 9, 40), (merkazobi_answer){0, 2, 20, 0, 0});
+}
+
+/* "13, 14, 15 and 19 change nothing at the desk." */
+static void requests_that_change_nothing(void)
+{
+    begin_desk(9, d1, 3);
+    ends("request, 14", request(9, 0, 40), told(14, 0));
+    ends("request, 14 for the time", request(1000001, 1, 40), told(14, 0));
+    ends("request, 15", request(8, 1, 40), told(15, 0));
+    SET(jobs[1].x, 3);
+    ends("request, 13", request(9, 1, 40), told(13, 0));
+}
+
+/* "16, 17, 18 set the clock to t and drop finished jobs". Of 64 that are left none was dropped. */
+static void requests_that_drop(void)
+{
+    begin_desk(0, d1, 3);
+    stand(&wanted, 12, d1, 3);
+    ends("D5", request(12, 1, 40), told(16, 0));
+    begin_desk(0, d1, 3);
+    stand(&wanted, 16, &d1[1], 2);
+    ends("busy with the second job", request(16, 1, 40), told(16, 0));
+    begin_desk(0, d1, 3);
+    stand(&wanted, 25, &d1[2], 1);
+    ends("D6", request(25, 4, 29), told(18, 0));
+    merkazobi_job full[PLACES];
+    for (uint32_t i = 0; i < PLACES; i++)
+        full[i] = (merkazobi_job){10 + i, 1, 1000000, 999926};
+    begin_desk(0, full, PLACES);
+    stand(&wanted, 5, full, PLACES);
+    ends("request, 17", request(5, 1, 100), told(17, 0));
+}
+
+int main(void)
+{
+    wants();
+    service();
+    builds();
+    build_refusals();
+    checks();
+    verdicts();
+    reads();
+    writes();
+    write_refusals();
+    listings();
+    opens();
+    requests();
+    requests_that_change_nothing();
+    requests_that_drop();
+    return failures != 0;
+}
