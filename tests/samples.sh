@@ -5,6 +5,7 @@ cd "$(dirname "$0")/.." || exit 1
 . tests/expect.sh
 
 listed() { tools/x86 run target/bin/list; }
+planned() { tools/x86 run target/bin/plan; }
 
 for name in w1 cabin; do
     ends "list $name" 0 '' ./box list "samples/$name.plan"
@@ -31,5 +32,57 @@ ends "plan cabin" 0 '' ./box plan samples/cabin.shares "$made/cabin.plan"
 same "plan cabin" "$made/cabin.plan" samples/cabin.plan
 ends "plan full" 1 "$(cat samples/full.txt)" ./box plan samples/full.shares "$made/full.plan"
 is "no file for a refusal" "$(ls "$made/full.plan" 2>/dev/null)" ""
+
+# ---- as long as they may be
+
+# The largest plan file: 16 partitions by turns, a tick each, with 8 tasks of one tick each. Such a task and k - 1 higher
+# ones need k ticks, which any 16 k ticks hold; of the deadlines every second is one tick shorter, and fails.
+largest() {
+    awk 'BEGIN {
+        print 1, 4096, 16, 16, 112, 128, 1136, 4096
+        for (i = 0; i < 16; i++) print 16, 1, 16
+        for (i = 0; i < 128; i++) print 1 + i % 16, 1, 16 * (1 + int(i / 16)) - i % 2, 4096
+        for (i = 0; i < 4096; i++) print 1 + i % 16, 1
+    }'
+}
+largest_listing() {
+    awk 'BEGIN {
+        print "frame 4096"
+        for (i = 1; i <= 16; i++) print "partition " i " wants 1 in 16 least 1"
+        for (i = 0; i < 128; i++)
+            print "task " i + 1 " partition " 1 + i % 16 (i % 2 ? " fail" : " pass " 16 * (1 + int(i / 16)))
+    }'
+}
+# Numbers of two bytes, high byte first.
+numbers() {
+    printf '%b' "$(awk '{ for (i = 1; i <= NF; i++) printf "\\0%03o\\0%03o", int($i / 256), $i % 256 }')"
+}
+zeros() { head -c "$1" /dev/zero; }
+
+largest | numbers >"$made/largest.plan"
+is "the largest file's length" "$(wc -c <"$made/largest.plan")" 17520
+largest_listing >"$made/largest.txt"
+listed <"$made/largest.plan" >"$made/out"
+same "the largest file" "$made/out" "$made/largest.txt"
+for more in 1 20000; do
+    is "the largest file and $more more" "$({ cat "$made/largest.plan" && zeros "$more"; } | listed)" "refused 5"
+done
+
+# W1's table with blanks in front of it, so that it stands across the limit, or behind it, where the part within the limit
+# would be good by itself.
+table='partition 4 1/2
+partition 4 1/3
+task 1 1 4 4
+'
+blanks() { zeros $(($1 - ${#table})) | tr '\0' ' '; }
+echo "refused 3" >"$made/refused"
+for bytes in 65536 65537 70000; do
+    wanted=$made/refused
+    [ "$bytes" -gt 65536 ] || wanted=samples/w1.plan
+    { blanks "$bytes" && printf '%s' "$table"; } | planned >"$made/out"
+    same "a table of $bytes bytes, blanks in front" "$made/out" "$wanted"
+    { printf '%s' "$table" && blanks "$bytes"; } | planned >"$made/out"
+    same "a table of $bytes bytes, blanks behind" "$made/out" "$wanted"
+done
 
 exit "$failed"
