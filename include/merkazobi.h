@@ -14,8 +14,8 @@
    to MERKAZOBI_LIST_STACK, every other call up to MERKAZOBI_STACK. At the limits a build, read or write takes well
    under a millisecond; a check up to some 0.3 s (16 partitions whose cycle is a frame of 4,096); a verdict for D
    4,096 in that frame 0.2 s with a few higher tasks, but half a minute where nearly every tick is a scheduling point;
-   a listing checks its plan and judges every task. A call of the desk goes through its 64 places a few times:
-   microseconds, whatever is asked. */
+   a listing checks its plan and judges every task, so that one of 128 such tasks takes about an hour. A call of the
+   desk goes through its 64 places a few times: microseconds, whatever is asked. */
 #ifndef MERKAZOBI_H
 #define MERKAZOBI_H
 
