@@ -47,11 +47,11 @@ pub record EachPlan : Type 0 where
   pub check-3 : TellsCheck [] half (placed 3 0)
   pub check-6 : TellsCheck plan5 (half ++ nothing) (placed 6 2)
   pub check-8 : TellsCheck (1 ∷ 1 ∷ 0 ∷ 2 ∷ []) half (placed 8 4)
-  pub check-9 : TellsCheck plan5 half (telling 9 1 1 1 2)
+  pub check-9 : TellsCheck plan1 (three 1 2) (telling 9 3 0 1 4)
   pub build-3 : TellsBuild [] eight eight (placed 3 0)
   pub build-6 : TellsBuild (half ++ nothing) eight eight (placed 6 2)
-  pub build-10 : TellsBuild (half ++ (6 ∷ 1 ∷ 2 ∷ [])) eight eight (placed 10 0)
-  pub build-11 : TellsBuild (three 1 2) eight eight (placed 11 0)
+  pub build-10 : TellsBuild (half ++ (10 ∷ 1 ∷ 2 ∷ [])) eight eight (placed 10 0)
+  pub build-11 : TellsBuild (1 ∷ 1 ∷ 1 ∷ 1 ∷ 1 ∷ 1 ∷ []) eight eight (placed 11 0)
   pub build-12 : TellsBuild (three 1 100) (take 7 eight) (take 7 eight) (placed 12 0)
   pub verdict-3 : TellsVerdict [] (three 1 100) (two 14) 1 (placed 3 0)
   pub verdict-6 : TellsVerdict plan1 (three 0 100) (two 14) 1 (placed 6 3)
@@ -61,7 +61,7 @@ pub record EachPlan : Type 0 where
   pub verdict-7-0 : TellsVerdict plan1 (three 1 100) (two 14) 0 (placed 7 0)
   pub verdict-7-past : TellsVerdict (4 ∷ drop 1 plan1) (three 1 100) (two 14) 3 (placed 7 0)
   pub verdict-8 : TellsVerdict (4 ∷ drop 1 plan1) (three 1 100) (two 14) 1 (placed 8 1)
-  pub verdict-9 : TellsVerdict plan1 (three 3 8) (two 14) 1 (telling 9 3 0 1 3)
+  pub verdict-9 : TellsVerdict plan1 (three 1 2) (two 14) 1 (telling 9 3 0 1 4)
 
 -- the reader's, the writer's and the listing's
 pub record EachFile : Type 0 where
@@ -125,9 +125,9 @@ pub record EachDesk : Type 0 where
   pub request-13 : TellsRequest (desk 0 4) opened 8 6 16 (desk 0 4) opened (placed 13 0)
   pub request-14 : TellsRequest (desk 0 3) opened 8 0 16 (desk 0 3) opened (placed 14 0)
   pub request-15 : TellsRequest (desk 9 3) opened 8 6 16 (desk 9 3) opened (placed 15 0)
-  pub request-16 : TellsRequest (desk 0 3) opened 12 1 40 (desk 12 3) opened (placed 16 0)
+  pub request-16 : TellsRequest (desk 0 3) opened 16 1 40 (desk 16 2) (filled (job 15 5 24 4 ∷ job 30 2 40 8 ∷ [])) (placed 16 0)
   pub request-17 : TellsRequest (desk 0 64) full 9 1 40 (desk 9 64) full (placed 17 0)
-  pub request-18 : TellsRequest (desk 0 3) opened 25 4 29 (desk 25 1) (filled (job 30 2 40 8 ∷ [])) (placed 18 0)
+  pub request-18 : TellsRequest (desk 0 3) opened 8 9 16 (desk 8 3) opened (placed 18 0)
 
 -- a table n times over
 abbrev pub times : ℕ → List ℕ → List ℕ
