@@ -1,6 +1,5 @@
 // The page of a plan that serves: lines put from a place on, as far as there is room; the answer is the place
 // behind them.
-ghost use mathlib.Core.Path.{_≡_};
 ghost use Prim.Native.Nat.{_+_, _*_, _≤_, _<_, _^_};
 ghost use Rattle.rules.specs.Limits.{mostPartitions, mostTasks, longestLine, longestListing};
 ghost use Rattle.rules.specs.Walk.{gathered};
