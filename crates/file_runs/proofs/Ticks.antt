@@ -9,6 +9,7 @@ use lib.ListN.{length, getD, take, drop, replicate, replicate-append-replicate}
 use lib.Seq.{drop-cons, drop-length}
 use lib.Dec.{eqb}
 use borrow.Author.Tests.{le-leb, lt-leb, eqb-true, eqb-false, eq-eqb, ne-eqb}
+use Rattle.rules.specs.Limits.{longest}
 use Rattle.rules.specs.Walk.{pick}
 use Rattle.output.specs.Put.{Put}
 use Rattle.file_codec.proofs.Bytes.{double, double-more}
@@ -118,13 +119,13 @@ runs-end {l} {s} {o} {m} {at} {j} plan owner long k e pos r p = rest-none (last 
     last zero pos r = absurd (omega arith)
     last (suc n) pos r = rw (e, drop-length plan, append-nil (replicate (suc n) owner), runs-last owner n) at r
 
-pub runs-none : (plan : List ℕ) → 4096 < length plan → runsPut plan ≡ []
+pub runs-none : (plan : List ℕ) → longest < length plan → runsPut plan ≡ []
 unfolding runsPut
-runs-none plan h = rw (lt-leb (length plan) 4096 h)
+runs-none plan h = rw (lt-leb (length plan) longest h)
 
-pub runs-some : (plan : List ℕ) → length plan ≤ 4096 → runsPut plan ≡ runsOf plan
+pub runs-some : (plan : List ℕ) → length plan ≤ longest → runsPut plan ≡ runsOf plan
 unfolding runsPut
-runs-some plan h = rw (le-leb (length plan) 4096 h)
+runs-some plan h = rw (le-leb (length plan) longest h)
 
 -- a plan of no ticks has no runs
 pub runs-empty : (plan : List ℕ) → length plan < 1 → runsPut plan ≡ []

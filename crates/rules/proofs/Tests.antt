@@ -6,7 +6,7 @@ use Prim.Native.Nat.{ℕ, _≤_, _<_}
 use lib.Dec.{T, leb}
 use borrow.Author.Tests.{leb-true}
 use Rattle.rules.specs.Walk.{pick, first}
-use Rattle.rules.specs.Limits.{longest}
+use Rattle.rules.specs.Limits.{longest, finestShare}
 use Rattle.rules.specs.Table.{goodShare, goodTimes}
 use Rattle.rules.proofs.First.{first-at, first-past}
 use Rattle.rules.proofs.Sum.{le-or-lt}
@@ -54,14 +54,14 @@ any-or-none p n = go (le-or-lt n (first p n))
     go (inr h) = inl (first p n, h, first-at p n h)
 
 -- "Share num/den with 1 ≤ num ≤ den ≤ 1,000"
-pub good-share : (limit m n d : ℕ) → goodShare limit m n d ≡ true → (1 ≤ m) × (m ≤ limit) × (1 ≤ n) × (n ≤ d) × (d ≤ 1000)
+pub good-share : (limit m n d : ℕ) → goodShare limit m n d ≡ true → (1 ≤ m) × (m ≤ limit) × (1 ≤ n) × (n ≤ d) × (d ≤ finestShare)
 unfolding goodShare
 good-share limit m n d e =
-    let a = and-parts (leb 1 m && leb m limit && leb 1 n && leb n d) (leb d 1000) e in
+    let a = and-parts (leb 1 m && leb m limit && leb 1 n && leb n d) (leb d finestShare) e in
     let b = and-parts (leb 1 m && leb m limit && leb 1 n) (leb n d) (a .0) in
     let c = and-parts (leb 1 m && leb m limit) (leb 1 n) (b .0) in
     let f = and-parts (leb 1 m) (leb m limit) (c .0) in
-    (leb-true 1 m (f .0), leb-true m limit (f .1), leb-true 1 n (c .1), leb-true n d (b .1), leb-true d 1000 (a .1))
+    (leb-true 1 m (f .0), leb-true m limit (f .1), leb-true 1 n (c .1), leb-true n d (b .1), leb-true d finestShare (a .1))
 
 -- "A task has 1 ≤ C ≤ D ≤ T ≤ 4,096 and names a partition of the table"
 pub good-times : (parts p c d t : ℕ) → goodTimes parts p c d t ≡ true → (1 ≤ p) × (p ≤ parts) × (1 ≤ c) × (c ≤ d) × (d ≤ t) × (t ≤ longest)

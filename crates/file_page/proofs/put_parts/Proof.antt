@@ -2,6 +2,7 @@ use mathlib.Core.Path.{_≡_, refl}
 use Prim.Native.Nat.{_≤_, _+_, _-_, _*_}
 use lib.ListN.{length}
 use Rattle.output.specs.Put.{Put}
+use Rattle.rules.specs.Limits.{longestLine}
 use Rattle.rules.specs.Walk.{gathered}
 use Rattle.file_page.specs.Page.{partLine}
 use Rattle.file_page.proofs.Lines.{lines-none, lines-more}
@@ -10,7 +11,7 @@ use Rattle.file_page.proofs.put_parts.Statement.{statement}
 use Rattle.file_page.proofs.put_parts.Tie as tie
 
 abbrev Inv-loop : tie.InvT-loop
-Inv-loop plan parts out₀ start n at₀ k₀ out at k = (k ≤ n) × Put out₀ start (gathered (partLine plan parts) k) at out × (at ≤ start + 128 * k) × (length out ≡ length out₀)
+Inv-loop plan parts out₀ start n at₀ k₀ out at k = (k ≤ n) × Put out₀ start (gathered (partLine plan parts) k) at out × (at ≤ start + longestLine * k) × (length out ≡ length out₀)
 
 abbrev μ-loop : tie.MeasureT-loop
 μ-loop plan parts out₀ start n at₀ k₀ out at k = n - k

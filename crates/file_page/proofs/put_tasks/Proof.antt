@@ -2,6 +2,7 @@ use mathlib.Core.Path.{_≡_, refl}
 use Prim.Native.Nat.{_≤_, _+_, _-_, _*_}
 use lib.ListN.{length}
 use Rattle.output.specs.Put.{Put}
+use Rattle.rules.specs.Limits.{longestLine}
 use Rattle.rules.specs.Walk.{gathered}
 use Rattle.file_page.specs.Page.{taskLine}
 use Rattle.file_page.proofs.Lines.{lines-none, lines-more}
@@ -10,7 +11,7 @@ use Rattle.file_page.proofs.put_tasks.Statement.{statement}
 use Rattle.file_page.proofs.put_tasks.Tie as tie
 
 abbrev Inv-loop : tie.InvT-loop
-Inv-loop plan table out₀ start n at₀ j₀ out at j = (j ≤ n) × Put out₀ start (gathered (taskLine plan table) j) at out × (at ≤ start + 128 * j) × (length out ≡ length out₀)
+Inv-loop plan table out₀ start n at₀ j₀ out at j = (j ≤ n) × Put out₀ start (gathered (taskLine plan table) j) at out × (at ≤ start + longestLine * j) × (length out ≡ length out₀)
 
 abbrev μ-loop : tie.MeasureT-loop
 μ-loop plan table out₀ start n at₀ j₀ out at j = n - j
