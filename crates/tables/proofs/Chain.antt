@@ -2,13 +2,13 @@
 use Prim.Native.Nat.{ℕ, _+_, _/_, _%_, _≤_, _<_}
 use mathlib.Core.Path.{_≡_, refl, sym, subst, _∙_}
 use mathlib.Core.Logic.{_↔_, _⊎_, inl, inr, ⊎-elim}
-use mathlib.Core.Bool.{Bool, true, false, _&&_}
+use mathlib.Core.Bool.{Bool, true, false, not, _&&_}
 use mathlib.Core.List.{List, []}
 use native.Mathlib.Nat.{not-suc-le-zero}
 use native.Mathlib.Omega.{arith}
 use lib.ListN.{length}
 use lib.Dec.{ltb, leb, eqb}
-use borrow.Author.Tests.{lt-ltb, le-ltb, ltb-false, le-leb, leb-true, eqb-true, eq-eqb}
+use borrow.Author.Tests.{lt-ltb, le-ltb, ltb-false, le-leb, leb-true, eqb-true, eq-eqb, not-true, not-false}
 use Rattle.rules.specs.Limits.{mostPartitions, mostTasks, longest, finestShare, partWidth, taskWidth}
 use Rattle.rules.specs.Walk.{pick, first, fails, Every}
 use Rattle.rules.specs.Table.{partitions, cycle, num, den, tasks, goodShare, goodPart, goodTask}
@@ -22,6 +22,21 @@ use Rattle.rules.proofs.First.{every-first, first-every}
 use Rattle.rules.proofs.Tests.{pick-first, pick-second, and-parts, good-share}
 
 -- ---- the limits
+
+-- their order: the frame, the partitions, the tasks; r, q and u are the tests' results
+module _ (frame p t : ℕ) (r : Bool) (e : r ≡ countedIn 1 longest 1 frame) where
+  pub limits-frame : not r ≡ true → false ≡ withinLimits frame p t
+  unfolding withinLimits
+  limits-frame n = rw (← e, not-true r n)
+
+  module _ (q : Bool) (h : q ≡ countedIn 1 mostPartitions partWidth p) where
+    pub limits-parts : not r ≡ false → not q ≡ true → false ≡ withinLimits frame p t
+    unfolding withinLimits
+    limits-parts y n = rw (← e, not-false r y, ← h, not-true q n)
+
+    pub limits-tasks : (u : Bool) → not r ≡ false → not q ≡ false → u ≡ countedIn 0 mostTasks taskWidth t → u ≡ withinLimits frame p t
+    unfolding withinLimits
+    limits-tasks u y z w = rw (← e, not-false r y, ← h, not-false q z) w
 
 pub counted-parts : (low high width n : ℕ) → countedIn low high width n ≡ true → (n % width ≡ 0) × (low ≤ n / width) × (n / width ≤ high)
 unfolding countedIn
