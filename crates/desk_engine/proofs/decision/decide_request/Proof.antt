@@ -1,6 +1,7 @@
 use mathlib.Core.Path.{sym, _∙_}
 use borrow.Author.Tests.{lt-ltb, le-ltb, le-leb, lt-leb}
 use borrow.Author.Needs.{needs}
+use Rattle.rules.specs.Limits.{places}
 use Rattle.desk_engine.proofs.decision.decide_request.Statement.{statement}
 use Rattle.desk_engine.proofs.decision.decide_request.Tie as tie
 
@@ -14,7 +15,9 @@ returns-2 : tie.Need-returns-2
 returns-2 c = rw (sym (c .before .before .before .before .before .numbers-ok .ensures) ∙ c .before .before .before .before .if1 .taken, le-ltb _ _ (c .before .if2 .left), c .if3 .taken)
 
 returns-3 : tie.Need-returns-3
-returns-3 c = rw (sym (c .before .before .before .before .before .before .before .numbers-ok .ensures) ∙ c .before .before .before .before .before .before .if1 .taken, le-ltb _ _ (c .before .before .before .if2 .left), c .before .before .if3 .left, le-leb _ _ (c .if4 .taken))
+returns-3 c =
+    let s = c .before .before .before .before .before .before .before .before .before .before .args .s in
+    rw (sym (c .before .before .before .before .before .before .before .numbers-ok .ensures) ∙ c .before .before .before .before .before .before .if1 .taken, le-ltb _ _ (c .before .before .before .if2 .left), c .before .before .if3 .left, le-leb places (s .searching .rest) (c .if4 .taken))
 
 returns-4 : tie.Need-returns-4
 returns-4 c = rw (sym (c .before .before .before .before .before .before .before .before .numbers-ok .ensures) ∙ c .before .before .before .before .before .before .before .if1 .taken, le-ltb _ _ (c .before .before .before .before .if2 .left), c .before .before .before .if3 .left, lt-leb _ _ (c .before .if4 .left), c .if5 .taken)
