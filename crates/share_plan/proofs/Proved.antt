@@ -120,8 +120,7 @@ answer-room t room h = rw (built (recordsOf Partitions t) (recordsOf Tasks t) (b
 
 text-one : TextOne
 text-one t parts tasks p p′ q q′ r r′ a b =
-    let e : r ≡ r′ = a .0 ∙ sym (b .0) in
-    (
+    let e : r ≡ r′ = a .0 ∙ sym (b .0) in (
       e,
       a .1 ∙ ap (λ (x : TableReading). tableLeft x (recordsOf Partitions t) parts) e ∙ sym (b .1),
       a .2 ∙ ap (λ (x : TableReading). tableLeft x (recordsOf Tasks t) tasks) e ∙ sym (b .2),
