@@ -13,6 +13,7 @@ use rules::Finding;
 use rules::Told;
 use task_points::Judged;
 ghost use mathlib.Core.Path.{_≡_};
+ghost use Rattle.rules.specs.Refusals.{toldFinding, toldFilling};
 ghost use Rattle.rules.specs.Table.{WantsIs};
 ghost use Rattle.theory.specs.Plan.{HeldIs, LeastIs};
 ghost use Rattle.file_read.specs.Contracts.{Few};
@@ -29,6 +30,24 @@ fn answer(first: usize, second: usize) -> Told
         second,
         third: 0,
         fourth: 0,
+    }
+}
+
+fn tell_finding(found: Finding) -> Told
+    ensures { λ r. ⌜ r ≡ toldFinding found ⌝ }
+{
+    match found {
+        Finding::Good => answer(0, 0),
+        Finding::Refused(r) => rules::tell(r),
+    }
+}
+
+fn tell_filling(filled: Filling) -> Told
+    ensures { λ r. ⌜ r ≡ toldFilling filled ⌝ }
+{
+    match filled {
+        Filling::Fills(n) => answer(n, 0),
+        Filling::Refused(r) => rules::tell(r),
     }
 }
 
@@ -57,22 +76,14 @@ pub extern "C" fn merkazobi_least(plan: &[u16], p: u16, t: u32) -> usize
 pub extern "C" fn merkazobi_check(plan: &[u16], parts: &[u16]) -> Told
     ensures { λ r. ⌜ TellsCheck (now (plan .entry)) (now (parts .entry)) r ⌝ }
 {
-    let checked = plan_check::check(plan, parts);
-    match checked {
-        Finding::Good => answer(0, 0),
-        Finding::Refused(r) => rules::tell(r),
-    }
+    tell_finding(plan_check::check(plan, parts))
 }
 
 #[no_mangle]
 pub extern "C" fn merkazobi_build(parts: &[u16], out: &mut [u16]) -> Told
     ensures { λ r. ⌜ TellsBuild (now (parts .entry)) (now (out .entry)) (now (out .exit)) r ⌝ }
 {
-    let built = plan_build::build(parts, out);
-    match built {
-        Filling::Fills(h) => answer(h, 0),
-        Filling::Refused(r) => rules::tell(r),
-    }
+    tell_filling(plan_build::build(parts, out))
 }
 
 #[no_mangle]
@@ -167,22 +178,14 @@ pub extern "C" fn merkazobi_write(
     ensures { λ r. ⌜ TellsWrite frame (now (parts .entry)) (now (tasks .entry)) (now (runs .entry))
         (now (out .entry)) (now (out .exit)) r ⌝ }
 {
-    let written = file_write::write(frame, parts, tasks, runs, out);
-    match written {
-        Filling::Fills(n) => answer(n, 0),
-        Filling::Refused(r) => rules::tell(r),
-    }
+    tell_filling(file_write::write(frame, parts, tasks, runs, out))
 }
 
 #[no_mangle]
 pub extern "C" fn merkazobi_list(file: &[u8], out: &mut [u8]) -> Told
     ensures { λ r. ⌜ TellsList (now (file .entry)) (now (out .entry)) (now (out .exit)) r ⌝ }
 {
-    let listed = file_listing::listing(file, out);
-    match listed {
-        Filling::Fills(n) => answer(n, 0),
-        Filling::Refused(r) => rules::tell(r),
-    }
+    tell_filling(file_listing::listing(file, out))
 }
 
 fn tell_desk(answered: Answer) -> Told
