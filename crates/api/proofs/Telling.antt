@@ -35,7 +35,7 @@ use Rattle.desk.proofs.Ask.Laws as K′
 use Rattle.desk.proofs.Answer as N
 use Rattle.desk.proofs.Answer.Laws as N′
 use Rattle.desk_lent.proofs.call as call
-use Rattle.api.proofs.tell_desk as tell
+use Rattle.answers.proofs.tell_desk as tell
 
 abbrev pub TellC : {M : Type 1} (𝓤 : URA M) (H : Heap 𝓤) (A : Atoms 𝓤) (mem : Memory → SProp 𝓤) (run : Routine → Fun 𝓤) → Contract 𝓤
 TellC 𝓤 H A mem run = tripleOf 𝓤 H A tell.signature (tell.spec 𝓤 H A mem run)

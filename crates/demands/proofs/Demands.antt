@@ -61,7 +61,8 @@ use Rattle.desk.specs.Request.{kept, busy, Place, At, Nowhere, find, tooFar, in
 use Rattle.desk.specs.Call.{deskOf, Leaves, said}
 use Rattle.desk.proofs.Proved as desk
 use Rattle.desk_lent.proofs.Proved as lent
-use Rattle.api.specs.Answers.{TellsCheck, TellsBuild, TellsVerdict, TellsRead, toldPart, TellsSection, TellsWrite, TellsList, TellsRequest}
+use Rattle.api.specs.Answers.{TellsCheck, TellsBuild, TellsVerdict, TellsRead, TellsSection, TellsWrite, TellsList, TellsRequest}
+use Rattle.answers.specs.Parts.{toldPart}
 use Rattle.demands.specs.Demands.{among, ToldAs, Numbered, Demand1, OneOutcome, Afresh, Demand2, Demand3, Demands}
 use Rattle.demands.proofs.Entries.{entries}
 

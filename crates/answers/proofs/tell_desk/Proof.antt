@@ -1,6 +1,6 @@
 use borrow.Author.Needs.{needs}
-use Rattle.api.proofs.tell_desk.Statement.{statement}
-use Rattle.api.proofs.tell_desk.Tie as tie
+use Rattle.answers.proofs.tell_desk.Statement.{statement}
+use Rattle.answers.proofs.tell_desk.Tie as tie
 
 enum-told : tie.Need-enum-told
 enum-told c = search needs

@@ -1,7 +1,7 @@
 use borrow.Author.Tests.{eq-eqb, ne-eqb}
 use borrow.Author.Needs.{needs}
-use Rattle.api.proofs.part_at.Statement.{statement}
-use Rattle.api.proofs.part_at.Tie as tie
+use Rattle.answers.proofs.part_at.Statement.{statement}
+use Rattle.answers.proofs.part_at.Tie as tie
 
 body-at-requires : tie.Need-body-at-requires
 body-at-requires c κs = search needs

@@ -1,6 +1,6 @@
 use borrow.Author.Needs.{needs}
-use Rattle.api.proofs.tell_filling.Statement.{statement}
-use Rattle.api.proofs.tell_filling.Tie as tie
+use Rattle.answers.proofs.tell_filling.Statement.{statement}
+use Rattle.answers.proofs.tell_filling.Tie as tie
 
 enum-known-filled : tie.Need-enum-known-filled
 enum-known-filled c = search needs
