@@ -16,8 +16,6 @@ for lie in tests/lies/*.patch; do
     mkdir -p "$tree/target"
     cp -R crates crates.txt "$tree"
     cp -R target/rlib target/stamp "$tree/target"
-    removed=$(of "$lie" without)
-    [ -z "$removed" ] || rm -r "${tree:?}/$removed"
     patch --silent --directory="$tree" --strip=1 <"$lie"
     is "$name told" $? 0
     crate=$(of "$lie" falls)
