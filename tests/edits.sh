@@ -33,9 +33,9 @@ why() {
             fact = fact "|the equations do not join"    # cc
             fact = fact "|whose two ends are equal, and `" # rw and simp: what is left is no equation that holds
             fact = fact "|: it is not proved that "     # of a proof that rattle makes itself
-            # A term proves something else than is asked: a relation, by its sign or its name with arguments, not a number or a type.
+            # A term proves something else than is asked: a relation, by its sign or its name with arguments, or the fact of a contract; not a number or a type.
             other = "the two (types|sides) (first differ|differ only|are) |but this has type |: does not hold "
-            relation = "≡|≤|<|Path |⊥|`([^` ]*\\.)?[A-Z][A-Za-z]* [({a-z]"
+            relation = "≡|≤|<|Path |⊥|`([^` ]*\\.)?[A-Z][A-Za-z]* [({a-z]|`fact [^ ]* \\("
         }
         function judge(    file) {
             if (head == "") return
