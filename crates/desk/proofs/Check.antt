@@ -42,11 +42,12 @@ desk-table clock n l h = and-parts _ (rightX (take n l)) (and-parts (leb clock l
 pub desk-right : (clock n : ℕ) (l : List Job) → deskOk clock n l ≡ true → rightX (take n l) ≡ true
 desk-right clock n l h = and-parts (tableOk n l) _ (and-parts (leb clock latest) _ h .1) .1
 
-pub numbers-small : (t c d : ℕ) → numbersOk t c d ≡ true → (t ≤ latest) × (c ≤ latest)
+pub numbers-small : (t c d : ℕ) → numbersOk t c d ≡ true → (t ≤ latest) × (c ≤ latest) × (1 ≤ c) × (d ≤ latest)
 numbers-small t c d h =
-    let one = and-parts (leb 1 c) _ h .1 in
-    let two = and-parts (leb c latest) _ one .1 in
-    (leb-true t latest (and-parts (leb d latest) _ two .1), leb-true c latest (and-parts _ _ one .0))
+    let one = and-parts (leb 1 c) _ h in
+    let two = and-parts (leb c latest) _ (one .1) in
+    let three = and-parts (leb d latest) _ (two .1) in
+    (leb-true t latest (three .1), leb-true c latest (two .0), leb-true 1 c (one .0), leb-true d latest (three .0))
 
 zeros-is : (j : Job) → zeros j ≡ true → j ≡ none
 zeros-is j h =

@@ -11,7 +11,7 @@ use Rattle.desk.specs.declared.Job.{Job}
 use Rattle.rules.specs.Walk.{pick}
 use Rattle.desk.specs.Table.{job, flexes, ends}
 use Rattle.desk.specs.Request.{kept, shift, insertAt}
-use Rattle.desk.specs.Story.{Entry, entry, noEntry, finish, ended, unended, atOpening, entries, Promise}
+use Rattle.desk.specs.Story.{Entry, entry, noEntry, finish, ended, unended, standing, entries, Promise}
 use Rattle.desk.proofs.Chain.{Chain}
 
 -- the same job at another start
@@ -140,9 +140,13 @@ follow-insert (suc i) g (k ∷ gs) [] s h f = absurd f
 follow-insert (suc i) g (k ∷ gs) (j ∷ js) s h f =
     (record { since = f .0 .since; budget = f .0 .budget; due = f .0 .due }, follow-insert i g gs js s h (f .1))
 
-pub follow-open : (js : List Job) → Follow (atOpening js) (flexes js)
+pub follow-open : (js : List Job) → Follow (standing js) (flexes js)
 follow-open [] = tt
 follow-open (j ∷ js) = (record { since = omega arith; budget = refl; due = refl }, follow-open js)
+
+pub entries-open : (js : List Job) → entries (standing js) (flexes js) ≡ standing js
+entries-open [] = refl
+entries-open (j ∷ js) = ap (λ (rs : List Entry). entry (j .start) (j .budget) (j .deadline) (j .start) ∷ rs) (entries-open js)
 
 pub line-held : (e : ℕ) (rs : List Entry) (k : ℕ) → k < length rs → Line e rs → Held e (getD rs k noEntry)
 line-held e [] k h g = absurd (omega arith)

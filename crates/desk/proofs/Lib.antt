@@ -6,4 +6,5 @@ pub mod Rules
 pub mod Entries
 pub mod Promise
 pub mod Still
+pub mod Exactly
 pub mod Proved

@@ -12,7 +12,7 @@ use Rattle.desk.specs.declared.Asked.{Asked}
 use Rattle.desk.specs.Table.{job, none, filled, flexes, tableOk, openOf, Outcome}
 use Rattle.desk.specs.Request.{kept, insertAt}
 use Rattle.desk.proofs.Rules.{SoundAfter}
-use Rattle.desk.specs.Story.{Entry, entry, ended, unended, atOpening, entries, Story, live, ever, begin, after, next, many, Promise}
+use Rattle.desk.specs.Story.{Entry, entry, ended, unended, standing, entries, Story, live, ever, begin, after, next, many, Promise}
 use Rattle.desk.proofs.Chain.{Chain, kept-from, kept-twice}
 use Rattle.desk.proofs.Spot.{spot-start, chain-insert, length-insert}
 use Rattle.desk.proofs.Rules.{Good, good-of, good-kept, Ending, same, dropped, taken, ending, sound-ending, open-is, open-sound, open-good}
@@ -110,7 +110,7 @@ kept-begin clock n l h =
     record {
       sound = open-sound clock n l h;
       follow = rw listed (follow-open (take n l));
-      line = rw listed (line-entries 0 (atOpening (take n l)) (flexes (take n l)) (good .order) (follow-open (take n l)));
+      line = rw listed (line-entries 0 (standing (take n l)) (flexes (take n l)) (good .order) (follow-open (take n l)));
       past = tt;
       here = rw (listed, clock₀) (kept-from 0 (flexes (take n l)) (good .order));
     }

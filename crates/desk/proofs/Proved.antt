@@ -15,11 +15,12 @@ use Rattle.desk.specs.declared.Job.{Job}
 use Rattle.desk.specs.declared.Answer.the-variants.{Opened, Taken, Refused}
 use Rattle.desk.specs.Table.{none, filled, outcome, flexes, tableOk, deskOk, openOf, Outcome}
 use Rattle.desk.specs.Request.{kept, busy, find, tooFar, dropping, taking, numbersOk, drops, requestOf, Place, At, Nowhere}
-use Rattle.desk.specs.Story.{Entry, entry, noEntry, atOpening, entries, Story, begin}
+use Rattle.desk.specs.Story.{Entry, entry, noEntry, standing, entries, Story, begin}
 use Rattle.desk.specs.Theorems.{OpenLeaves, NeverTooFar, Refuses, OpenTells, InEveryStory, Matches, Proved}
 use Rattle.desk.proofs.Rules.{Sound, request-sound, request-numbers, opened-table, open-is, open-sound, open-good, open-sound-unless, sound-unless, afresh}
-use Rattle.desk.proofs.Entries.{Follow}
+use Rattle.desk.proofs.Entries.{Follow, entries-open}
 use Rattle.desk.proofs.Promise.{take-filled, table, Kept, kept-good, kept-many, kept-begin, promise}
+use Rattle.desk.proofs.Exactly.{taken-exactly, no-place-exactly}
 use Rattle.desk.proofs.Still.{refused-same, taken-joined, still, all-since-opening, still-ever, length-entries}
 
 open-leaves : OpenLeaves
@@ -73,16 +74,12 @@ module _ (clock n : ℕ) (l : List Job) (t c d : ℕ) where
       (choose (busy t (kept t (take n l))) _ _ (drops-all Busy refl)
       (choose (leb places (length (kept t (take n l)))) _ _ (drops-all Full refl) (right-placed (find t c d (kept t (take n l))))))))
 
-entries-flexes : (js : List Job) → entries (atOpening js) (flexes js) ≡ atOpening js
-entries-flexes [] = refl
-entries-flexes (j ∷ js) = ap (λ (rs : List Entry). entry (j .start) (j .budget) (j .deadline) (j .start) ∷ rs) (entries-flexes js)
-
 open-tells : OpenTells
 open-tells clock n l e =
     let ok = opened-table clock n l e in
     let left : take (openOf clock n l .count) (openOf clock n l .jobs) ≡ flexes (take n l) =
     rw (open-is clock n l ok) (take-filled (flexes (take n l)) n (open-good clock n l ok .count)) in
-    rw left (entries-flexes (take n l))
+    rw left (entries-open (take n l))
 
 kept-story : InEveryStory (λ h. Kept h)
 kept-story clock n l e qs = kept-many qs (begin clock n l) (kept-begin clock n l (opened-table clock n l e))
@@ -129,6 +126,8 @@ proved =
       open-afresh = λ clock n l h. afresh (openOf clock n l) (open-sound-unless clock n l h);
       request-afresh = λ clock n l t c d h. afresh (requestOf clock n l t c d) (request-sound clock n l t c d (sound-unless clock n l t c d h));
       never-too-far = never-too-far;
+      taken-exactly = taken-exactly;
+      no-place-exactly = no-place-exactly;
       open-tells = open-tells;
       story-tells = λ clock n l e qs. tells _ (kept-story clock n l e qs);
       keeps-promise = λ clock n l e qs. promise clock n l (opened-table clock n l e) qs;

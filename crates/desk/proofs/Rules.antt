@@ -24,7 +24,7 @@ use Rattle.desk.proofs.Check.{numbers-small, listed-of, desk-table, des
 use Rattle.desk.proofs.Check.{length-refit}
 use Rattle.desk.proofs.Afresh.{insert-right, refit-right}
 use Rattle.desk.proofs.Chain.{Chain, chain-low, chain-of, chain-ok, chain-kept, right-kept}
-use Rattle.desk.proofs.Spot.{Spot, find-spot, spot-near, chain-insert, length-insert, right-tail}
+use Rattle.desk.proofs.Spot.{Spot, found-spot, spot-near, chain-insert, length-insert, right-tail}
 
 -- a table, count and clock that pass 13
 pub record Sound (clock n : ℕ) (l : List Job) : Type 0 where
@@ -107,14 +107,10 @@ module _ (clock n : ℕ) (l : List Job) (t c d : ℕ) (sound : Sound clock n l) 
   ending-placed h nums few g Nowhere e = dropped NoPlace (record { table = refl; far = refl }) h (numbers-small t c d nums .0)
   ending-placed h nums few g (At i s) e =
       let js = kept t (take n l) in
-      let f = find-spot 0 c d t js g i s e in
-      let at : f .at ≡ i = omega (arith, f .is) in
-      let spot : Spot c d t i js s = subst (λ (k : ℕ). Spot c d t k js s) at (f .spot) in
+      let spot = found-spot t c d js g i s e in
       let r : rightX js ≡ true = good-kept t n (take n l) (good-of clock n l sound) .right in
-      let one = and-parts (leb 1 c) _ nums .1 in
-      let two = and-parts (leb c latest) _ one .1 in
-      rw (spot-near c d t i js s g r spot)
-      (taken i s h (numbers-small t c d nums .0) (leb-true _ _ (and-parts _ _ nums .0)) (leb-true _ _ (and-parts _ _ two .0)) few g spot)
+      let small = numbers-small t c d nums in
+      rw (spot-near c d t i js s g r spot) (taken i s h (small .0) (small .2) (small .3) few g spot)
 
   pub ending : Ending clock n l t c d (requestOf clock n l t c d)
   unfolding requestOf
@@ -171,15 +167,6 @@ module _ (clock n : ℕ) (l : List Job) (t c d : ℕ) (sound : Sound clock n l) 
 
   pub request-numbers : (said (requestOf clock n l t c d .answer) .number ≡ 13 → ⊥) × (said (requestOf clock n l t c d .answer) .number ≡ 19 → ⊥)
   request-numbers = numbers-ending (requestOf clock n l t c d) ending
-
--- the place that is found, on any table in order with right flexibilities, moves no job beyond its x
-pub room-never-far : (t c d : ℕ) (js : List Job) (i s : ℕ) → Chain 0 js → rightX js ≡ true → busy t js ≡ false
-    → find t c d js ≡ At i s → tooFar (s + c) (drop i js) ≡ false
-room-never-far t c d js i s o r b e =
-    let g = not-busy t js b o in
-    let f = find-spot 0 c d t js g i s e in
-    let at : f .at ≡ i = omega (arith, f .is) in
-    spot-near c d t i js s g r (subst (λ (k : ℕ). Spot c d t k js s) at (f .spot))
 
 order-refit : (e : ℕ) (js : List Job) → Chain e js → Chain e (refit js [])
 order-refit e [] g = tt

@@ -1,6 +1,6 @@
 -- What the search for a place gives, and what taking a job in there leaves. Assumes nothing.
 use Prim.Native.Nat.{ℕ, zero, suc, _+_, _<_, _≤_, max}
-use mathlib.Core.Path.{_≡_, refl, ap}
+use mathlib.Core.Path.{_≡_, refl, ap, subst}
 use mathlib.Core.Bool.{Bool, true, false}
 use mathlib.Core.List.{List, [], _∷_, _++_}
 use native.Mathlib.Omega.{arith}
@@ -11,7 +11,7 @@ use Rattle.rules.specs.Limits.{latest}
 use Rattle.desk.specs.declared.Job.{Job}
 use Rattle.rules.specs.Walk.{pick}
 use Rattle.desk.specs.Table.{job, xOf, rightX, ends}
-use Rattle.desk.specs.Request.{shift, tooFar, insertAt, early, room, findFrom, At, Nowhere}
+use Rattle.desk.specs.Request.{shift, tooFar, insertAt, early, room, find, findFrom, At, Nowhere}
 use Rattle.rules.proofs.Tests.{and-parts}
 use Rattle.desk.proofs.Check.{length-refit}
 use Rattle.desk.proofs.Afresh.{Near}
@@ -34,13 +34,28 @@ early-late d e (j ∷ js) h g =
     let late : d < j .start = omega (arith, g .0) in
     rw (lt-leb (j .start) d late) (early-late d (ends j) js (omega arith) (g .2))
 
+near-low : (e f : ℕ) (js : List Job) → f ≤ e → Near e js → Near f js
+near-low e f [] h n = tt
+near-low e f (j ∷ js) h n = omega (arith, n)
+
 -- a place with room is a spot: the step from room ≥ C to a first move within x
 pub room-spot : (c d e : ℕ) (j : Job) → e ≤ j .start → j .start ≤ d → c ≤ room e d j → (e + c ≤ d) × (e + c ≤ j .start + j .flex)
 room-spot c d e j h g r = (omega arith, omega arith)
 
-pub find-spot : (k c d e : ℕ) (js : List Job) → Chain e js → (i s : ℕ) → findFrom k e c d (take (early d js) js) ≡ At i s
+-- place l is a spot: the job behind it, if any, starts after d
+last-spot : (k c d e : ℕ) (js : List Job) (i s : ℕ) → pick (leb (e + c) d) (At k e) Nowhere ≡ At i s → Near d js → Found k c d e js i s
+last-spot k c d e js i s h near = by-due (leb (e + c) d) refl h where
+  by-due : (b : Bool) → leb (e + c) d ≡ b → pick b (At k e) Nowhere ≡ At i s → Found k c d e js i s
+  by-due true r q =
+      let z : s ≡ e = cc in
+      let zi : i ≡ k = cc in
+      let due : s + c ≤ d = omega (arith, leb-true (e + c) d r) in
+      record { at = 0; is = omega arith; spot = (z, due, near-low d (s + c) js due near) }
+  by-due false r q = absurd (let z : _≡_ {A = ℕ} 0 1 = cc in omega arith)
+
+find-spot : (k c d e : ℕ) (js : List Job) → Chain e js → (i s : ℕ) → findFrom k e c d (take (early d js) js) ≡ At i s
     → Found k c d e js i s
-find-spot k c d e [] g i s h = absurd (let z : _≡_ {A = ℕ} 0 1 = cc in omega arith)
+find-spot k c d e [] g i s h = last-spot k c d e [] i s h tt
 find-spot k c d e (j ∷ js) g i s h = by-early (leb (j .start) d) refl h (find-spot (k + 1) c d (ends j) js (g .2) i s) where
   by-room : (b : Bool) → j .start ≤ d → leb c (room e d j) ≡ b
       → pick b (At k e) (findFrom (k + 1) (ends j) c d (take (early d js) js)) ≡ At i s
@@ -59,9 +74,16 @@ find-spot k c d e (j ∷ js) g i s h = by-early (leb (j .start) d) refl h (find-
       → Found k c d e (j ∷ js) i s
   by-early true low q more = by-room (leb c (room e d j)) (leb-true _ _ low) refl q more
   by-early false low q more =
-      let none = early-late d (ends j) js (omega (arith, leb-false (j .start) d low)) (g .2) in
-      let no : Nowhere ≡ At i s = rw none at q in
-      absurd (let z : _≡_ {A = ℕ} 0 1 = cc in omega arith)
+      let out : d < j .start = leb-false (j .start) d low in
+      let none = early-late d (ends j) js (omega arith) (g .2) in
+      last-spot k c d e (j ∷ js) i s (rw none at q) (omega arith)
+
+-- and so is the place of the whole search
+pub found-spot : (t c d : ℕ) (js : List Job) → Chain t js → (i s : ℕ) → find t c d js ≡ At i s → Spot c d t i js s
+found-spot t c d js g i s e =
+    let f = find-spot 0 c d t js g i s e in
+    let at : f .at ≡ i = omega (arith, f .is) in
+    subst (λ (p : ℕ). Spot c d t p js s) at (f .spot)
 
 pub right-tail : (j : Job) (js : List Job) → rightX (j ∷ js) ≡ true → rightX js ≡ true
 right-tail j js r = and-parts (eqb (j .flex) (xOf j js)) _ r .1
@@ -76,6 +98,16 @@ pub spot-start : (c d e p : ℕ) (js : List Job) (s : ℕ) → Chain e js → Sp
 spot-start c d e zero js s g h = omega (arith, h .0)
 spot-start c d e (suc p) [] s g h = absurd h
 spot-start c d e (suc p) (j ∷ js) s g h = omega (arith, spot-start c d (ends j) p js s (g .2) h, g .0)
+
+pub spot-inside : (c d e p : ℕ) (js : List Job) (s : ℕ) → Spot c d e p js s → p ≤ length js
+spot-inside c d e zero js s h = omega arith
+spot-inside c d e (suc p) [] s h = absurd h
+spot-inside c d e (suc p) (j ∷ js) s h = omega (arith, spot-inside c d (ends j) p js s h)
+
+pub spot-due : (c d e p : ℕ) (js : List Job) (s : ℕ) → Spot c d e p js s → s + c ≤ d
+spot-due c d e zero js s h = h .1
+spot-due c d e (suc p) [] s h = absurd h
+spot-due c d e (suc p) (j ∷ js) s h = spot-due c d (ends j) p js s h
 
 pub chain-insert : (c d e p : ℕ) (js : List Job) (s : ℕ) → 1 ≤ c → d ≤ latest → Chain e js → rightX js ≡ true → Spot c d e p js s
     → Chain e (insertAt p (job s c d 0) js)

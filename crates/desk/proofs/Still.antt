@@ -15,8 +15,8 @@ use Rattle.desk.specs.declared.Answer.{Answer}
 use Rattle.desk.specs.declared.Answer.the-variants.{Taken, Refused}
 use Rattle.desk.specs.Table.{job, filled, tableOk, openOf, ends, Outcome}
 use Rattle.desk.specs.Request.{kept, shift, insertAt}
-use Rattle.desk.specs.Story.{Entry, entry, noEntry, ended, unended, atOpening, entries, Story, live, ever, begin, after, next, many, Later, Joined, countTaken, takens, Fixed}
-use Rattle.desk.proofs.Spot.{Spot, spot-start, length-shift, length-insert}
+use Rattle.desk.specs.Story.{Entry, entry, noEntry, ended, unended, standing, entries, Story, live, ever, begin, after, next, many, Later, Joined, countTaken, takens, Fixed}
+use Rattle.desk.proofs.Spot.{spot-start, spot-inside, length-shift, length-insert}
 use Rattle.desk.proofs.Rules.{Ending, same, dropped, taken, ending, open-is}
 use Rattle.desk.proofs.Entries.{starting, withEntry, Follow, Line, line-entries, follow-kept, follow-shift, entries-kept, line-held}
 use Rattle.desk.proofs.Promise.{take-filled, table, Kept, kept-good, drop-same, kept-next, kept-begin}
@@ -35,7 +35,7 @@ length-entries [] (j ∷ js) f = absurd f
 length-entries (g ∷ gs) [] f = absurd f
 length-entries (g ∷ gs) (j ∷ js) f = ap suc (length-entries gs js (f .1))
 
-join-here : (i : ℕ) (g : Entry) (gs : List Entry) (js : List Job) (s : ℕ) → g .since ≤ s → Follow gs js → i ≤ length js
+pub join-here : (i : ℕ) (g : Entry) (gs : List Entry) (js : List Job) (s : ℕ) → g .since ≤ s → Follow gs js → i ≤ length js
     → Joined (entries gs js) (entries (withEntry i g gs) (insertAt i (job s (g .budget) (g .deadline) 0) js)) i (starting g s)
 join-here zero g gs js s b f h =
     record {
@@ -81,11 +81,6 @@ join-after xs us vs i new w =
           let a : getD (xs ++ us) m noEntry ≡ getD us n noEntry = ap (λ (k : ℕ). getD (xs ++ us) k noEntry) one ∙ getD-append-add xs us n noEntry in
           let b : getD (xs ++ vs) (suc m) noEntry ≡ getD vs (suc n) noEntry = ap (λ (k : ℕ). getD (xs ++ vs) k noEntry) two ∙ getD-append-add xs vs (suc n) noEntry in
           rw (a, b) (w .later n (omega arith) (omega (arith, length-append xs us)))
-
-spot-inside : (c d e p : ℕ) (js : List Job) (s : ℕ) → Spot c d e p js s → p ≤ length js
-spot-inside c d e zero js s h = omega arith
-spot-inside c d e (suc p) [] s h = absurd h
-spot-inside c d e (suc p) (j ∷ js) s h = omega (arith, spot-inside c d (ends j) p js s h)
 
 fixed-after : (t : ℕ) (xs us vs : List Entry) → Line t us → Fixed t (xs ++ us) (xs ++ vs)
 fixed-after t xs us vs g k h low = cases (ltb k (length xs)) refl where
@@ -199,7 +194,7 @@ pub all-since-opening : (clock n : ℕ) (l : List Job) → tableOk n l ≡ true 
 all-since-opening clock n l h qs =
     let k = kept-begin clock n l h in
     let count : openOf clock n l .count ≡ n = ap (λ (o : Outcome). o .count) (open-is clock n l h) in
-    omega (arith, all-there qs (begin clock n l) k, length-entries (atOpening (take n l)) (table (begin clock n l)) (k .follow), kept-good (begin clock n l) k .count)
+    omega (arith, all-there qs (begin clock n l) k, length-entries (standing (take n l)) (table (begin clock n l)) (k .follow), kept-good (begin clock n l) k .count)
 
 -- nor is a job moved by any later request, once the clock has passed its start
 pub still-ever : (qs : List Asked) (h : Story) → Kept h → Fixed (h .desk .clock) (ever h) (ever (many qs h))

@@ -1,4 +1,4 @@
--- A request at time t, of budget c and deadline d: document 01, "The desk", and refusals 13 to 19 in their order;
+-- A request at time t, of budget c and deadline d: document 01, "The desk", with the range of document 02, ask 1, and refusals 13 to 19 in their order;
 -- clock, n and l are those at the call, js the jobs left. Assumes nothing.
 use Prim.Native.Nat.{ℕ, suc, _+_, _-_, min, max}
 use mathlib.Core.Bool.{Bool, false, not, _&&_, _||_}
@@ -38,12 +38,13 @@ pub data Place : Type 0 where
   At : ℕ → ℕ → Place
   Nowhere : Place
 
--- "The lowest place with R ≥ C is taken, start s", from i on; s is t for place 0, "else the end of the job before"
+-- "The lowest place with R ≥ C is taken, start s", from i on; s is t for place 0, "else the end of the job before".
+-- "place l is tried too, also when the table is empty or no job follows: it is taken when s + C ≤ d"
 abbrev pub findFrom : ℕ → ℕ → ℕ → ℕ → List Job → Place
-findFrom i s c d [] = Nowhere
+findFrom i s c d [] = pick (leb (s + c) d) (At i s) Nowhere
 findFrom i s c d (j ∷ js) = pick (leb c (room s d j)) (At i s) (findFrom (i + 1) (ends j) c d js)
 
--- "For places i from 0 to l − 1"
+-- "For places i from 0 to l − 1", and place l behind them
 abbrev pub find : ℕ → ℕ → ℕ → List Job → Place
 find t c d js = findFrom 0 t c d (take (early d js) js)
 

@@ -37,10 +37,10 @@ abbrev pub unended : ℕ → List Entry → List Entry
 unended t [] = []
 unended t (r ∷ rs) = pick (leb (finish r) t) (unended t rs) (r ∷ unended t rs)
 
--- the jobs at opening
-abbrev pub atOpening : List Job → List Entry
-atOpening [] = []
-atOpening (j ∷ js) = entry (start j) (budget j) (deadline j) (start j) ∷ atOpening js
+-- jobs as they stand, each from its own start on
+abbrev pub standing : List Job → List Entry
+standing [] = []
+standing (j ∷ js) = entry (start j) (budget j) (deadline j) (start j) ∷ standing js
 
 -- the same jobs, in the table's order, at the starts that the table has
 abbrev pub entries : List Entry → List Job → List Entry
@@ -63,7 +63,7 @@ ever h = h .gone ++ live h
 
 -- the story at opening
 abbrev pub begin : ℕ → ℕ → List Job → Story
-begin clock n l = record { desk = openOf clock n l; gone = []; listed = atOpening (take n l) }
+begin clock n l = record { desk = openOf clock n l; gone = []; listed = standing (take n l) }
 
 -- a job taken in is listed at its place
 abbrev pub withNew : Asked → Answer → List Entry → List Entry

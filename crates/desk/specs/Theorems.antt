@@ -1,6 +1,7 @@
--- What is proved of the desk's rules, each statement below document 01's words. `Proved` has a field for each. Assumes nothing.
-use Prim.Native.Nat.{ℕ, _+_, _<_}
+-- What is proved of the desk's rules, each statement below the documents' words. `Proved` has a field for each. Assumes nothing.
+use Prim.Native.Nat.{ℕ, _+_, _<_, _≤_}
 use mathlib.Core.Path.{_≡_}
+use mathlib.Core.Logic.{_↔_}
 use mathlib.Core.Bool.{Bool, true}
 use mathlib.Core.List.{List}
 use lib.ListN.{length, take, getD}
@@ -13,7 +14,7 @@ use Rattle.desk.specs.declared.Answer.the-variants.{Opened, Taken, Refus
 use Rattle.desk.specs.Table.{start, budget, deadline, none, Outcome, outcome, flexes, deskOk, openOf}
 use Rattle.desk.specs.Request.{kept, drops, dropping, requestOf}
 use Rattle.desk.specs.Call.{said}
-use Rattle.desk.specs.Story.{entry, noEntry, atOpening, Story, live, ever, begin, next, many, Promise, Joined, Fixed, takens}
+use Rattle.desk.specs.Story.{Entry, entry, noEntry, standing, Story, live, ever, begin, next, many, Promise, Joined, Fixed, takens}
 
 -- opening's refusal is 13, and "13, 14, 15 and 19 change nothing at the desk"
 abbrev pub OpenLeaves : Type 0
@@ -73,11 +74,36 @@ RequestAfresh = (clock n : ℕ) (l : List Job) (t c d : ℕ) → Afresh (request
 abbrev pub NeverTooFar : Type 0
 NeverTooFar = (clock n : ℕ) (l : List Job) (t c d : ℕ) → Refuses (requestOf clock n l t c d) 19 → ⊥
 
+-- "some place in the order, started at t or later, with earlier jobs unmoved and later ones only delayed, keeps every deadline": the jobs js with the request's
+-- own among them, whatever new starts the later ones have, so that all keep the desk's promise (document 01): the request's own deadline is kept, and no two overlap
+pub record Fits (t c d : ℕ) (js : List Job) : Type 0 where
+  pub place : ℕ
+  pub start : ℕ
+  pub arranged : List Entry
+  pub joins : Joined (standing js) arranged place (entry t c d start)
+  pub keeps : Promise arranged
+
+-- "no lower number refuses": none of 13 to 17
+abbrev pub NoLower : Outcome → Type 0
+NoLower o = (m : ℕ) → 13 ≤ m → m < 18 → Refuses o m → ⊥
+
+-- "A request that no lower number refuses is then taken exactly when some place .. keeps every deadline."
+abbrev pub TakenExactly : Type 0
+TakenExactly =
+    (clock n : ℕ) (l : List Job) (t c d : ℕ) → NoLower (requestOf clock n l t c d)
+    → (said (requestOf clock n l t c d .answer) .number ≡ 0) ↔ Fits t c d (kept t (take n l))
+
+-- "18 keeps its number and gets the narrower meaning."
+abbrev pub NoPlaceExactly : Type 0
+NoPlaceExactly =
+    (clock n : ℕ) (l : List Job) (t c d : ℕ)
+    → Refuses (requestOf clock n l t c d) 18 ↔ (NoLower (requestOf clock n l t c d) × (Fits t c d (kept t (take n l)) → ⊥))
+
 -- at opening every listed job stands at the start that was lent
 abbrev pub OpenTells : Type 0
 OpenTells =
     (clock n : ℕ) (l : List Job) → openOf clock n l .answer ≡ Opened
-    → ever (begin clock n l) ≡ atOpening (take n l)
+    → ever (begin clock n l) ≡ standing (take n l)
 
 -- "Over any requests after one opening, the caller changing nothing lent between them"
 abbrev pub InEveryStory : (Story → Type 0) → Type 0
@@ -133,6 +159,8 @@ pub record Proved : Type 0 where
   pub open-afresh : OpenAfresh
   pub request-afresh : RequestAfresh
   pub never-too-far : NeverTooFar
+  pub taken-exactly : TakenExactly
+  pub no-place-exactly : NoPlaceExactly
   pub open-tells : OpenTells
   pub story-tells : StoryTells
   pub keeps-promise : KeepsPromise

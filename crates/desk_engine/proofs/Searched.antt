@@ -29,9 +29,9 @@ module _ (t c d : ℕ) where
   abbrev pastBy : Bool → ℕ → Job → Bool
   pastBy f s j = not f && (leb (j .start) d && ltb (room s d j) c)
 
-  -- the search as the pass does it, over the jobs left
+  -- the search as the pass does it, over the jobs left, and its end
   abbrev pub searchFrom : Bool → ℕ → ℕ → List Job → Place
-  searchFrom f p s [] = pick f (At p s) Nowhere
+  searchFrom f p s [] = pick (f || leb (s + c) d) (At p s) Nowhere
   searchFrom f p s (j ∷ ks) = searchFrom (foundBy f s j) (pick (pastBy f s j) (p + 1) p) (pick (pastBy f s j) (ends j) s) ks
 
   abbrev pub busyFrom : ℕ → Bool → List Job → Bool
@@ -46,7 +46,7 @@ module _ (t c d : ℕ) where
     pub gone-is : e .gone ≡ g + goneBy t js
     pub rest-is : e .rest ≡ r + length (kept t js)
     pub busy-is : e .busy ≡ busyFrom r b (kept t js)
-    pub spot-is : pick (e .found) (At (e .place) (e .start)) Nowhere ≡ searchFrom f p s (kept t js)
+    pub spot-is : pick (e .found || leb (e .start + c) d) (At (e .place) (e .start)) Nowhere ≡ searchFrom f p s (kept t js)
 
   seek-gone : (n g r : ℕ) (b f : Bool) (p s : ℕ) (j : Job) → leb (ends j) t ≡ true → g + 1 ≤ most32 → searchStep (sk (suc n) g r b f p s) j ≡ sk n (g + 1) r b f p s
   seek-gone n g r b f p s j e h = rw (some-more n, one-less n, e, sum-is g 1 h)
@@ -115,7 +115,7 @@ module _ (t c d : ℕ) where
   found-stays p s [] = refl
   found-stays p s (j ∷ ks) = found-stays p s ks
 
-  late-stays : (p s e : ℕ) (ks : List Job) → d < e → Chain e ks → (searchFrom false p s ks ≡ Nowhere) × (early d ks ≡ 0)
+  late-stays : (p s e : ℕ) (ks : List Job) → d < e → Chain e ks → (searchFrom false p s ks ≡ pick (leb (s + c) d) (At p s) Nowhere) × (early d ks ≡ 0)
   late-stays p s e [] h o = (refl, refl)
   late-stays p s e (j ∷ ks) h o =
       let late : d < j .start = omega (arith, h, o .0) in

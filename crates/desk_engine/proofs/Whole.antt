@@ -14,11 +14,12 @@ use Rattle.rules.specs.Limits.{places, latest}
 use Rattle.desk.specs.declared.Job.{Job}
 use Rattle.desk.specs.declared.Answer.the-variants.{Opened, Taken, Refused}
 use Rattle.desk.specs.Table.{job, xOf, filled, flexes, outcome, rightX, tableOk, deskOk, openOf, ends, Outcome}
-use Rattle.desk.specs.Request.{kept, busy, early, room, find, findFrom, taking, insertAt, tooFar, numbersOk, requestOf, Place, At, Nowhere, dropping}
+use Rattle.desk.specs.Request.{kept, busy, find, taking, insertAt, tooFar, numbersOk, requestOf, Place, At, Nowhere, dropping}
 use Rattle.rules.proofs.Tests.{and-parts}
 use Rattle.desk.proofs.Check.{xOf-le, numbers-small, listed-of, desk-table, desk-right}
 use Rattle.desk.proofs.Chain.{Chain, chain-of, chain-kept, right-kept}
-use Rattle.desk.proofs.Rules.{room-never-far}
+use Rattle.desk.proofs.Spot.{found-spot, spot-near, spot-inside, spot-due}
+use Rattle.desk.proofs.Rules.{not-busy}
 use Rattle.desk_records.specs.Folds.{fold}
 use Rattle.desk_records.specs.Sums.{sumTo}
 use Rattle.desk_engine.proofs.Shifted.{Lows, near-within}
@@ -35,7 +36,7 @@ use Rattle.desk_engine.specs.declared.decision.Decision.{Decision}
 use Rattle.desk_engine.specs.declared.decision.Decision.the-variants.{Opens, Keeps, Drops, Takes}
 use Rattle.desk_reading.specs.Reading.{scanned}
 use Rattle.desk_engine.specs.Beginning.{searchingFrom, openingOf, askingOf, scanFor}
-use Rattle.desk_reading.specs.Reading.{checkStep, searchStep}
+use Rattle.desk_reading.specs.Reading.{checkStep, searchStep, searchEnd}
 use Rattle.desk_engine.specs.Deciding.{decisionOf, keepEffect, dropEffect, takeEffect, effectBy, effectOf, applied}
 use Rattle.desk.specs.Call.{callOf, Leaves}
 use Rattle.desk_engine.proofs.Checked.{scan-both, opening-law, asking-law}
@@ -73,20 +74,6 @@ lows-drop : (i : ℕ) (js : List Job) → Lows js → Lows (drop i js)
 lows-drop zero js h = h
 lows-drop (suc i) [] h = tt
 lows-drop (suc i) (j ∷ js) h = lows-drop i js (h .1)
-
--- a place that is found is among the jobs, and its start is not far
-find-in : (k s c d e : ℕ) (js : List Job) → Chain e js → s ≤ latest → (i s₂ : ℕ) → (m : ℕ) → findFrom k s c d (take m js) ≡ At i s₂ → (i < k + length js) × (s₂ ≤ latest)
-find-in k s c d e js g hs i s₂ zero h = absurd (let z : _≡_ {A = ℕ} 0 1 = cc in omega arith)
-find-in k s c d e [] g hs i s₂ (suc m) h = absurd (let z : _≡_ {A = ℕ} 0 1 = cc in omega arith)
-find-in k s c d e (j ∷ js) g hs i s₂ (suc m) h =
-    by-room (leb c (room s d j)) h (find-in (k + 1) (ends j) c d (ends j) js (g .2) (omega (arith, g .1 .in-time, g .1 .low)) i s₂ m) where
-      by-room : (v : Bool) → pick v (At k s) (findFrom (k + 1) (ends j) c d (take m js)) ≡ At i s₂
-          → (findFrom (k + 1) (ends j) c d (take m js) ≡ At i s₂ → (i < k + 1 + length js) × (s₂ ≤ latest)) → (i < k + suc (length js)) × (s₂ ≤ latest)
-      by-room true h more =
-          let ei : i ≡ k = cc in
-          let es : s₂ ≡ s = cc in
-          (omega (arith, ei), omega (arith, es, hs))
-      by-room false h more = let two = more h in (omega (arith, two .0), two .1)
 
 -- what an effect leaves is the outcome's
 abbrev pub Made : List Job → Effect → Outcome → Type 0
@@ -154,7 +141,7 @@ module _ (k : Desk) (l : List Job) (t c d : ℕ) where
   left v = pick v (dropping t ks Busy) (pick (leb places (length ks)) (dropping t ks Full) (taking far t c d ks (find t c d ks)))
 
   -- on a sound table
-  module _ (sixty : length l ≡ places) (chain : Chain 0 js) (right : rightX js ≡ true) (ht : t ≤ latest) (hc : c ≤ latest) where
+  module _ (sixty : length l ≡ places) (chain : Chain 0 js) (right : rightX js ≡ true) (hd : d ≤ latest) where
     so : Searched t c d 0 0 false false 0 t js e
     so = searched t c d l n 0 0 false false 0 t (ends-of t c d 0 js chain) (omega (arith, sixty)) (omega (arith, sixty)) (omega (arith, sixty))
 
@@ -170,8 +157,8 @@ module _ (k : Desk) (l : List Job) (t c d : ℕ) where
     chain-ks : Chain 0 ks
     chain-ks = chain-kept t 0 js chain
 
-    spot-e : pick (e .found) (At (e .place) (e .start)) Nowhere ≡ find t c d ks
-    spot-e = so .spot-is ∙ place-law t c d 0 t 0 ks chain-ks
+    spot-e : pick (searchEnd e) (At (e .place) (e .start)) Nowhere ≡ find t c d ks
+    spot-e = let same = asks (searchingFrom t c d n) l in rw (same .1, same .2) (so .spot-is ∙ place-law t c d 0 t 0 ks chain-ks)
 
     drop-made : (why : Refusal) → Made l (dropEffect why S) (dropping t ks why)
     unfolding applied
@@ -181,22 +168,24 @@ module _ (k : Desk) (l : List Job) (t c d : ℕ) where
     unfolding applied
     take-made hf hb hk =
         let same = asks (searchingFrom t c d n) l in
-        let near : tooFar (e .start + c) (drop (e .place) ks) ≡ false = room-never-far t c d ks (e .place) (e .start) chain-ks (right-kept t 0 js chain right) hb hf in
-        let two = find-in 0 t c d 0 ks chain-ks ht (e .place) (e .start) (early d ks) hf in
-        let lows : Lows ks = lows-of 0 ks chain-ks (right-kept t 0 js chain right) in
+        let order = not-busy t ks hb chain-ks in
+        let right-ks = right-kept t 0 js chain right in
+        let spot = found-spot t c d ks order (e .place) (e .start) hf in
+        let near : tooFar (e .start + c) (drop (e .place) ks) ≡ false = spot-near c d t (e .place) ks (e .start) order right-ks spot in
+        let lows : Lows ks = lows-of 0 ks chain-ks right-ks in
         let one : sumTo (length ks) 1 ≡ length ks + 1 = omega (arith, hk) in
         subst (λ (v : Bool). Made l (takeEffect S) (pick v far (outcome (filled (insertAt (e .place) (job (e .start) c d 0) ks)) (length ks + 1) t (Taken (e .place) (e .start))))) (sym near) (
           refl,
           rw (same .0, rest-e, one),
           rw (same .1, same .2, rest-e, gone-e, one)
-              (take-table t l n sixty chain (job (e .start) c d 0) (e .place) (omega (arith, two .1, hc)) (omega (arith, two .0)) hk
+              (take-table t l n sixty chain (job (e .start) c d 0) (e .place) (omega (arith, spot-due c d t (e .place) ks (e .start) spot, hd)) (spot-inside c d t (e .place) ks (e .start) spot) hk
               (near-within (e .start + c) (drop (e .place) ks) (lows-drop (e .place) ks lows) near)),
         )
 
     abbrev rests : Bool → Bool → Decision
-    rests b f = pick b (Drops Busy) (pick f (Drops Full) (pick (e .found) Takes (Drops NoPlace)))
+    rests b f = pick b (Drops Busy) (pick f (Drops Full) (pick (searchEnd e) Takes (Drops NoPlace)))
 
-    by-found : (v : Bool) → e .found ≡ v → busy t ks ≡ false → length ks < places → Made l (effectBy (pick v Takes (Drops NoPlace)) S) (taking far t c d ks (find t c d ks))
+    by-found : (v : Bool) → searchEnd e ≡ v → busy t ks ≡ false → length ks < places → Made l (effectBy (pick v Takes (Drops NoPlace)) S) (taking far t c d ks (find t c d ks))
     by-found true h hb hk =
         let hf : At (e .place) (e .start) ≡ find t c d ks = rw h at spot-e in
         subst (λ (p : Place). Made l (takeEffect S) (taking far t c d ks p)) hf (take-made (sym hf) hb hk)
@@ -205,9 +194,9 @@ module _ (k : Desk) (l : List Job) (t c d : ℕ) where
         subst (λ (p : Place). Made l (dropEffect NoPlace S) (taking far t c d ks p)) hf (drop-made NoPlace)
 
     by-full : (v : Bool) → leb places (length ks) ≡ v → busy t ks ≡ false
-        → Made l (effectBy (pick v (Drops Full) (pick (e .found) Takes (Drops NoPlace))) S) (pick v (dropping t ks Full) (taking far t c d ks (find t c d ks)))
+        → Made l (effectBy (pick v (Drops Full) (pick (searchEnd e) Takes (Drops NoPlace))) S) (pick v (dropping t ks Full) (taking far t c d ks (find t c d ks)))
     by-full true h hb = drop-made Full
-    by-full false h hb = by-found (e .found) refl hb (leb-false places (length ks) h)
+    by-full false h hb = by-found (searchEnd e) refl hb (leb-false places (length ks) h)
 
     by-busy : (v : Bool) → busy t ks ≡ v → Made l (effectBy (rests v (leb places (length ks))) S) (left v)
     by-busy true h = drop-made Busy
@@ -218,7 +207,7 @@ module _ (k : Desk) (l : List Job) (t c d : ℕ) where
         (subst (λ (m : ℕ). Made l (effectBy (rests (busy t ks) (leb places m)) S) (left (busy t ks))) (sym rest-e) (by-busy (busy t ks) refl))
 
   decides-asked : (v₁ v₂ v₃ : Bool) → deskOk (k .clock) n l ≡ v₁ → numbersOk t c d ≡ v₂ → ltb t (k .clock) ≡ v₃
-      → decisionOf S ≡ pick v₁ (pick v₂ (pick v₃ (Keeps Past) (pick (e .busy) (Drops Busy) (pick (leb places (e .rest)) (Drops Full) (pick (e .found) Takes (Drops NoPlace))))) (Keeps Numbers)) (Keeps Rules)
+      → decisionOf S ≡ pick v₁ (pick v₂ (pick v₃ (Keeps Past) (pick (e .busy) (Drops Busy) (pick (leb places (e .rest)) (Drops Full) (pick (searchEnd e) Takes (Drops NoPlace))))) (Keeps Numbers)) (Keeps Rules)
   decides-asked v₁ v₂ v₃ h₁ h₂ h₃ =
       let same = asks (searchingFrom t c d n) l in
       rw (asking-law k l t c d, opening-stays (askingOf k (length l) t c d .checking) l, same .0, same .1, same .2, h₁, h₂, h₃)
@@ -233,9 +222,8 @@ module _ (k : Desk) (l : List Job) (t c d : ℕ) where
   go true true true h₁ h₂ h₃ = at _ (Keeps Past) (decides-asked true true true h₁ h₂ h₃) (keeps-made l S Past)
   go true true false h₁ h₂ h₃ =
       let w = listed-of n l (desk-table (k .clock) n l h₁) in
-      let small = numbers-small t c d h₂ in
       at _ _ (decides-asked true true false h₁ h₂ h₃)
-      (after-made (w .whole) (chain-of 0 js (w .order)) (desk-right (k .clock) n l h₁) (small .0) (small .1))
+      (after-made (w .whole) (chain-of 0 js (w .order)) (desk-right (k .clock) n l h₁) (numbers-small t c d h₂ .3))
 
   -- answer, record and table at exit are those of the desk's request
   request-law : Made l (effectOf (scanned (askingOf k (length l) t c d) l)) (requestOf (k .clock) n l t c d)

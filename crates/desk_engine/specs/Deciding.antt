@@ -10,7 +10,7 @@ use Rattle.rules.specs.declared.Refusal.the-variants.{Rules, Numbers, Past, Bus
 use Rattle.desk.specs.declared.Job.{Job}
 use Rattle.desk.specs.declared.Answer.the-variants.{Opened, Taken, Refused}
 use Rattle.rules.specs.Limits.{places}
-use Rattle.desk.specs.Table.{job, none}
+use Rattle.desk.specs.Table.{none}
 use Rattle.desk.specs.Request.{numbersOk}
 use Rattle.desk_records.specs.Folds.{movedUp}
 use Rattle.desk_records.specs.Sums.{sumTo}
@@ -19,7 +19,7 @@ use Rattle.desk_reading.specs.declared.scan.Scan.{Scan}
 use Rattle.desk_engine.specs.declared.effect.Effect.{Effect}
 use Rattle.desk_engine.specs.declared.decision.Decision.{Decision}
 use Rattle.desk_engine.specs.declared.decision.Decision.the-variants.{Opens, Keeps, Drops, Takes}
-use Rattle.desk_reading.specs.Reading.{checkEnd}
+use Rattle.desk_reading.specs.Reading.{checkEnd, newJob, searchEnd}
 
 -- the decision: a request's refusals 14 to 18 in their order, once the table keeps the rules
 abbrev pub requestDecision : Scan → Decision
@@ -28,7 +28,7 @@ requestDecision s =
     (pick (ltb (s .searching .time) (s .desk .clock)) (Keeps Past)
     (pick (s .searching .busy) (Drops Busy)
     (pick (leb places (s .searching .rest)) (Drops Full)
-    (pick (s .searching .found) Takes (Drops NoPlace)))))
+    (pick (searchEnd (s .searching)) Takes (Drops NoPlace)))))
     (Keeps Numbers)
 
 -- 13 first
@@ -67,8 +67,7 @@ takeEffect s = record {
   answer = Taken (s .searching .place) (s .searching .start);
   desk = record { clock = s .searching .time; count = sumTo (s .searching .rest) 1 };
   drop = s .searching .gone;
-  shift = shiftFrom (s .searching .place) true (s .searching .rest - s .searching .place)
-      (job (s .searching .start) (s .searching .budget) (s .searching .deadline) 0);
+  shift = shiftFrom (s .searching .place) true (s .searching .rest - s .searching .place) (newJob (s .searching));
   fit = fitFrom (places - sumTo (s .searching .rest) 1) (s .searching .rest - s .searching .place);
 }
 

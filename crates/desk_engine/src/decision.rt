@@ -3,6 +3,7 @@ ghost use mathlib.Core.Path.{_≡_};
 ghost use Rattle.desk_engine.specs.Deciding.{requestDecision, decisionOf};
 use desk_reading::checking::check_end;
 use desk_reading::scan::Scan;
+use desk_reading::searching::search_end;
 use desk_records::numbers::ALL_PLACES;
 use desk_records::numbers::numbers_ok;
 use rules::Refusal;
@@ -31,7 +32,7 @@ pub fn decide_request(s: Scan) -> Decision
         if ALL_PLACES <= b.rest {
             return Decision::Drops(Refusal::Full);
         }
-        if b.found {
+        if search_end(b) {
             return Decision::Takes;
         }
         return Decision::Drops(Refusal::NoPlace);

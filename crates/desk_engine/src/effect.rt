@@ -5,8 +5,8 @@ use crate::decision::Decision;
 use crate::decision::decide;
 use desk::Answer;
 use desk::Desk;
-use desk::Job;
 use desk_reading::scan::Scan;
+use desk_reading::searching::new_job;
 use desk_records::numbers::ALL_PLACES;
 use desk_records::numbers::less;
 use desk_records::numbers::sum;
@@ -101,12 +101,6 @@ pub fn take_effect(s: Scan) -> Effect
     ensures { λ r. ⌜ r ≡ takeEffect s ⌝ }
 {
     let q = s.searching;
-    let new = Job {
-        start: q.start,
-        budget: q.budget,
-        deadline: q.deadline,
-        flex: 0,
-    };
     let later = less(q.rest, q.place);
     let count = sum(q.rest, 1);
     let shift = Shift {
@@ -115,7 +109,7 @@ pub fn take_effect(s: Scan) -> Effect
         put: true,
         after: later,
         end: 0,
-        carry: new,
+        carry: new_job(q),
     };
     let fit = Fit {
         still: false,

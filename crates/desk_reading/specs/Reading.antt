@@ -6,7 +6,7 @@ use mathlib.Core.List.{List, [], _∷_}
 use lib.Dec.{leb, ltb, eqb}
 use Rattle.rules.specs.Walk.{pick}
 use Rattle.desk.specs.declared.Job.{Job}
-use Rattle.desk.specs.Table.{start, budget, flex, ends, xOf, jobOk, zeros}
+use Rattle.desk.specs.Table.{job, start, budget, flex, ends, xOf, jobOk, zeros}
 use Rattle.desk.specs.Request.{room}
 use Rattle.desk_reading.specs.declared.checking.Checking.{Checking}
 use Rattle.desk_reading.specs.declared.searching.Searching.{Searching}
@@ -78,6 +78,14 @@ searchStep s j =
       start = pick (searchPast s j) (sumTo (start j) (budget j)) (s .start);
     }))
     s
+
+-- the job asked for, at the start that the search has come to
+abbrev pub newJob : Searching → Job
+newJob s = job (s .start) (s .budget) (s .deadline) 0
+
+-- after the last place: one with room is found, or place l "is taken when s + C ≤ d"
+abbrev pub searchEnd : Searching → Bool
+searchEnd s = s .found || leb (ends (newJob s)) (s .deadline)
 
 -- ---- the whole pass
 

@@ -1,17 +1,17 @@
-// One step of the search: the place, at one more job.
+// One step of the search: the place, at one more job; and its end.
 ghost use mathlib.Core.Path.{_≡_};
 ghost use lib.Dec.{ltb, eqb};
 ghost use Rattle.rules.specs.Walk.{pick};
 ghost use Rattle.desk.specs.Table.{start, budget};
 ghost use Rattle.desk_records.specs.Sums.{sumTo};
-ghost use Rattle.desk_reading.specs.Reading.{searchFound, searchPast, searchStep};
+ghost use Rattle.desk_reading.specs.Reading.{searchFound, searchPast, searchStep, newJob, searchEnd};
 use desk::Job;
 use desk_records::numbers::sum;
 use desk_records::records::ends_by;
 use desk_records::records::room_at;
 
 // The request, listed jobs still to come, jobs dropped and left so far, whether the first one left is running,
-// and the place: found, or the next one to try with the end of the job before it.
+// and the place: found, or the next one to try with the end of the job before it. That is place l after the last job.
 pub struct Searching {
     pub time: u32,
     pub budget: u32,
@@ -106,4 +106,26 @@ pub fn search_step(s: Searching, j: Job) -> Searching
         return r;
     }
     r
+}
+
+// The job asked for, at the start that the search has come to.
+pub fn new_job(s: Searching) -> Job
+    ensures { λ r. ⌜ r ≡ newJob s ⌝ }
+{
+    Job {
+        start: s.start,
+        budget: s.budget,
+        deadline: s.deadline,
+        flex: 0,
+    }
+}
+
+// Whether there is a place, after the last job: one with room before a job, or place l in time.
+pub fn search_end(s: Searching) -> bool
+    ensures { λ r. ⌜ r ≡ searchEnd s ⌝ }
+{
+    if s.found {
+        return true;
+    }
+    ends_by(new_job(s), s.deadline)
 }

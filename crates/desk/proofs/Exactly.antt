@@ -1,0 +1,269 @@
+-- A request that no lower number refuses is taken exactly when some place keeps every deadline, and else is 18. Assumes nothing.
+use Prim.Native.Nat.{ℕ, zero, suc, _+_, _-_, _<_, _≤_, min}
+use mathlib.Core.Path.{_≡_, refl, subst}
+use mathlib.Core.Logic.{_↔_, _⊎_, inl, inr}
+use mathlib.Core.Bool.{Bool, true, false, not}
+use mathlib.Core.List.{List, [], _∷_}
+use native.Mathlib.Omega.{arith}
+use lib.Dec.{leb, ltb}
+use lib.ListN.{length, take, getD}
+use borrow.Author.Tests.{leb-true, leb-false, le-leb, eqb-true, not-false}
+use Rattle.rules.specs.Walk.{pick}
+use Rattle.rules.specs.Limits.{places, latest}
+use Rattle.rules.specs.declared.Refusal.the-variants.{Rules, Numbers, Past, Busy, Full, TooFar}
+use Rattle.rules.proofs.Tests.{and-parts}
+use Rattle.desk.specs.declared.Job.{Job}
+use Rattle.desk.specs.declared.Answer.the-variants.{Refused}
+use Rattle.desk.specs.Table.{job, outcome, xOf, rightX, deskOk, ends, Outcome}
+use Rattle.desk.specs.Request.{kept, busy, early, room, find, findFrom, tooFar, dropping, taking, insertAt, numbersOk, requestOf, Place, At, Nowhere}
+use Rattle.desk.specs.Call.{said}
+use Rattle.desk.specs.Story.{Entry, entry, noEntry, finish, standing, entries, Promise, Later, Joined}
+use Rattle.desk.specs.Theorems.{Refuses, Fits, NoLower, TakenExactly, NoPlaceExactly}
+use Rattle.desk.proofs.Check.{numbers-small}
+use Rattle.desk.proofs.Chain.{Chain}
+use Rattle.desk.proofs.Spot.{Spot, found-spot, early-late, right-tail, spot-near, spot-start, spot-inside, chain-insert}
+use Rattle.desk.proofs.Rules.{Sound, Good, good-of, good-kept, not-busy, fresh}
+use Rattle.desk.proofs.Entries.{withEntry, Follow, line-entries, follow-insert, follow-open, entries-open, line-promise}
+use Rattle.desk.proofs.Still.{join-here}
+
+-- A PLACE THAT IS FOUND KEEPS EVERY DEADLINE
+
+spot-fits : (t c d i : ℕ) (js : List Job) (s : ℕ) → 1 ≤ c → d ≤ latest → Chain t js → rightX js ≡ true → Spot c d t i js s → Fits t c d js
+spot-fits t c d i js s some low g r spot =
+    let mark = entry t c d s in
+    let gs = standing js in
+    let us = entries (withEntry i mark gs) (insertAt i (job s c d 0) js) in
+    let from = spot-start c d t i js s g spot in
+    let f : Follow gs js = subst (λ (ks : List Job). Follow gs ks) (fresh js r) (follow-open js) in
+    let is : entries gs js ≡ gs = subst (λ (ks : List Job). entries gs ks ≡ gs) (fresh js r) (entries-open js) in
+    record {
+      place = i;
+      start = s;
+      arranged = us;
+      joins = subst (λ (rs : List Entry). Joined rs us i mark) is (join-here i mark gs js s from f (spot-inside c d t i js s spot));
+      keeps = line-promise t us (line-entries t (withEntry i mark gs) (insertAt i (job s c d 0) js) (chain-insert c d t i js s some low g r spot) (follow-insert i mark gs js s from f));
+    }
+
+-- NO START THAT KEEPS THE DEADLINES IS BEYOND A JOB'S X
+
+tail-promise : (u : Entry) (us : List Entry) → Promise (u ∷ us) → Promise us
+tail-promise u us p =
+    record {
+      not-before = λ k h. p .not-before (suc k) (omega arith);
+      in-time = λ k h. p .in-time (suc k) (omega arith);
+      apart = λ i k h l. p .apart (suc i) (suc k) (omega arith) (omega arith);
+    }
+
+-- us are the jobs js, one for one, none earlier
+record Delayed (js : List Job) (us : List Entry) : Type 0 where
+  same : length us ≡ length (standing js)
+  later : (m : ℕ) → m < length (standing js) → Later (getD (standing js) m noEntry) (getD us m noEntry)
+
+tail-delayed : (j : Job) (js : List Job) (u : Entry) (us : List Entry) → Delayed (j ∷ js) (u ∷ us) → Delayed js us
+tail-delayed j js u us w = record { same = omega (arith, w .same); later = λ m h. w .later (suc m) (omega arith) }
+
+-- omega takes few case splits, and each `-` and `min` is one: so the numbers go in small steps
+gain : (m a c b : ℕ) → a ≤ b → b + c ≤ m → b - a ≤ m - a - c
+gain m a c b h g = omega arith
+
+at-most : (m p q : ℕ) → m ≤ p → m ≤ q → m ≤ min p q
+at-most m p q h g = omega arith
+
+back : (b a x : ℕ) → b - a ≤ x → b ≤ a + x
+back b a x h = omega arith
+
+within : (a c d y b : ℕ) → a ≤ b → b + c ≤ d → b + c ≤ y → b ≤ a + min (d - a - c) (y - a - c)
+within a c d y b h g l = back b a _ (at-most (b - a) (d - a - c) (y - a - c) (gain d a c b h g) (gain y a c b h l))
+
+limit : (j : Job) (js : List Job) (u : Entry) (us : List Entry) → rightX (j ∷ js) ≡ true → Delayed (j ∷ js) (u ∷ us) → Promise (u ∷ us)
+    → u .start ≤ j .start + j .flex
+limit j [] u us r w p =
+    let x : j .flex ≡ j .deadline - j .start - j .budget = eqb-true _ _ (and-parts _ (rightX []) r .0) in
+    let one = w .later 0 (omega arith) in
+    let due : u .start + j .budget ≤ j .deadline = rw (one .1, one .2) (p .in-time 0 (omega arith)) in
+    back (u .start) (j .start) (j .flex) (rw x (gain (j .deadline) (j .start) (j .budget) (u .start) (one .3) due))
+limit j (k ∷ ks) u [] r w p = absurd (omega (arith, w .same))
+limit j (k ∷ ks) u (v ∷ vs) r w p =
+    let x : j .flex ≡ xOf j (k ∷ ks) = eqb-true _ _ (and-parts _ (rightX (k ∷ ks)) r .0) in
+    let one = w .later 0 (omega arith) in
+    let due : u .start + j .budget ≤ j .deadline = rw (one .1, one .2) (p .in-time 0 (omega arith)) in
+    let next : v .start ≤ k .start + k .flex = limit k ks v vs (right-tail j (k ∷ ks) r) (tail-delayed j (k ∷ ks) u (v ∷ vs) w) (tail-promise u (v ∷ vs) p) in
+    let after : u .start + j .budget ≤ v .start = rw (one .1) (p .apart 0 1 (omega arith) (omega arith)) in
+    rw x (within (j .start) (j .budget) (j .deadline) (k .flex + k .start) (u .start) (one .3) due (omega arith))
+
+-- WHERE SOME PLACE KEEPS EVERY DEADLINE, ONE IS FOUND
+
+module _ (t c d s : ℕ) where
+  abbrev mark : Entry
+  mark = entry t c d s
+
+  in-time : (rs us : List Entry) (p : ℕ) → Joined rs us p mark → Promise us → s + c ≤ d
+  in-time rs us p w h =
+      let small : p < length us = omega (arith, w .inside, w .one-more) in
+      subst (λ (r : Entry). finish r ≤ r .deadline) (w .there) (h .in-time p small)
+
+  -- at the first place the next job need not go beyond its x
+  first-near : (j : Job) (js : List Job) (us : List Entry) → rightX (j ∷ js) ≡ true → Joined (standing (j ∷ js)) us 0 mark → Promise us
+      → s + c ≤ j .start + j .flex
+  first-near j js [] r w h = absurd (omega (arith, w .one-more))
+  first-near j js (x ∷ []) r w h = absurd (omega (arith, w .one-more))
+  first-near j js (x ∷ u ∷ us) r w h =
+      let z : x ≡ mark = w .there in
+      let after : s + c ≤ u .start = subst (λ (y : Entry). finish y ≤ u .start) z (h .apart 0 1 (omega arith) (omega arith)) in
+      let later : Delayed (j ∷ js) (u ∷ us) = record { same = omega (arith, w .one-more); later = λ m g. w .later m (omega arith) g } in
+      omega (arith, limit j js u us r later (tail-promise x (u ∷ us) h))
+
+  -- behind the first job it is the same of the others
+  record Behind (j : Job) (js : List Job) (p : ℕ) : Type 0 where
+    rest : List Entry
+    from : ends j ≤ s
+    joins : Joined (standing js) rest p mark
+    keeps : Promise rest
+
+  behind : (j : Job) (js : List Job) (p : ℕ) (us : List Entry) → Joined (standing (j ∷ js)) us (suc p) mark → Promise us → Behind j js p
+  behind j js p [] w h = absurd (omega (arith, w .one-more))
+  behind j js p (u ∷ us) w h =
+      let same : u ∷ take p us ≡ entry (j .start) (j .budget) (j .deadline) (j .start) ∷ take p (standing js) = w .before in
+      let is : u ≡ entry (j .start) (j .budget) (j .deadline) (j .start) = cc in
+      let small : suc p < length (u ∷ us) = omega (arith, w .inside, w .one-more) in
+      let after : finish u ≤ getD us p noEntry .start = h .apart 0 (suc p) (omega arith) small in
+      record {
+        rest = us;
+        from = subst (λ (r : Entry). ends j ≤ r .start) (w .there) (subst (λ (r : Entry). finish r ≤ getD us p noEntry .start) is after);
+        joins = record {
+          one-more = omega (arith, w .one-more);
+          inside = omega (arith, w .inside);
+          there = w .there;
+          before = cc;
+          later = λ m low short. w .later (suc m) (omega arith) (omega arith);
+        };
+        keeps = tail-promise u us h;
+      }
+
+  has-room : (e : ℕ) (j : Job) → e ≤ j .start → j .start ≤ d → e + c ≤ d → e + c ≤ j .start + j .flex → c ≤ room e d j
+  has-room e j h g u v = omega arith
+
+  -- place l is taken where it ends by d
+  not-last : (k e : ℕ) → e + c ≤ d → pick (leb (e + c) d) (At k e) Nowhere ≡ Nowhere → ⊥
+  not-last k e h q =
+      let z : At k e ≡ Nowhere = rw (le-leb (e + c) d h) at q in
+      let y : _≡_ {A = ℕ} 0 1 = cc in
+      omega arith
+
+  complete : (k e : ℕ) (js : List Job) (p : ℕ) (us : List Entry) → Chain e js → rightX js ≡ true → e ≤ s → Joined (standing js) us p mark → Promise us
+      → findFrom k e c d (take (early d js) js) ≡ Nowhere → ⊥
+  complete k e [] p us g r low w h q = not-last k e (omega (arith, in-time [] us p w h)) q
+  complete k e (j ∷ js) p us g r low w h q = by-early (leb (j .start) d) refl q (λ n v b. complete (k + 1) (ends j) js n (b .rest) (g .2) (right-tail j js r) (b .from) (b .joins) (b .keeps) v) where
+    due : e + c ≤ d
+    due = omega (arith, in-time (standing (j ∷ js)) us p w h)
+
+    Rest : Type 0
+    Rest = findFrom (k + 1) (ends j) c d (take (early d js) js) ≡ Nowhere
+
+    by-place : (n : ℕ) → Joined (standing (j ∷ js)) us n mark → j .start ≤ d → room e d j < c → Rest → ((n : ℕ) → Rest → Behind j js n → ⊥) → ⊥
+    by-place zero v early less z more =
+        let enough : c ≤ room e d j = has-room e j (g .0) early due (omega (arith, first-near j js us r v h)) in
+        omega arith
+    by-place (suc n) v early less z more = more n z (behind j js n us v h)
+
+    by-room : (b : Bool) → leb c (room e d j) ≡ b → j .start ≤ d → pick b (At k e) (findFrom (k + 1) (ends j) c d (take (early d js) js)) ≡ Nowhere
+        → ((n : ℕ) → Rest → Behind j js n → ⊥) → ⊥
+    by-room true u early z more = let y : _≡_ {A = ℕ} 0 1 = cc in omega arith
+    by-room false u early z more = by-place p w early (leb-false c (room e d j) u) z more
+
+    by-early : (b : Bool) → leb (j .start) d ≡ b → findFrom k e c d (take (pick b (suc (early d js)) (early d js)) (j ∷ js)) ≡ Nowhere
+        → ((n : ℕ) → Rest → Behind j js n → ⊥) → ⊥
+    by-early true u z more = by-room (leb c (room e d j)) refl (leb-true _ _ u) z more
+    by-early false u z more =
+        let none = early-late d (ends j) js (omega (arith, leb-false (j .start) d u)) (g .2) in
+        not-last k e due (rw none at z)
+
+-- A REQUEST THAT COMES TO THE SEARCH
+
+passes : (b : Bool) (o p : Outcome) (m : ℕ) → 13 ≤ m → m < 18 → Refuses o m → NoLower (pick b o p) → (b ≡ false) × NoLower p
+passes true o p m h g e nl = absurd (nl m h g e)
+passes false o p m h g e nl = (refl, nl)
+
+module _ (clock n : ℕ) (l : List Job) (t c d : ℕ) where
+  abbrev js : List Job
+  js = kept t (take n l)
+
+  abbrev stays : Outcome
+  stays = outcome l n clock (Refused TooFar)
+
+  record Reached : Type 0 where
+    sound : Sound clock n l
+    numbers : numbersOk t c d ≡ true
+    order : Chain t js
+    is : requestOf clock n l t c d ≡ taking stays t c d js (find t c d js)
+
+  abbrev searched : Outcome
+  searched = taking stays t c d js (find t c d js)
+
+  abbrev unless-full : Outcome
+  unless-full = pick (leb places (length js)) (dropping t js Full) searched
+
+  abbrev unless-busy : Outcome
+  unless-busy = pick (busy t js) (dropping t js Busy) unless-full
+
+  abbrev unless-past : Outcome
+  unless-past = pick (ltb t clock) (outcome l n clock (Refused Past)) unless-busy
+
+  abbrev unless-numbers : Outcome
+  unless-numbers = pick (not (numbersOk t c d)) (outcome l n clock (Refused Numbers)) unless-past
+
+  reached : NoLower (requestOf clock n l t c d) → Reached
+  unfolding requestOf
+  reached nl =
+      let a = passes (not (deskOk clock n l)) (outcome l n clock (Refused Rules)) unless-numbers 13 (omega arith) (omega arith) refl nl in
+      let b = passes (not (numbersOk t c d)) (outcome l n clock (Refused Numbers)) unless-past 14 (omega arith) (omega arith) refl (a .1) in
+      let e = passes (ltb t clock) (outcome l n clock (Refused Past)) unless-busy 15 (omega arith) (omega arith) refl (b .1) in
+      let f = passes (busy t js) (dropping t js Busy) unless-full 16 (omega arith) (omega arith) refl (e .1) in
+      let g = passes (leb places (length js)) (dropping t js Full) searched 17 (omega arith) (omega arith) refl (f .1) in
+      let sound : Sound clock n l = record { test = not-false (deskOk clock n l) (a .0) } in
+      record {
+        sound = sound;
+        numbers = not-false (numbersOk t c d) (b .0);
+        order = not-busy t js (f .0) (good-kept t n (take n l) (good-of clock n l sound) .order);
+        is = rw (a .0, b .0, e .0, f .0, g .0);
+      }
+
+  -- it is taken and fits, or it is 18 and no place does
+  abbrev Sought : Outcome → Type 0
+  Sought o = ((said (o .answer) .number ≡ 0) × Fits t c d js) ⊎ ((said (o .answer) .number ≡ 18) × (Fits t c d js → ⊥))
+
+  sought : Reached → (p : Place) → find t c d js ≡ p → Sought (taking stays t c d js p)
+  sought w Nowhere e =
+      let right = good-kept t n (take n l) (good-of clock n l (w .sound)) .right in
+      inr (refl, λ f. complete t c d (f .start) 0 t js (f .place) (f .arranged) (w .order) right (since (f .start) _ (f .arranged) (f .place) (f .joins) (f .keeps)) (f .joins) (f .keeps) e) where
+        since : (s : ℕ) (rs us : List Entry) (p : ℕ) → Joined rs us p (entry t c d s) → Promise us → t ≤ s
+        since s rs us p w h =
+            let small : p < length us = omega (arith, w .inside, w .one-more) in
+            subst (λ (r : Entry). r .since ≤ r .start) (w .there) (h .not-before p small)
+  sought w (At i s) e =
+      let right = good-kept t n (take n l) (good-of clock n l (w .sound)) .right in
+      let small = numbers-small t c d (w .numbers) in
+      let spot = found-spot t c d js (w .order) i s e in
+      inl (rw (spot-near c d t i js s (w .order) right spot), spot-fits t c d i js s (small .2) (small .3) (w .order) right spot)
+
+  sought-of : NoLower (requestOf clock n l t c d) → Sought (requestOf clock n l t c d)
+  sought-of nl = let w = reached nl in rw (w .is) (sought w (find t c d js) refl)
+
+  taken-fits : (o : Outcome) → Sought o → (said (o .answer) .number ≡ 0) ↔ Fits t c d js
+  taken-fits o (inl w) = (λ e. w .1, λ f. w .0)
+  taken-fits o (inr w) = (λ e. absurd (omega (arith, w .0)), λ f. absurd (w .1 f))
+
+  refused-fits : (o : Outcome) → Sought o → (Refuses o 18 → Fits t c d js → ⊥) × ((Fits t c d js → ⊥) → Refuses o 18)
+  refused-fits o (inl w) = (λ e. absurd (omega (arith, w .0)), λ f. absurd (f (w .1)))
+  refused-fits o (inr w) = (λ e. w .1, λ f. w .0)
+
+pub taken-exactly : TakenExactly
+taken-exactly clock n l t c d nl = taken-fits clock n l t c d (requestOf clock n l t c d) (sought-of clock n l t c d nl)
+
+pub no-place-exactly : NoPlaceExactly
+no-place-exactly clock n l t c d = (
+  λ e. (none e, refused-fits clock n l t c d (requestOf clock n l t c d) (sought-of clock n l t c d (none e)) .0 e),
+  λ w. refused-fits clock n l t c d (requestOf clock n l t c d) (sought-of clock n l t c d (w .0)) .1 (w .1),
+) where
+  none : Refuses (requestOf clock n l t c d) 18 → NoLower (requestOf clock n l t c d)
+  none e m h g f = omega arith
