@@ -19,14 +19,17 @@ returns-3 c =
     let s = c .before .before .before .before .before .before .before .before .before .before .args .s in
     rw (sym (c .before .before .before .before .before .before .before .numbers-ok .ensures) ∙ c .before .before .before .before .before .before .if1 .taken, le-ltb _ _ (c .before .before .before .if2 .left), c .before .before .if3 .left, le-leb places (s .searching .rest) (c .if4 .taken))
 
+search-end-requires : tie.Need-search-end-requires
+search-end-requires c κs = search needs
+
 returns-4 : tie.Need-returns-4
-returns-4 c = rw (sym (c .before .before .before .before .before .before .before .before .numbers-ok .ensures) ∙ c .before .before .before .before .before .before .before .if1 .taken, le-ltb _ _ (c .before .before .before .before .if2 .left), c .before .before .before .if3 .left, lt-leb _ _ (c .before .if4 .left), c .if5 .taken)
+returns-4 c = rw (sym (c .before .before .before .before .before .before .before .before .before .numbers-ok .ensures) ∙ c .before .before .before .before .before .before .before .before .if1 .taken, le-ltb _ _ (c .before .before .before .before .before .if2 .left), c .before .before .before .before .if3 .left, lt-leb _ _ (c .before .before .if4 .left), sym (c .before .search-end .ensures) ∙ c .if5 .taken)
 
 returns-5 : tie.Need-returns-5
-returns-5 c = rw (sym (c .before .before .before .before .before .before .before .before .numbers-ok .ensures) ∙ c .before .before .before .before .before .before .before .if1 .taken, le-ltb _ _ (c .before .before .before .before .if2 .left), c .before .before .before .if3 .left, lt-leb _ _ (c .before .if4 .left), c .if5 .left)
+returns-5 c = rw (sym (c .before .before .before .before .before .before .before .before .before .numbers-ok .ensures) ∙ c .before .before .before .before .before .before .before .before .if1 .taken, le-ltb _ _ (c .before .before .before .before .before .if2 .left), c .before .before .before .before .if3 .left, lt-leb _ _ (c .before .before .if4 .left), sym (c .before .search-end .ensures) ∙ c .if5 .left)
 
 returns-6 : tie.Need-returns-6
 returns-6 c = rw (sym (c .before .numbers-ok .ensures) ∙ c .if1 .left)
 
 pub decide-request-spec : {M : Type 1} → statement M
-decide-request-spec = tie.close (tie.spec numbers-ok-requires returns returns-2 returns-3 returns-4 returns-5 returns-6)
+decide-request-spec = tie.close (tie.spec numbers-ok-requires returns returns-2 returns-3 search-end-requires returns-4 returns-5 returns-6)

@@ -8,6 +8,9 @@ less-requires c κs = search needs
 sum-requires : tie.Need-sum-requires
 sum-requires c κs = search needs
 
+new-job-requires : tie.Need-new-job-requires
+new-job-requires c κs = search needs
+
 less-requires-2 : tie.Need-less-requires-2
 less-requires-2 c κs = search needs
 
@@ -27,8 +30,9 @@ returns c =
       c .before .wide-place .ensures,
       c .before .before .no-job .ensures,
       c .before .before .before .less2 .ensures,
-      c .before .before .before .before .sum .ensures,
-      c .before .before .before .before .before .less .ensures,
+      c .before .before .before .before .new-job .ensures,
+      c .before .before .before .before .before .sum .ensures,
+      c .before .before .before .before .before .before .less .ensures,
     )
 
 pub take-effect-spec : {M : Type 1} → statement M
@@ -37,6 +41,7 @@ take-effect-spec =
     (tie.spec
     less-requires
     sum-requires
+    new-job-requires
     less-requires-2
     no-job-requires
     wide-place-requires

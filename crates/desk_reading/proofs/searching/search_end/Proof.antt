@@ -1,0 +1,18 @@
+use borrow.Author.Needs.{needs}
+use Rattle.desk_reading.proofs.searching.search_end.Statement.{statement}
+use Rattle.desk_reading.proofs.searching.search_end.Tie as tie
+
+returns : tie.Need-returns
+returns c = search needs
+
+new-job-requires : tie.Need-new-job-requires
+new-job-requires c κs = search needs
+
+ends-by-requires : tie.Need-ends-by-requires
+ends-by-requires c κs = search needs
+
+returns-2 : tie.Need-returns-2
+returns-2 c = rw (c .before .before .if1 .left) (rw (c .before .new-job .ensures) at (c .ends-by .ensures))
+
+pub search-end-spec : {M : Type 1} → statement M
+search-end-spec = tie.close (tie.spec returns new-job-requires ends-by-requires returns-2)
