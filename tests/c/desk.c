@@ -1,4 +1,4 @@
-/* D1 to D5 of document 01 on a static table, through the C surface. */
+/* D1 to D6 of the documents on a static table, an empty table, and a request that asks again, through the C surface. */
 #include <string.h>
 
 #include "expect.h"
@@ -75,11 +75,74 @@ static void d5(void)
     expect("other places", merkazobi_request(&desk, table, MERKAZOBI_PLACES - 1, 12, 1, 40).number, MERKAZOBI_TABLE);
 }
 
+static void d6(void)
+{
+    open_d1();
+    const merkazobi_answer r = request(25, 4, 29);
+    expect("D6", r.number, 0);
+    expect("D6 place", r.first, 0);
+    expect("D6 start", r.second, 25);
+    expect("D6 count", desk.count, 2);
+    expect_job("D6 new", 0, 25, 4, 29, 0);
+    expect_job("D6 last", 1, 30, 2, 40, 8);
+}
+
+static void empty(void)
+{
+    memset(table, 0, sizeof table);
+    desk = (merkazobi_desk){0, 0};
+    expect("empty", merkazobi_open(&desk, table, MERKAZOBI_PLACES).number, 0);
+    expect("empty, a tick too long", request(7, 6, 12).number, MERKAZOBI_NO_PLACE);
+    expect("empty, just in time", request(7, 5, 12).number, 0);
+    expect("empty, count", desk.count, 1);
+    expect_job("empty, new", 0, 7, 5, 12, 0);
+}
+
+/* The ticks that went by while the box slept; it wakes `late` ticks after it should. */
+static uint32_t late;
+
+static uint32_t sleep_until(uint32_t tick)
+{
+    return tick + late;
+}
+
+/* A late job that doesn't give up while a job is running. How often it asks is counted. */
+static size_t asks;
+
+static merkazobi_answer ask(uint32_t t, uint32_t c, uint32_t d)
+{
+    merkazobi_answer r;
+    asks = 1;
+    while ((r = request(t, c, d)).number == MERKAZOBI_BUSY) {
+        t = sleep_until(table[0].a + table[0].c);
+        asks++;
+    }
+    return r;
+}
+
+static void asked_again(void)
+{
+    open_d1();
+    merkazobi_answer r = ask(12, 2, 40); /* D5: busy until 13 */
+    expect("again", r.number, 0);
+    expect("again, start", r.second, 13);
+    expect("again, asks", asks, 2);
+    late = 3; /* busy until 13, and at 16 until 20, and at 23 free */
+    open_d1();
+    r = ask(12, 2, 40);
+    expect("late again", r.number, 0);
+    expect("late again, start", r.second, 23);
+    expect("late again, asks", asks, 3);
+}
+
 int main(void)
 {
     d1();
     d2();
     d3_and_d4();
     d5();
+    d6();
+    empty();
+    asked_again();
     return failures != 0;
 }

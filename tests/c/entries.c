@@ -326,7 +326,8 @@ static const merkazobi_job d1[] = {{10, 3, 20, 6}, {15, 5, 24, 4}, {30, 2, 40, 8
 static void stand(memory *at, uint32_t clock, const merkazobi_job *jobs, uint32_t count)
 {
     memset(at->jobs, 0, PLACES * sizeof *jobs);
-    memcpy(at->jobs, jobs, count * sizeof *jobs);
+    for (uint32_t i = 0; i < count; i++)
+        at->jobs[i] = jobs[i];
     at->desk[0] = (merkazobi_desk){clock, count};
 }
 
@@ -370,6 +371,23 @@ static void requests(void)
     ends("D4", request(8, 9, 40), (merkazobi_answer){0, 2, 20, 0, 0});
 }
 
+/* "place l is tried too, also when the table is empty or no job follows: it is taken when s + C <= d" */
+static void requests_at_the_last_place(void)
+{
+    static const merkazobi_job d6[] = {{25, 4, 29, 0}, {30, 2, 40, 8}};
+    static const merkazobi_job behind[] = {{30, 2, 40, 0}, {32, 9, 41, 0}};
+    static const merkazobi_job alone[] = {{7, 5, 12, 0}};
+    begin_desk(0, d1, 3);
+    stand(&wanted, 25, d6, 2);
+    ends("D6", request(25, 4, 29), (merkazobi_answer){0, 0, 25, 0, 0});
+    begin_desk(0, &d1[2], 1);
+    stand(&wanted, 30, behind, 2);
+    ends("behind the last job", request(30, 9, 41), (merkazobi_answer){0, 1, 32, 0, 0});
+    begin_desk(0, NULL, 0);
+    stand(&wanted, 7, alone, 1);
+    ends("in an empty table", request(7, 5, 12), (merkazobi_answer){0, 0, 7, 0, 0});
+}
+
 /* "13, 14, 15 and 19 change nothing at the desk." */
 static void requests_that_change_nothing(void)
 {
@@ -392,7 +410,13 @@ static void requests_that_drop(void)
     ends("busy with the second job", request(16, 1, 40), told(16, 0));
     begin_desk(0, d1, 3);
     stand(&wanted, 25, &d1[2], 1);
-    ends("D6", request(25, 4, 29), told(18, 0));
+    ends("a tick longer than D6", request(25, 5, 29), told(18, 0));
+    begin_desk(0, &d1[2], 1);
+    stand(&wanted, 30, &d1[2], 1);
+    ends("a tick too long behind the last job", request(30, 10, 41), told(18, 0));
+    begin_desk(0, NULL, 0);
+    stand(&wanted, 7, NULL, 0);
+    ends("a tick too long for an empty table", request(7, 6, 12), told(18, 0));
     merkazobi_job full[PLACES];
     for (uint32_t i = 0; i < PLACES; i++)
         full[i] = (merkazobi_job){10 + i, 1, 1000000, 999926};
@@ -415,6 +439,7 @@ int main(void)
     listings();
     opens();
     requests();
+    requests_at_the_last_place();
     requests_that_change_nothing();
     requests_that_drop();
     return failures != 0;

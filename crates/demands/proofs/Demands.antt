@@ -1,10 +1,11 @@
 -- The three demands, from the crates' records and each entry's own contract. Assumes nothing.
-use Prim.Native.Nat.{ℕ, _+_, _-_, _≤_}
+use Prim.Native.Nat.{ℕ, _+_, _-_, _≤_, _<_}
 use mathlib.Core.Path.{_≡_, refl, sym, ap, subst, _∙_}
+use mathlib.Core.Logic.{_↔_}
 use mathlib.Core.Bool.{Bool, true, false, true≢false, not, _&&_, _||_}
 use mathlib.Core.List.{List, [], _∷_}
 use native.Mathlib.Omega.{arith}
-use borrow.Author.Tests.{eqb-true, not-true}
+use borrow.Author.Tests.{eqb-true, eqb-false, not-true}
 use lib.Dec.{leb, ltb, eqb}
 use lib.ListN.{length, take, drop}
 use Rattle.rules.specs.Walk.{pick}
@@ -59,11 +60,12 @@ use Rattle.desk.specs.declared.Answer.the-variants.{Opened, Taken, Refused}
 use Rattle.desk.specs.Table.{job, filled, flexes, Outcome, outcome, tableOk, deskOk, openOf}
 use Rattle.desk.specs.Request.{kept, busy, Place, At, Nowhere, find, tooFar, insertAt, taking, dropping, numbersOk, drops, requestOf}
 use Rattle.desk.specs.Call.{deskOf, Leaves, said}
+use Rattle.desk.specs.Theorems.{Fits, NoLower}
 use Rattle.desk.proofs.Proved as desk
 use Rattle.desk_lent.proofs.Proved as lent
 use Rattle.api.specs.Answers.{TellsCheck, TellsBuild, TellsVerdict, TellsRead, TellsSection, TellsWrite, TellsList, TellsRequest}
 use Rattle.answers.specs.Parts.{toldPart}
-use Rattle.demands.specs.Demands.{among, ToldAs, Numbered, Demand1, OneOutcome, Afresh, Demand2, Demand3, Demands}
+use Rattle.demands.specs.Demands.{among, ToldAs, Numbered, Demand1, OneOutcome, Afresh, lower, Demand2, Demand3, Demands}
 use Rattle.demands.proofs.Entries.{entries}
 
 -- ---- the numbers, whatever the tests give: one case for each answer
@@ -210,6 +212,16 @@ every-among p (m ∷ ms) n h e = at (eqb m n) refl (every-among p ms n (and-part
 abbrev dropsBy : ℕ → Bool
 dropsBy n = leb 16 n && leb n 18
 
+one-more : (k : ℕ) (ms : List ℕ) (m : ℕ) → (k < m → among ms m ≡ true) → k ≤ m → among (k ∷ ms) m ≡ true
+one-more k ms m rest h = at (eqb k m) refl
+  where
+    at : (b : Bool) → eqb k m ≡ b → b || among ms m ≡ true
+    at true e = refl
+    at false e = rest (omega (arith, eqb-false k m e))
+
+lower-all : (m : ℕ) → 13 ≤ m → m < 18 → among lower m ≡ true
+lower-all m h g = one-more 13 _ m (one-more 14 _ m (one-more 15 _ m (one-more 16 _ m (one-more 17 _ m (λ e. absurd (omega arith))))) h
+
 module _ (k k′ : Desk) (l l′ : List Job) (time c d : ℕ) (t : Told) (p : TellsRequest k l time c d k′ l′ t) where
   abbrev asked : Outcome
   asked = requestOf (k .clock) (k .count) l time c d
@@ -250,6 +262,20 @@ module _ (k k′ : Desk) (l l′ : List Job) (time c d : ℕ) (t : Told) (p : Te
       go Opened f = absurd (not-opened f)
       go (Taken i s) f = desk.proved .taken-sets-clock (k .clock) (k .count) l time c d i s f
       go (Refused r) f = absurd (not-0 r (rw (desk-is asked k′ l′ t p, f) at e))
+
+  -- no number of the list is one for the desk's `NoLower`
+  none-lower : ¬ ToldAs lower t → NoLower asked
+  none-lower h m low high e = h (rw (desk-is asked k′ l′ t p, e) (lower-all m low high))
+
+  taken-told : ¬ ToldAs lower t → (t .number ≡ 0) ↔ Fits time c d left
+  taken-told h = rw (desk-is asked k′ l′ t p) (desk.proved .taken-exactly (k .clock) (k .count) l time c d (none-lower h))
+
+  no-place-told : (t .number ≡ 18) ↔ (¬ ToldAs lower t × ¬ Fits time c d left)
+  no-place-told =
+      let w = desk.proved .no-place-exactly (k .clock) (k .count) l time c d in (
+        λ e. (λ h. true≢false (sym (rw e at h)), w .0 (rw (desk-is asked k′ l′ t p) at e) .1),
+        λ (h, f). rw (desk-is asked k′ l′ t p) (w .1 (none-lower h, f)),
+      )
 
 -- ---- sections
 
@@ -360,6 +386,8 @@ second = record {
   write-read = writer.proved .write-read;
   open-afresh = λ k k′ l l′ t p. afresh-is _ k′ l′ t p (desk.proved .open-afresh (k .clock) (k .count) l);
   request-afresh = λ k k′ l l′ time c d t p. afresh-is _ k′ l′ t p (desk.proved .request-afresh (k .clock) (k .count) l time c d);
+  taken-exactly = taken-told;
+  no-place-exactly = no-place-told;
 }
 
 third : Demand3

@@ -111,6 +111,7 @@ desks = record {
   request-16 = (_, (refl, refl, refl), refl);
   request-17 = (_, (refl, refl, refl), refl);
   request-18 = (_, (refl, refl, refl), refl);
+  request-18-gap = (_, (refl, refl, refl), refl);
 }
 
 limits : EachLimit
@@ -134,6 +135,7 @@ limits = record {
   places-63 = (_, (refl, refl, refl), refl);
   places-65 = (_, (refl, refl, refl), refl);
   time-1000000 = (_, (refl, refl, refl), refl);
+  deadline-1000000 = (_, (refl, refl, refl), refl);
   time-1000001 = (_, (refl, refl, refl), refl);
   budget-1000001 = (_, (refl, refl, refl), refl);
   deadline-1000001 = (_, (refl, refl, refl), refl);

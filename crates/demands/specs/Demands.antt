@@ -118,7 +118,11 @@ pub record OneOutcome : Type 0 where
 abbrev pub Afresh : Desk → List Job → Type 0
 Afresh k l = flexes (take (k .count) l) ≡ take (k .count) l
 
--- DEMAND 2: "Ticks, plan, verdict, file and desk are exactly those of document 01's rules. Read-after-write gives the tables, write-after-read the bytes;
+-- the numbers of a request that are lower than 18
+abbrev pub lower : List ℕ
+lower = 13 ∷ 14 ∷ 15 ∷ 16 ∷ 17 ∷ []
+
+-- DEMAND 2: "Ticks, plan, verdict, file and desk are exactly those of the documents' rules. Read-after-write gives the tables, write-after-read the bytes;
 -- after every call that tests the job table and doesn't refuse it, flexibilities are those worked out afresh." Each entry has one outcome, its rule's, and of the rules the records below hold.
 pub record Demand2 : Type 0 where
   pub one-outcome : OneOutcome
@@ -139,6 +143,14 @@ pub record Demand2 : Type 0 where
   pub open-afresh : (k k′ : Desk) (l l′ : List Job) (t : Told) → TellsOpen k l k′ l′ t → ¬ (t .number ≡ 13) → Afresh k′ l′
   pub request-afresh :
       (k k′ : Desk) (l l′ : List Job) (time c d : ℕ) (t : Told) → TellsRequest k l time c d k′ l′ t → ¬ (t .number ≡ 13) → Afresh k′ l′
+  -- document 02, ask 1: "A request that no lower number refuses is then taken exactly when some place .. keeps every deadline."
+  pub taken-exactly :
+      (k k′ : Desk) (l l′ : List Job) (time c d : ℕ) (t : Told) → TellsRequest k l time c d k′ l′ t → ¬ ToldAs lower t
+      → (t .number ≡ 0) ↔ desk.Fits time c d (kept time (take (k .count) l))
+  -- "18 keeps its number and gets the narrower meaning."
+  pub no-place-exactly :
+      (k k′ : Desk) (l l′ : List Job) (time c d : ℕ) (t : Told) → TellsRequest k l time c d k′ l′ t
+      → (t .number ≡ 18) ↔ (¬ ToldAs lower t × ¬ desk.Fits time c d (kept time (take (k .count) l)))
 
 -- DEMAND 3: "Plan accepted and task passes ⇒ every job of that task ends within D in every legal run, even if other tasks fail. What the harmonic rule writes
 -- is always accepted; it refuses for want of ticks only if no plan of any length serves." A pass is told with its point, which is 1 or more.

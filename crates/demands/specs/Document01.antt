@@ -1,4 +1,4 @@
--- The worked examples of document 01, under one statement: each is what its entry tells and leaves. Assumes nothing.
+-- The worked examples of document 01, D6 as document 02 has it, under one statement: each is what its entry tells and leaves. Assumes nothing.
 use Prim.Native.Nat.{ℕ}
 use mathlib.Core.Path.{_≡_}
 use mathlib.Core.List.{List, [], _∷_, _++_}
@@ -93,8 +93,8 @@ pub record Document01 : Type 0 where
   pub d4-rooms : (room 8 40 (job 10 3 20 6) ≡ 8) × (room 13 40 (job 15 5 24 4) ≡ 6) × (room 20 40 (job 30 2 40 8) ≡ 18)
   -- "From D1, t 12: busy."
   pub d5 : TellsRequest (desk 0 3) opened 12 1 40 (desk 12 3) opened (placed 16 0)
-  -- "From D1, t 25, C 4, d 29: no place."
-  pub d6 : TellsRequest (desk 0 3) opened 25 4 29 (desk 25 1) (filled (job 30 2 40 8 ∷ [])) (placed 18 0)
+  -- "From D1, t 25, C 4, d 29"; document 02, ask 1: "D6 starts at 25."
+  pub d6 : TellsRequest (desk 0 3) opened 25 4 29 (desk 25 2) (filled (job 25 4 29 0 ∷ job 30 2 40 8 ∷ [])) (telling 0 0 25 0 0)
   -- the whole example's contents, and "Its listing"
   pub w1-read : TellsRead file (telling 0 4 2 1 2)
   pub w1 : TellsList file page listing (placed 0 100)

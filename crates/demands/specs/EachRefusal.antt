@@ -128,6 +128,8 @@ pub record EachDesk : Type 0 where
   pub request-16 : TellsRequest (desk 0 3) opened 16 1 40 (desk 16 2) (filled (job 15 5 24 4 ∷ job 30 2 40 8 ∷ [])) (placed 16 0)
   pub request-17 : TellsRequest (desk 0 64) full 9 1 40 (desk 9 64) full (placed 17 0)
   pub request-18 : TellsRequest (desk 0 3) opened 8 9 16 (desk 8 3) opened (placed 18 0)
+  -- a tick longer than D6
+  pub request-18-gap : TellsRequest (desk 0 3) opened 25 5 29 (desk 25 1) (filled (job 30 2 40 8 ∷ [])) (placed 18 0)
 
 -- a table n times over
 abbrev pub times : ℕ → List ℕ → List ℕ
@@ -141,7 +143,7 @@ head-with high low = take 14 file ++ (high ∷ low ∷ [])
 abbrev pub empty : List Job
 empty = filled []
 
--- At a limit no rule is broken but a later one (12 and 5: there is no room, and no more of the file; 18: the table is empty); beyond it the limit's own is.
+-- At a limit no rule is broken but a later one (12 and 5: there is no room, and no more of the file; 18: the job would end past its deadline); beyond it the limit's own is.
 pub record EachLimit : Type 0 where
   -- "Partitions 1 to 16, tasks 0 to 128, frame 1 to 4,096 ticks, runs 1 to 4,096."
   pub partitions-16 : TellsWrite 4 (times 16 half) [] runs [] [] (placed 12 0)
@@ -165,6 +167,7 @@ pub record EachLimit : Type 0 where
   pub places-63 : TellsOpen (desk 0 0) (drop 1 empty) (desk 0 0) (drop 1 empty) (placed 13 0)
   pub places-65 : TellsOpen (desk 0 65) (row 10 65) (desk 0 65) (row 10 65) (placed 13 0)
   pub time-1000000 : TellsRequest (desk 1000000 0) empty 1000000 1000000 1000000 (desk 1000000 0) empty (placed 18 0)
+  pub deadline-1000000 : TellsRequest (desk 0 0) empty 0 1000000 1000000 (desk 0 1) (filled (job 0 1000000 1000000 0 ∷ [])) (telling 0 0 0 0 0)
   pub time-1000001 : TellsRequest (desk 0 0) empty 1000001 1 1 (desk 0 0) empty (placed 14 0)
   pub budget-1000001 : TellsRequest (desk 0 0) empty 1 1000001 1 (desk 0 0) empty (placed 14 0)
   pub deadline-1000001 : TellsRequest (desk 0 0) empty 1 1 1000001 (desk 0 0) empty (placed 14 0)

@@ -2,27 +2,26 @@
 use Prim.Native.Nat.{ℕ, zero, suc, _+_, _-_, _<_, _≤_, min}
 use mathlib.Core.Path.{_≡_, refl, subst}
 use mathlib.Core.Logic.{_↔_, _⊎_, inl, inr}
-use mathlib.Core.Bool.{Bool, true, false, not}
+use mathlib.Core.Bool.{Bool, true, false}
 use mathlib.Core.List.{List, [], _∷_}
 use native.Mathlib.Omega.{arith}
-use lib.Dec.{leb, ltb}
+use lib.Dec.{leb}
 use lib.ListN.{length, take, getD}
-use borrow.Author.Tests.{leb-true, leb-false, le-leb, eqb-true, not-false}
+use borrow.Author.Tests.{leb-true, leb-false, le-leb, eqb-true}
 use Rattle.rules.specs.Walk.{pick}
-use Rattle.rules.specs.Limits.{places, latest}
-use Rattle.rules.specs.declared.Refusal.the-variants.{Rules, Numbers, Past, Busy, Full, TooFar}
+use Rattle.rules.specs.Limits.{latest}
+use Rattle.rules.specs.Refusals.{told}
+use Rattle.rules.specs.declared.Refusal.the-variants.{Busy, Full, NoPlace}
 use Rattle.rules.proofs.Tests.{and-parts}
 use Rattle.desk.specs.declared.Job.{Job}
-use Rattle.desk.specs.declared.Answer.the-variants.{Refused}
-use Rattle.desk.specs.Table.{job, outcome, xOf, rightX, deskOk, ends, Outcome}
-use Rattle.desk.specs.Request.{kept, busy, early, room, find, findFrom, tooFar, dropping, taking, insertAt, numbersOk, requestOf, Place, At, Nowhere}
+use Rattle.desk.specs.Table.{job, xOf, rightX, ends, Outcome}
+use Rattle.desk.specs.Request.{kept, early, room, findFrom, insertAt, requestOf, At, Nowhere}
 use Rattle.desk.specs.Call.{said}
 use Rattle.desk.specs.Story.{Entry, entry, noEntry, finish, standing, entries, Promise, Later, Joined}
 use Rattle.desk.specs.Theorems.{Refuses, Fits, NoLower, TakenExactly, NoPlaceExactly}
-use Rattle.desk.proofs.Check.{numbers-small}
 use Rattle.desk.proofs.Chain.{Chain}
-use Rattle.desk.proofs.Spot.{Spot, found-spot, early-late, right-tail, spot-near, spot-start, spot-inside, chain-insert}
-use Rattle.desk.proofs.Rules.{Sound, Good, good-of, good-kept, not-busy, fresh}
+use Rattle.desk.proofs.Spot.{Spot, early-late, right-tail, spot-start, spot-inside, chain-insert}
+use Rattle.desk.proofs.Rules.{good-of, good-kept, fresh, running, full, nowhere, Ending, same, dropped, taken, ending, sound-unless}
 use Rattle.desk.proofs.Entries.{withEntry, Follow, line-entries, follow-insert, follow-open, entries-open, line-promise}
 use Rattle.desk.proofs.Still.{join-here}
 
@@ -178,76 +177,33 @@ module _ (t c d s : ℕ) where
         let none = early-late d (ends j) js (omega (arith, leb-false (j .start) d u)) (g .2) in
         not-last k e due (rw none at z)
 
--- A REQUEST THAT COMES TO THE SEARCH
-
-passes : (b : Bool) (o p : Outcome) (m : ℕ) → 13 ≤ m → m < 18 → Refuses o m → NoLower (pick b o p) → (b ≡ false) × NoLower p
-passes true o p m h g e nl = absurd (nl m h g e)
-passes false o p m h g e nl = (refl, nl)
+-- A REQUEST THAT NO LOWER NUMBER REFUSES
 
 module _ (clock n : ℕ) (l : List Job) (t c d : ℕ) where
   abbrev js : List Job
   js = kept t (take n l)
 
-  abbrev stays : Outcome
-  stays = outcome l n clock (Refused TooFar)
-
-  record Reached : Type 0 where
-    sound : Sound clock n l
-    numbers : numbersOk t c d ≡ true
-    order : Chain t js
-    is : requestOf clock n l t c d ≡ taking stays t c d js (find t c d js)
-
-  abbrev searched : Outcome
-  searched = taking stays t c d js (find t c d js)
-
-  abbrev unless-full : Outcome
-  unless-full = pick (leb places (length js)) (dropping t js Full) searched
-
-  abbrev unless-busy : Outcome
-  unless-busy = pick (busy t js) (dropping t js Busy) unless-full
-
-  abbrev unless-past : Outcome
-  unless-past = pick (ltb t clock) (outcome l n clock (Refused Past)) unless-busy
-
-  abbrev unless-numbers : Outcome
-  unless-numbers = pick (not (numbersOk t c d)) (outcome l n clock (Refused Numbers)) unless-past
-
-  reached : NoLower (requestOf clock n l t c d) → Reached
-  unfolding requestOf
-  reached nl =
-      let a = passes (not (deskOk clock n l)) (outcome l n clock (Refused Rules)) unless-numbers 13 (omega arith) (omega arith) refl nl in
-      let b = passes (not (numbersOk t c d)) (outcome l n clock (Refused Numbers)) unless-past 14 (omega arith) (omega arith) refl (a .1) in
-      let e = passes (ltb t clock) (outcome l n clock (Refused Past)) unless-busy 15 (omega arith) (omega arith) refl (b .1) in
-      let f = passes (busy t js) (dropping t js Busy) unless-full 16 (omega arith) (omega arith) refl (e .1) in
-      let g = passes (leb places (length js)) (dropping t js Full) searched 17 (omega arith) (omega arith) refl (f .1) in
-      let sound : Sound clock n l = record { test = not-false (deskOk clock n l) (a .0) } in
-      record {
-        sound = sound;
-        numbers = not-false (numbersOk t c d) (b .0);
-        order = not-busy t js (f .0) (good-kept t n (take n l) (good-of clock n l sound) .order);
-        is = rw (a .0, b .0, e .0, f .0, g .0);
-      }
-
   -- it is taken and fits, or it is 18 and no place does
   abbrev Sought : Outcome → Type 0
   Sought o = ((said (o .answer) .number ≡ 0) × Fits t c d js) ⊎ ((said (o .answer) .number ≡ 18) × (Fits t c d js → ⊥))
 
-  sought : Reached → (p : Place) → find t c d js ≡ p → Sought (taking stays t c d js p)
-  sought w Nowhere e =
-      let right = good-kept t n (take n l) (good-of clock n l (w .sound)) .right in
-      inr (refl, λ f. complete t c d (f .start) 0 t js (f .place) (f .arranged) (w .order) right (since (f .start) _ (f .arranged) (f .place) (f .joins) (f .keeps)) (f .joins) (f .keeps) e) where
-        since : (s : ℕ) (rs us : List Entry) (p : ℕ) → Joined rs us p (entry t c d s) → Promise us → t ≤ s
-        since s rs us p w h =
-            let small : p < length us = omega (arith, w .inside, w .one-more) in
-            subst (λ (r : Entry). r .since ≤ r .start) (w .there) (h .not-before p small)
-  sought w (At i s) e =
-      let right = good-kept t n (take n l) (good-of clock n l (w .sound)) .right in
-      let small = numbers-small t c d (w .numbers) in
-      let spot = found-spot t c d js (w .order) i s e in
-      inl (rw (spot-near c d t i js s (w .order) right spot), spot-fits t c d i js s (small .2) (small .3) (w .order) right spot)
+  since : (s : ℕ) (rs us : List Entry) (p : ℕ) → Joined rs us p (entry t c d s) → Promise us → t ≤ s
+  since s rs us p w h =
+      let small : p < length us = omega (arith, w .inside, w .one-more) in
+      subst (λ (r : Entry). r .since ≤ r .start) (w .there) (h .not-before p small)
+
+  sought : rightX js ≡ true → (o : Outcome) → NoLower o → Ending clock n l t c d o → Sought o
+  sought right o nl (same r h) = absurd (nl (told r .number) (omega arith) (omega arith) refl)
+  sought right o nl (dropped Busy (running b) late small) = absurd (nl 16 (omega arith) (omega arith) refl)
+  sought right o nl (dropped Full full late small) = absurd (nl 17 (omega arith) (omega arith) refl)
+  sought right o nl (dropped NoPlace (nowhere g e) late small) =
+      inr (refl, λ f. complete t c d (f .start) 0 t js (f .place) (f .arranged) g right (since (f .start) _ (f .arranged) (f .place) (f .joins) (f .keeps)) (f .joins) (f .keeps) e)
+  sought right o nl (taken i s late small some due few g spot) = inl (refl, spot-fits t c d i js s some due g right spot)
 
   sought-of : NoLower (requestOf clock n l t c d) → Sought (requestOf clock n l t c d)
-  sought-of nl = let w = reached nl in rw (w .is) (sought w (find t c d js) refl)
+  sought-of nl =
+      let sound = sound-unless clock n l t c d (nl 13 (omega arith) (omega arith)) in
+      sought (good-kept t n (take n l) (good-of clock n l sound) .right) (requestOf clock n l t c d) nl (ending clock n l t c d sound)
 
   taken-fits : (o : Outcome) → Sought o → (said (o .answer) .number ≡ 0) ↔ Fits t c d js
   taken-fits o (inl w) = (λ e. w .1, λ f. w .0)

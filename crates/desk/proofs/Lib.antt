@@ -7,4 +7,5 @@ pub mod Entries
 pub mod Promise
 pub mod Still
 pub mod Exactly
+pub mod Busy
 pub mod Proved

@@ -21,6 +21,7 @@ use Rattle.desk.proofs.Rules.{Sound, request-sound, request-numbers, op
 use Rattle.desk.proofs.Entries.{Follow, entries-open}
 use Rattle.desk.proofs.Promise.{take-filled, table, Kept, kept-good, kept-many, kept-begin, promise}
 use Rattle.desk.proofs.Exactly.{taken-exactly, no-place-exactly}
+use Rattle.desk.proofs.Busy.{busy-ends}
 use Rattle.desk.proofs.Still.{refused-same, taken-joined, still, all-since-opening, still-ever, length-entries}
 
 open-leaves : OpenLeaves
@@ -128,6 +129,7 @@ proved =
       never-too-far = never-too-far;
       taken-exactly = taken-exactly;
       no-place-exactly = no-place-exactly;
+      busy-ends = busy-ends;
       open-tells = open-tells;
       story-tells = λ clock n l e qs. tells _ (kept-story clock n l e qs);
       keeps-promise = λ clock n l e qs. promise clock n l (opened-table clock n l e) qs;

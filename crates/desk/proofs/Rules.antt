@@ -1,7 +1,7 @@
 -- The table rules survive each call, refusal 19 is never given, and each x is the rule's own. Assumes nothing.
 use Prim.Native.Nat.{ℕ, zero, suc, _+_, _-_, _<_, _≤_}
 use mathlib.Core.Path.{_≡_, refl, sym, ap, subst, _∙_}
-use mathlib.Core.Bool.{Bool, true, false, not, true≢false}
+use mathlib.Core.Bool.{Bool, true, false, not}
 use mathlib.Core.List.{List, [], _∷_}
 use native.Mathlib.Omega.{arith}
 use lib.Dec.{leb, ltb, eqb}
@@ -84,15 +84,16 @@ pub not-busy : (t : ℕ) (js : List Job) → busy t js ≡ false → Chain 0 js 
 not-busy t [] h g = tt
 not-busy t (j ∷ js) h g = (ltb-false _ _ h, g .1, g .2)
 
--- neither 13 nor 19
-pub record Named (r : Refusal) : Type 0 where
-  pub table : eqb (told r .number) 13 ≡ false
-  pub far : eqb (told r .number) 19 ≡ false
+-- why the finished jobs are dropped and no job is taken in
+pub data Why (t c d : ℕ) (js : List Job) : Refusal → Type 0 where
+  running : busy t js ≡ true → Why t c d js Busy
+  full : Why t c d js Full
+  nowhere : Chain t js → find t c d js ≡ Nowhere → Why t c d js NoPlace
 
 -- how a request on a sound table ends
 pub data Ending (clock n : ℕ) (l : List Job) (t c d : ℕ) : Outcome → Type 0 where
-  same : (r : Refusal) → Named r → Ending clock n l t c d (outcome l n clock (Refused r))
-  dropped : (r : Refusal) → Named r → clock ≤ t → t ≤ latest
+  same : (r : Refusal) → (13 < told r .number) × (told r .number < 16) → Ending clock n l t c d (outcome l n clock (Refused r))
+  dropped : (r : Refusal) → Why t c d (kept t (take n l)) r → clock ≤ t → t ≤ latest
       → Ending clock n l t c d (dropping t (kept t (take n l)) r)
   taken : (i s : ℕ) → clock ≤ t → t ≤ latest → 1 ≤ c → d ≤ latest → length (kept t (take n l)) < places → Chain t (kept t (take n l))
       → Spot c d t i (kept t (take n l)) s
@@ -104,7 +105,7 @@ module _ (clock n : ℕ) (l : List Job) (t c d : ℕ) (sound : Sound clock n l) 
 
   ending-placed : clock ≤ t → numbersOk t c d ≡ true → length (kept t (take n l)) < places → Chain t (kept t (take n l))
       → (p : Place) → find t c d (kept t (take n l)) ≡ p → Ending clock n l t c d (taking keep t c d (kept t (take n l)) p)
-  ending-placed h nums few g Nowhere e = dropped NoPlace (record { table = refl; far = refl }) h (numbers-small t c d nums .0)
+  ending-placed h nums few g Nowhere e = dropped NoPlace (nowhere g e) h (numbers-small t c d nums .0)
   ending-placed h nums few g (At i s) e =
       let js = kept t (take n l) in
       let spot = found-spot t c d js g i s e in
@@ -120,26 +121,26 @@ module _ (clock n : ℕ) (l : List Job) (t c d : ℕ) (sound : Sound clock n l) 
 
     by-full : (b : Bool) → leb places (length (kept t (take n l))) ≡ b → clock ≤ t → numbersOk t c d ≡ true → Chain t (kept t (take n l))
         → Ending clock n l t c d (pick b (dropping t (kept t (take n l)) Full) (taking keep t c d (kept t (take n l)) (find t c d (kept t (take n l)))))
-    by-full true e h nums g = dropped Full (record { table = refl; far = refl }) h (numbers-small t c d nums .0)
+    by-full true e h nums g = dropped Full full h (numbers-small t c d nums .0)
     by-full false e h nums g = ending-placed h nums (leb-false places _ e) g (find t c d (kept t (take n l))) refl
 
     by-busy : (b : Bool) → busy t (kept t (take n l)) ≡ b → clock ≤ t → numbersOk t c d ≡ true
         → Ending clock n l t c d (pick b (dropping t (kept t (take n l)) Busy)
         (pick (leb places (length (kept t (take n l)))) (dropping t (kept t (take n l)) Full) (taking keep t c d (kept t (take n l)) (find t c d (kept t (take n l))))))
-    by-busy true e h nums = dropped Busy (record { table = refl; far = refl }) h (numbers-small t c d nums .0)
+    by-busy true e h nums = dropped Busy (running e) h (numbers-small t c d nums .0)
     by-busy false e h nums = by-full (leb places (length (kept t (take n l)))) refl h nums (not-busy t (kept t (take n l)) e (good .order))
 
     by-clock : (b : Bool) → ltb t clock ≡ b → numbersOk t c d ≡ true
         → Ending clock n l t c d (pick b (outcome l n clock (Refused Past)) (pick (busy t (kept t (take n l))) (dropping t (kept t (take n l)) Busy)
         (pick (leb places (length (kept t (take n l)))) (dropping t (kept t (take n l)) Full) (taking keep t c d (kept t (take n l)) (find t c d (kept t (take n l)))))))
-    by-clock true e nums = same Past (record { table = refl; far = refl })
+    by-clock true e nums = same Past (omega arith, omega arith)
     by-clock false e nums = by-busy (busy t (kept t (take n l))) refl (ltb-false t clock e) nums
 
     by-numbers : (b : Bool) → numbersOk t c d ≡ b
         → Ending clock n l t c d (pick (not b) (outcome l n clock (Refused Numbers)) (pick (ltb t clock) (outcome l n clock (Refused Past)) (pick (busy t (kept t (take n l))) (dropping t (kept t (take n l)) Busy)
         (pick (leb places (length (kept t (take n l)))) (dropping t (kept t (take n l)) Full) (taking keep t c d (kept t (take n l)) (find t c d (kept t (take n l))))))))
     by-numbers true e = by-clock (ltb t clock) refl e
-    by-numbers false e = same Numbers (record { table = refl; far = refl })
+    by-numbers false e = same Numbers (omega arith, omega arith)
 
   pub sound-ending : (o : Outcome) → Ending clock n l t c d o → SoundAfter o
   sound-ending o (same r h) = sound
@@ -161,9 +162,11 @@ module _ (clock n : ℕ) (l : List Job) (t c d : ℕ) (sound : Sound clock n l) 
 
   -- 2. and it answers neither 13 nor 19
   numbers-ending : (o : Outcome) → Ending clock n l t c d o → (said (o .answer) .number ≡ 13 → ⊥) × (said (o .answer) .number ≡ 19 → ⊥)
-  numbers-ending o (same q h) = (λ e. true≢false (sym (eq-eqb _ _ e) ∙ h .table), λ e. true≢false (sym (eq-eqb _ _ e) ∙ h .far))
-  numbers-ending o (dropped q h late small) = (λ e. true≢false (sym (eq-eqb _ _ e) ∙ h .table), λ e. true≢false (sym (eq-eqb _ _ e) ∙ h .far))
-  numbers-ending o (taken i s late small some due few g spot) = (λ e. absurd (omega arith), λ e. absurd (omega arith))
+  numbers-ending o (same q h) = (λ e. omega arith, λ e. omega arith)
+  numbers-ending o (dropped Busy (running b) late small) = (λ e. omega arith, λ e. omega arith)
+  numbers-ending o (dropped Full full late small) = (λ e. omega arith, λ e. omega arith)
+  numbers-ending o (dropped NoPlace (nowhere g f) late small) = (λ e. omega arith, λ e. omega arith)
+  numbers-ending o (taken i s late small some due few g spot) = (λ e. omega arith, λ e. omega arith)
 
   pub request-numbers : (said (requestOf clock n l t c d .answer) .number ≡ 13 → ⊥) × (said (requestOf clock n l t c d .answer) .number ≡ 19 → ⊥)
   request-numbers = numbers-ending (requestOf clock n l t c d) ending

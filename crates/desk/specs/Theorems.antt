@@ -11,7 +11,7 @@ use Rattle.rules.specs.declared.Refusal.the-variants.{Rules}
 use Rattle.desk.specs.declared.Job.{Job}
 use Rattle.desk.specs.declared.Asked.{Asked}
 use Rattle.desk.specs.declared.Answer.the-variants.{Opened, Taken, Refused}
-use Rattle.desk.specs.Table.{start, budget, deadline, none, Outcome, outcome, flexes, deskOk, openOf}
+use Rattle.desk.specs.Table.{start, budget, deadline, ends, none, Outcome, outcome, flexes, deskOk, openOf}
 use Rattle.desk.specs.Request.{kept, drops, dropping, requestOf}
 use Rattle.desk.specs.Call.{said}
 use Rattle.desk.specs.Story.{Entry, entry, noEntry, standing, Story, live, ever, begin, next, many, Promise, Joined, Fixed, takens}
@@ -99,6 +99,16 @@ NoPlaceExactly =
     (clock n : ℕ) (l : List Job) (t c d : ℕ)
     → Refuses (requestOf clock n l t c d) 18 ↔ (NoLower (requestOf clock n l t c d) × (Fits t c d (kept t (take n l)) → ⊥))
 
+-- "it is running: busy": after 16 the first job in the table has begun and not ended, and a request when it ends is not refused with 16, whatever it asks for
+pub record Running (t : ℕ) (o : Outcome) : Type 0 where
+  pub begun : start (getD (o .jobs) 0 none) < t
+  pub unended : t < ends (getD (o .jobs) 0 none)
+  pub free-then : (c d : ℕ) → Refuses (requestOf (o .clock) (o .count) (o .jobs) (ends (getD (o .jobs) 0 none)) c d) 16 → ⊥
+
+abbrev pub BusyEnds : Type 0
+BusyEnds =
+    (clock n : ℕ) (l : List Job) (t c d : ℕ) → Refuses (requestOf clock n l t c d) 16 → Running t (requestOf clock n l t c d)
+
 -- at opening every listed job stands at the start that was lent
 abbrev pub OpenTells : Type 0
 OpenTells =
@@ -161,6 +171,7 @@ pub record Proved : Type 0 where
   pub never-too-far : NeverTooFar
   pub taken-exactly : TakenExactly
   pub no-place-exactly : NoPlaceExactly
+  pub busy-ends : BusyEnds
   pub open-tells : OpenTells
   pub story-tells : StoryTells
   pub keeps-promise : KeepsPromise
