@@ -1,5 +1,5 @@
-/* Merkazobi, the box planner: the C surface. Rules and refusal numbers are document 01's; docs/FORMAT.md has the plan
-   file, all limits and the refusals in words.
+/* Merkazobi, the box planner: the C surface. Rules and refusal numbers are document 01's, as changed by document 02's
+   requests; docs/FORMAT.md has the plan file, all limits and the refusals in words.
 
    The library is for x86-64 Linux. Installed by `make install`, it is libmerkazobi.a (pkg-config: merkazobi); in the
    repository `rt staticlib api` writes target/staticlib/libapi.a, which is the same archive.
@@ -82,9 +82,9 @@ enum {
     MERKAZOBI_TABLE = 13,     /* job table, clock or count breaks the rules */
     MERKAZOBI_NUMBER = 14,    /* C zero, or C, d or t above 1,000,000 */
     MERKAZOBI_PAST = 15,      /* t before the clock */
-    MERKAZOBI_BUSY = 16,      /* busy */
+    MERKAZOBI_BUSY = 16,      /* busy: ask again when the running job ends */
     MERKAZOBI_FULL = 17,      /* 64 jobs left after dropping */
-    MERKAZOBI_NO_PLACE = 18,  /* no place */
+    MERKAZOBI_NO_PLACE = 18,  /* no place keeps every deadline */
     MERKAZOBI_TOO_FAR = 19    /* a move would exceed a job's x: proved never to happen */
 };
 
@@ -174,9 +174,20 @@ typedef struct {
    places is 64, the whole table's, whatever the count. Refusal 13, which changes nothing. */
 merkazobi_answer merkazobi_open(merkazobi_desk *desk, merkazobi_job *jobs, size_t places);
 
-/* A request at time t of budget c and deadline d, in ticks of the desk's own partition; places is 64. first: the place
-   from 0, after dropping; second: the start. Refusals 13 to 19: "13, 14, 15 and 19 change nothing at the desk. 16, 17,
-   18 set the clock to t and drop finished jobs .. A job taken in sets the clock too." */
+/* A request at time t of budget c and deadline d, in ticks of the desk's own partition; places is 64. The job is put at
+   the lowest place with room: before a listed job, which is moved back with those behind it as far as they are forced,
+   or behind the last one that starts by d, also into an empty table. first: the place from 0, after dropping; second:
+   the start. Refusals 13 to 19: "13, 14, 15 and 19 change nothing at the desk. 16, 17, 18 set the clock to t and drop
+   finished jobs .. A job taken in sets the clock too." A request that 13 to 17 don't refuse is taken "exactly when some
+   place in the order, started at t or later, with earlier jobs unmoved and later ones only delayed, keeps every
+   deadline"; else it is 18.
+
+   16 leaves it to the caller to ask again. The running job is then jobs[0], and a request at the tick when it ends is
+   not refused with 16 (one that comes later may be, for the next job may be running by then):
+
+       while ((r = merkazobi_request(&desk, jobs, MERKAZOBI_PLACES, t, c, d)).number == MERKAZOBI_BUSY)
+           t = sleep_until(jobs[0].a + jobs[0].c);
+@NUMBERS@*/
 merkazobi_answer merkazobi_request(merkazobi_desk *desk, merkazobi_job *jobs, size_t places, uint32_t t, uint32_t c,
                                    uint32_t d);
 

@@ -220,7 +220,9 @@ one-more k ms m rest h = at (eqb k m) refl
     at false e = rest (omega (arith, eqb-false k m e))
 
 lower-all : (m : ℕ) → 13 ≤ m → m < 18 → among lower m ≡ true
-lower-all m h g = one-more 13 _ m (one-more 14 _ m (one-more 15 _ m (one-more 16 _ m (one-more 17 _ m (λ e. absurd (omega arith)))))) h
+lower-all m h g =
+    one-more 13 (14 ∷ 15 ∷ 16 ∷ 17 ∷ []) m
+    (one-more 14 (15 ∷ 16 ∷ 17 ∷ []) m (one-more 15 (16 ∷ 17 ∷ []) m (one-more 16 (17 ∷ []) m (one-more 17 [] m (λ e. absurd (omega arith)))))) h
 
 module _ (k k′ : Desk) (l l′ : List Job) (time c d : ℕ) (t : Told) (p : TellsRequest k l time c d k′ l′ t) where
   abbrev asked : Outcome

@@ -15,7 +15,7 @@ use Rattle.desk.specs.declared.Job.{Job}
 use Rattle.desk.specs.declared.Answer.the-variants.{Opened, Taken, Refused}
 use Rattle.desk.specs.Table.{none, filled, outcome, flexes, tableOk, deskOk, openOf, Outcome}
 use Rattle.desk.specs.Request.{kept, busy, find, tooFar, dropping, taking, numbersOk, drops, requestOf, Place, At, Nowhere}
-use Rattle.desk.specs.Story.{Entry, entry, noEntry, standing, entries, Story, begin}
+use Rattle.desk.specs.Story.{Entry, noEntry, entries, Story, begin}
 use Rattle.desk.specs.Theorems.{OpenLeaves, NeverTooFar, Refuses, OpenTells, InEveryStory, Matches, Proved}
 use Rattle.desk.proofs.Rules.{Sound, request-sound, request-numbers, opened-table, open-is, open-sound, open-good, open-sound-unless, sound-unless, afresh}
 use Rattle.desk.proofs.Entries.{Follow, entries-open}

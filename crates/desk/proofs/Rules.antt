@@ -1,13 +1,13 @@
 -- The table rules survive each call, refusal 19 is never given, and each x is the rule's own. Assumes nothing.
 use Prim.Native.Nat.{ℕ, zero, suc, _+_, _-_, _<_, _≤_}
-use mathlib.Core.Path.{_≡_, refl, sym, ap, subst, _∙_}
+use mathlib.Core.Path.{_≡_, refl, sym, ap}
 use mathlib.Core.Bool.{Bool, true, false, not}
 use mathlib.Core.List.{List, [], _∷_}
 use native.Mathlib.Omega.{arith}
-use lib.Dec.{leb, ltb, eqb}
+use lib.Dec.{leb, ltb}
 use lib.ListN.{length, take, drop, replicate, length-append, length-replicate}
 use lib.Seq.{take-append-seam, drop-append-seam, length-take-le}
-use borrow.Author.Tests.{leb-true, leb-false, le-leb, ltb-false, eqb-true, eq-eqb}
+use borrow.Author.Tests.{leb-false, le-leb, ltb-false, eqb-true, eq-eqb}
 use Rattle.rules.specs.Refusals.{told}
 use Rattle.rules.specs.declared.Refusal.{Refusal}
 use Rattle.rules.specs.declared.Refusal.the-variants.{Rules, Numbers, Past, Busy, Full, NoPlace, TooFar}
@@ -18,7 +18,7 @@ use Rattle.desk.specs.declared.Answer.the-variants.{Opened, Taken, Refus
 use Rattle.rules.specs.Walk.{pick}
 use Rattle.desk.specs.Table.{job, none, filled, xOf, refit, flexes, allZeros, rightX, tableOk, deskOk, outcome, openOf, ends, Outcome}
 use Rattle.desk.specs.Call.{said}
-use Rattle.desk.specs.Request.{kept, busy, find, tooFar, insertAt, dropping, taking, numbersOk, requestOf, Place, At, Nowhere}
+use Rattle.desk.specs.Request.{kept, busy, find, insertAt, dropping, taking, numbersOk, requestOf, Place, At, Nowhere}
 use Rattle.rules.proofs.Tests.{and-parts}
 use Rattle.desk.proofs.Check.{numbers-small, listed-of, desk-table, desk-right}
 use Rattle.desk.proofs.Check.{length-refit}

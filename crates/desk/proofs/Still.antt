@@ -13,7 +13,7 @@ use Rattle.desk.specs.declared.Job.{Job}
 use Rattle.desk.specs.declared.Asked.{Asked}
 use Rattle.desk.specs.declared.Answer.{Answer}
 use Rattle.desk.specs.declared.Answer.the-variants.{Taken, Refused}
-use Rattle.desk.specs.Table.{job, filled, tableOk, openOf, ends, Outcome}
+use Rattle.desk.specs.Table.{job, filled, tableOk, openOf, Outcome}
 use Rattle.desk.specs.Request.{kept, shift, insertAt}
 use Rattle.desk.specs.Story.{Entry, entry, noEntry, ended, unended, standing, entries, Story, live, ever, begin, after, next, many, Later, Joined, countTaken, takens, Fixed}
 use Rattle.desk.proofs.Spot.{spot-start, spot-inside, length-shift, length-insert}
