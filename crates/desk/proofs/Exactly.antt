@@ -92,9 +92,14 @@ limit j (k ∷ ks) u (v ∷ vs) r w p =
 
 -- WHERE SOME PLACE KEEPS EVERY DEADLINE, ONE IS FOUND
 
-module _ (t c d s : ℕ) where
+module _ (b c d s : ℕ) where
   abbrev mark : Entry
-  mark = entry t c d s
+  mark = entry b c d s
+
+  not-before : (rs us : List Entry) (p : ℕ) → Joined rs us p mark → Promise us → b ≤ s
+  not-before rs us p w h =
+      let small : p < length us = omega (arith, w .inside, w .one-more) in
+      subst (λ (r : Entry). r .since ≤ r .start) (w .there) (h .not-before p small)
 
   in-time : (rs us : List Entry) (p : ℕ) → Joined rs us p mark → Promise us → s + c ≤ d
   in-time rs us p w h =
@@ -187,17 +192,17 @@ module _ (clock n : ℕ) (l : List Job) (t c d : ℕ) where
   abbrev Sought : Outcome → Type 0
   Sought o = ((said (o .answer) .number ≡ 0) × Fits t c d js) ⊎ ((said (o .answer) .number ≡ 18) × (Fits t c d js → ⊥))
 
-  since : (s : ℕ) (rs us : List Entry) (p : ℕ) → Joined rs us p (entry t c d s) → Promise us → t ≤ s
-  since s rs us p w h =
-      let small : p < length us = omega (arith, w .inside, w .one-more) in
-      subst (λ (r : Entry). r .since ≤ r .start) (w .there) (h .not-before p small)
-
   sought : rightX js ≡ true → (o : Outcome) → NoLower o → Ending clock n l t c d o → Sought o
   sought right o nl (same r h) = absurd (nl (told r .number) (omega arith) (omega arith) refl)
   sought right o nl (dropped Busy (running b) late small) = absurd (nl 16 (omega arith) (omega arith) refl)
   sought right o nl (dropped Full full late small) = absurd (nl 17 (omega arith) (omega arith) refl)
   sought right o nl (dropped NoPlace (nowhere g e) late small) =
-      inr (refl, λ f. complete t c d (f .start) 0 t js (f .place) (f .arranged) g right (since (f .start) _ (f .arranged) (f .place) (f .joins) (f .keeps)) (f .joins) (f .keeps) e)
+      inr (
+        refl,
+        λ f.
+            let from = not-before _ c d (f .start) _ (f .arranged) (f .place) (f .joins) (f .keeps) in
+            complete _ c d (f .start) 0 t js (f .place) (f .arranged) g right from (f .joins) (f .keeps) e,
+      )
   sought right o nl (taken i s late small some due few g spot) = inl (refl, spot-fits t c d i js s some due g right spot)
 
   sought-of : NoLower (requestOf clock n l t c d) → Sought (requestOf clock n l t c d)

@@ -1,3 +1,4 @@
+pub mod Examples
 pub mod Check
 pub mod Afresh
 pub mod Chain

@@ -12,7 +12,7 @@ ends-by-requires : tie.Need-ends-by-requires
 ends-by-requires c κs = search needs
 
 returns-2 : tie.Need-returns-2
-returns-2 c = rw (c .before .before .if1 .left) (rw (c .before .new-job .ensures) at (c .ends-by .ensures))
+returns-2 c = rw (c .ends-by .ensures, c .before .new-job .ensures, c .before .before .if1 .left)
 
 pub search-end-spec : {M : Type 1} → statement M
 search-end-spec = tie.close (tie.spec returns new-job-requires ends-by-requires returns-2)
