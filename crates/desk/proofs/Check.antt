@@ -42,12 +42,11 @@ desk-table clock n l h = and-parts _ (rightX (take n l)) (and-parts (leb clock l
 pub desk-right : (clock n : ℕ) (l : List Job) → deskOk clock n l ≡ true → rightX (take n l) ≡ true
 desk-right clock n l h = and-parts (tableOk n l) _ (and-parts (leb clock latest) _ h .1) .1
 
-pub numbers-small : (t c d : ℕ) → numbersOk t c d ≡ true → (t ≤ latest) × (c ≤ latest) × (1 ≤ c) × (d ≤ latest)
+pub numbers-small : (t c d : ℕ) → numbersOk t c d ≡ true → (1 ≤ c) × (d ≤ latest) × (t ≤ latest)
 numbers-small t c d h =
     let one = and-parts (leb 1 c) _ h in
-    let two = and-parts (leb c latest) _ (one .1) in
-    let three = and-parts (leb d latest) _ (two .1) in
-    (leb-true t latest (three .1), leb-true c latest (two .0), leb-true 1 c (one .0), leb-true d latest (three .0))
+    let two = and-parts (leb d latest) _ (and-parts (leb c latest) _ (one .1) .1) in
+    (leb-true 1 c (one .0), leb-true d latest (two .0), leb-true t latest (two .1))
 
 zeros-is : (j : Job) → zeros j ≡ true → j ≡ none
 zeros-is j h =

@@ -105,13 +105,13 @@ module _ (clock n : ℕ) (l : List Job) (t c d : ℕ) (sound : Sound clock n l) 
 
   ending-placed : clock ≤ t → numbersOk t c d ≡ true → length (kept t (take n l)) < places → Chain t (kept t (take n l))
       → (p : Place) → find t c d (kept t (take n l)) ≡ p → Ending clock n l t c d (taking keep t c d (kept t (take n l)) p)
-  ending-placed h nums few g Nowhere e = dropped NoPlace (nowhere g e) h (numbers-small t c d nums .0)
+  ending-placed h nums few g Nowhere e = dropped NoPlace (nowhere g e) h (numbers-small t c d nums .2)
   ending-placed h nums few g (At i s) e =
       let js = kept t (take n l) in
       let spot = found-spot t c d js g i s e in
       let r : rightX js ≡ true = good-kept t n (take n l) (good-of clock n l sound) .right in
       let small = numbers-small t c d nums in
-      rw (spot-near c d t i js s g r spot) (taken i s h (small .0) (small .2) (small .3) few g spot)
+      rw (spot-near c d t i js s g r spot) (taken i s h (small .2) (small .0) (small .1) few g spot)
 
   pub ending : Ending clock n l t c d (requestOf clock n l t c d)
   unfolding requestOf
@@ -121,13 +121,13 @@ module _ (clock n : ℕ) (l : List Job) (t c d : ℕ) (sound : Sound clock n l) 
 
     by-full : (b : Bool) → leb places (length (kept t (take n l))) ≡ b → clock ≤ t → numbersOk t c d ≡ true → Chain t (kept t (take n l))
         → Ending clock n l t c d (pick b (dropping t (kept t (take n l)) Full) (taking keep t c d (kept t (take n l)) (find t c d (kept t (take n l)))))
-    by-full true e h nums g = dropped Full full h (numbers-small t c d nums .0)
+    by-full true e h nums g = dropped Full full h (numbers-small t c d nums .2)
     by-full false e h nums g = ending-placed h nums (leb-false places _ e) g (find t c d (kept t (take n l))) refl
 
     by-busy : (b : Bool) → busy t (kept t (take n l)) ≡ b → clock ≤ t → numbersOk t c d ≡ true
         → Ending clock n l t c d (pick b (dropping t (kept t (take n l)) Busy)
         (pick (leb places (length (kept t (take n l)))) (dropping t (kept t (take n l)) Full) (taking keep t c d (kept t (take n l)) (find t c d (kept t (take n l))))))
-    by-busy true e h nums = dropped Busy (running e) h (numbers-small t c d nums .0)
+    by-busy true e h nums = dropped Busy (running e) h (numbers-small t c d nums .2)
     by-busy false e h nums = by-full (leb places (length (kept t (take n l)))) refl h nums (not-busy t (kept t (take n l)) e (good .order))
 
     by-clock : (b : Bool) → ltb t clock ≡ b → numbersOk t c d ≡ true

@@ -223,7 +223,7 @@ module _ (k : Desk) (l : List Job) (t c d : ℕ) where
   go true true false h₁ h₂ h₃ =
       let w = listed-of n l (desk-table (k .clock) n l h₁) in
       at _ _ (decides-asked true true false h₁ h₂ h₃)
-      (after-made (w .whole) (chain-of 0 js (w .order)) (desk-right (k .clock) n l h₁) (numbers-small t c d h₂ .3))
+      (after-made (w .whole) (chain-of 0 js (w .order)) (desk-right (k .clock) n l h₁) (numbers-small t c d h₂ .1))
 
   -- answer, record and table at exit are those of the desk's request
   request-law : Made l (effectOf (scanned (askingOf k (length l) t c d) l)) (requestOf (k .clock) n l t c d)
