@@ -1,4 +1,4 @@
-//! "The desk".
+//! "The desk" of document 01, with ask 1 of document 02: place l is tried too.
 
 use crate::answer::Answer;
 use crate::limits::{JOBS, TIME};
@@ -11,6 +11,13 @@ pub struct Job {
     pub c: u32,
     pub d: u32,
     pub x: u32,
+}
+
+impl Job {
+    /// Of a job by the rules: of any two numbers the sum might not fit.
+    pub fn end(&self) -> u32 {
+        self.a + self.c
+    }
 }
 
 /// "the desk's clock and job count in one small record".
@@ -145,7 +152,7 @@ fn earliest(left: &[Listed], place: usize, t: i64) -> i64 {
     }
 }
 
-/// 16, 17, 18, or "The lowest place with R ≥ C".
+/// 16, 17, 18, or the lowest place that takes the request, of the places from 0 to l.
 fn lowest_place(left: &[Listed], t: i64, c: i64, d: i64) -> Result<usize, u64> {
     if left.first().is_some_and(|job| job.a < t) {
         return Err(16);
@@ -155,12 +162,22 @@ fn lowest_place(left: &[Listed], t: i64, c: i64, d: i64) -> Result<usize, u64> {
     }
     // "let l be the number of jobs left with a ≤ d"
     let l = left.iter().filter(|job| job.a <= d).count();
-    let room = |place: &usize| {
-        let job = &left[*place];
-        // "Room is R = a − s + min(d − a, x) of job i, where d is the request's."
-        job.a - earliest(left, *place, t) + (d - job.a).min(job.x)
+    let takes = |place: &usize| {
+        let s = earliest(left, *place, t);
+        if *place < l {
+            room(&left[*place], s, d) >= c
+        } else {
+            // "place l is tried too, also when the table is empty or no job follows: it is taken
+            // when s + C ≤ d"
+            s + c <= d
+        }
     };
-    (0..l).find(|place| room(place) >= c).ok_or(18)
+    (0..=l).find(takes).ok_or(18)
+}
+
+/// "Room is R = a − s + min(d − a, x) of job i, where d is the request's."
+fn room(job: &Listed, s: i64, d: i64) -> i64 {
+    job.a - s + (d - job.a).min(job.x)
 }
 
 /// "Later jobs move only as far as the job before forces them, each x falling by its own move;
@@ -230,7 +247,7 @@ mod tests {
     }
 
     #[test]
-    fn a_place_is_taken_when_all_stay_in_time() {
+    fn the_lowest_place_at_which_all_stay_in_time_is_taken() {
         let mut rng = Rng::new(4);
         for _ in 0..20_000 {
             let table = table(&mut rng);
@@ -253,9 +270,9 @@ mod tests {
                         x: 0,
                     },
                 );
-                table[place].a <= d && in_time(&rest)
+                in_time(&rest)
             };
-            let tried = (0..table.len()).find(|&place| fits(place));
+            let tried = (0..=table.len()).find(|&place| fits(place));
             assert_eq!(
                 lowest_place(&table, t, c, d).ok(),
                 tried,

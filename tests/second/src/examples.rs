@@ -1,4 +1,5 @@
-//! The worked examples of document 01.
+//! The worked examples of document 01, with D6 as ask 1 of document 02 has it, and the ends of the
+//! gap that it is about.
 
 use crate::answer::Answer;
 use crate::builder::build;
@@ -113,7 +114,7 @@ fn d3_d4() {
 }
 
 #[test]
-fn d5_d6() {
+fn d5() {
     let (answer, desk, jobs) = from_d1(12, 1, 40);
     assert_eq!(answer, Answer::refused(16));
     assert_eq!(
@@ -124,7 +125,36 @@ fn d5_d6() {
         }
     );
     assert_eq!(jobs, d1().1);
+}
+
+/// A table with these jobs alone: start, budget, deadline and flexibility.
+fn only(listed: &[[u32; 4]]) -> [Job; JOBS] {
+    let mut jobs = [Job::default(); JOBS];
+    for (job, &[a, c, d, x]) in jobs.iter_mut().zip(listed) {
+        *job = Job { a, c, d, x };
+    }
+    jobs
+}
+
+/// "ticks 25 to 29 are free, the job needs four [...] D6 starts at 25."
+#[test]
+fn d6() {
     let (answer, desk, jobs) = from_d1(25, 4, 29);
+    assert_eq!(answer, Answer::good([0, 25, 0, 0]));
+    assert_eq!(
+        desk,
+        Desk {
+            clock: 25,
+            count: 2
+        }
+    );
+    assert_eq!(jobs, only(&[[25, 4, 29, 0], [30, 2, 40, 8]]));
+}
+
+/// One tick more than D6 needs breaks its deadline: 18, which drops and sets the clock.
+#[test]
+fn d6_a_tick_longer() {
+    let (answer, desk, jobs) = from_d1(25, 5, 29);
     assert_eq!(answer, Answer::refused(18));
     assert_eq!(
         desk,
@@ -133,8 +163,41 @@ fn d5_d6() {
             count: 1
         }
     );
-    assert_eq!(shape(&desk, &jobs), (vec![30], vec![8]));
-    assert_eq!(jobs[1..], [Job::default(); JOBS - 1]);
+    assert_eq!(jobs, only(&[[30, 2, 40, 8]]));
+}
+
+/// What a request finds behind all listed jobs: D1's last one ends at 32, and no place before has
+/// room for so many ticks.
+#[test]
+fn behind_all_jobs() {
+    let (answer, desk, jobs) = from_d1(8, 19, 51);
+    assert_eq!(answer, Answer::good([3, 32, 0, 0]));
+    assert_eq!((desk.clock, desk.count), (8, 4));
+    assert_eq!(jobs[3], only(&[[32, 19, 51, 0]])[0]);
+    let (answer, desk, jobs) = from_d1(8, 20, 51);
+    assert_eq!(answer, Answer::refused(18));
+    assert_eq!((desk.clock, desk.count, jobs), (8, 3, d1().1));
+}
+
+/// "also when the table is empty": all that counts is t + C ≤ d.
+#[test]
+fn an_empty_table() {
+    let asked = |t: u32, c: u32, d: u32| {
+        let (mut desk, mut jobs) = (Desk::default(), only(&[]));
+        let answer = request(&mut desk, &mut jobs, t, c, d);
+        assert_eq!(desk.clock, t);
+        (answer, desk.count, jobs)
+    };
+    for (t, c, d) in [(0, 1, 1), (7, 5, 12), (0, 1_000_000, 1_000_000)] {
+        let taken = Answer::good([0, u64::from(t), 0, 0]);
+        assert_eq!(asked(t, c, d), (taken, 1, only(&[[t, c, d, 0]])));
+    }
+    let refused = (Answer::refused(18), 0, only(&[]));
+    assert_eq!(asked(0, 2, 1), refused);
+    assert_eq!(asked(7, 6, 12), refused);
+    assert_eq!(asked(1, 1_000_000, 1_000_000), refused);
+    assert_eq!(asked(1_000_000, 1, 1_000_000), refused);
+    assert_eq!(asked(7, 1, 6), refused);
 }
 
 #[test]

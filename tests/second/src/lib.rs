@@ -1,5 +1,5 @@
-//! The rules of document 01 once more, and of the share table, by plain counting and trying, to
-//! compare the library and the planner against.
+//! The rules of document 01 once more, with ask 1 of document 02, and of the share table, by plain
+//! counting and trying, to compare the library and the planner against.
 
 pub mod answer;
 pub mod builder;
@@ -20,5 +20,7 @@ pub mod verdict;
 
 #[cfg(test)]
 mod examples;
+#[cfg(test)]
+mod some_place;
 
 pub use answer::Answer;

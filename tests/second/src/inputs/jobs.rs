@@ -39,6 +39,23 @@ pub fn table(rng: &mut Rng, count: usize, spread: Spread) -> (Desk, Vec<Job>) {
     (Desk { clock, count }, jobs)
 }
 
+/// Jobs that stand close and can hardly move, with one gap before, between or behind them: so the
+/// room is where no job gives it.
+pub fn about_a_gap(rng: &mut Rng, count: usize) -> (Desk, Vec<Job>) {
+    let spread = Spread {
+        gap: rng.pick(&[0, 1, 3]),
+        slack: rng.pick(&[0, 1, 4]),
+        ..spread(rng)
+    };
+    let (desk, mut jobs) = table(rng, count, spread);
+    let wide = rng.between(5, 50) as u32;
+    for job in &mut jobs[rng.between(0, count)..count] {
+        job.a += wide;
+        job.d += wide;
+    }
+    (desk, jobs)
+}
+
 /// A number beside what it was, at the limit, or near the width's end.
 fn beside(rng: &mut Rng, number: u32) -> u32 {
     match rng.between(0, 5) {

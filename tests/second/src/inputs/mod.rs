@@ -4,5 +4,6 @@ pub mod faults;
 pub mod files;
 pub mod jobs;
 pub mod plans;
+pub mod requests;
 pub mod tables;
 pub mod texts;

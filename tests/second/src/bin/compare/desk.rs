@@ -3,15 +3,21 @@
 
 use second::desk::{self, Desk, Job};
 use second::inputs::jobs;
+use second::inputs::requests::{self, Draw, Request, LATEST};
+use second::limits::JOBS;
 use second::rng::Rng;
 use second::Answer;
 
 use crate::batch::{Call, Entry};
+use crate::promise::Record;
+use crate::seen::Seen;
 use crate::trial::{Named, Trial};
 
 pub const TRIALS: &[Named] = &[
     ("desk, sequences", sequences),
     ("desk, nearly full tables", nearly_full_tables),
+    ("desk, about place l", about_place_l),
+    ("desk, from empty to full", from_empty_to_full),
     ("desk, every small request", every_small_request),
     ("desk, openings", openings),
     ("desk, spoilt tables", spoilt_tables),
@@ -26,13 +32,6 @@ struct Lent {
     desk: Desk,
     jobs: Vec<Job>,
     places: usize,
-}
-
-#[derive(Clone, Copy, Debug)]
-struct Request {
-    t: u32,
-    c: u32,
-    d: u32,
 }
 
 impl Lent {
@@ -81,179 +80,125 @@ fn lend_all(call: Call, before: &Lent, after: &Lent) {
     call.writes(before.places, &before.jobs, &after.jobs);
 }
 
-/// A time at or after the clock: the clock itself, beside a start or an end, or any.
-fn some_time(rng: &mut Rng, lent: &Lent) -> u32 {
-    let clock = lent.desk.clock.min(1_000_000);
-    let beside = rng.pick(&[0, 1, 2]);
-    let time = match (rng.between(0, 9), lent.listed()) {
-        (0..=3, _) => clock,
-        (4, _) | (_, []) => clock + rng.between(0, 12) as u32,
-        (5, [first, ..]) => (first.a + beside).saturating_sub(1),
-        (6, [first, ..]) => (first.a + first.c + beside).saturating_sub(1),
-        (7, listed) => rng.pick(listed).a,
-        (8, listed) => (rng.pick(listed).a + rng.pick(listed).c).saturating_sub(1),
-        _ => clock + rng.between(0, 3) as u32,
+/// Notes the answer, and of a request that came to place l where that was and how it came out.
+fn note(seen: &mut Seen, before: &Lent, asked: Request, answer: Answer) {
+    seen.count(format!("answered {}", answer.number));
+    if answer.number == 18 && asked.d < asked.t {
+        seen.count("d below t".to_string());
+    }
+    let left = asked.left(before.listed());
+    let l = asked.l(left);
+    let Some(outcome) = outcome_at(l, left, asked, answer) else {
+        return;
     };
-    time.clamp(clock, 1_000_000)
-}
-
-fn some_request(rng: &mut Rng, lent: &Lent) -> Request {
-    let t = some_time(rng, lent);
-    let c = rng.between(1, largest_budget(lent)) as u32;
-    let far = rng.pick(&[5, 30, 300]);
-    let after = t + c + rng.between(0, far) as u32;
-    let d = match (rng.between(0, 7), lent.listed()) {
-        (0, [_, ..]) => rng.pick(lent.listed()).a,
-        (1, [_, ..]) => rng.pick(lent.listed()).d,
-        (2, _) => rng.pick(&[0, t.saturating_sub(1), t, t + 1]),
-        _ => after,
+    let place = match (l, left.len() - l) {
+        (0, 0) => "on an empty table",
+        (0, _) => "before all jobs",
+        (_, 0) => "behind all jobs",
+        _ => "between two jobs",
     };
-    Request {
-        t,
-        c,
-        d: d.min(1_000_000),
+    seen.count(format!("{outcome} {place}"));
+    if l == JOBS - 1 {
+        seen.count(format!("{outcome} as the last of 64"));
+    }
+    if asked.d == LATEST {
+        seen.count(format!("{outcome} by 1,000,000"));
     }
 }
 
-/// Budgets that grow with the room there is about the first job.
-fn largest_budget(lent: &Lent) -> usize {
-    lent.listed()
-        .first()
-        .map_or(4, |job| job.x.min(20) as usize + 2)
-}
-
-/// One number at or past its limit, or before the clock.
-fn at_a_limit(rng: &mut Rng, clock: u32, mut request: Request) -> Request {
-    let edge = rng.pick(&[0, 1, 999_999, 1_000_000, 1_000_001, u32::MAX]);
-    match rng.between(0, 4) {
-        0 => request.t = rng.pick(&[1_000_000, 1_000_001, u32::MAX]),
-        1 => request.t = clock.wrapping_sub(rng.between(1, 3) as u32),
-        2 => request.c = edge,
-        _ => request.d = edge,
+/// How place l came out, unless a lower place or number did, or it was far from fitting.
+fn outcome_at(l: usize, left: &[Job], asked: Request, answer: Answer) -> Option<&'static str> {
+    let taken = answer.number == 0 && answer.first as usize == l;
+    if !taken && answer.number != 18 {
+        return None;
     }
-    request
-}
-
-/// A job and what the desk promised about it.
-#[derive(Clone, Copy, Debug)]
-struct Promised {
-    earliest: u32,
-    job: Job,
-}
-
-/// All jobs since the opening: those listed, and those that were dropped.
-#[derive(Debug)]
-struct Record {
-    listed: Vec<Promised>,
-    dropped: Vec<Promised>,
-}
-
-impl Record {
-    fn new(lent: &Lent) -> Record {
-        let promised = |job: &Job| Promised {
-            earliest: job.a,
-            job: *job,
-        };
-        Record {
-            listed: lent.listed().iter().map(promised).collect(),
-            dropped: Vec::new(),
-        }
-    }
-
-    /// Follows a request; nothing started is moved, nothing goes to an earlier tick.
-    fn follow(&mut self, request: Request, answer: Answer, lent: &Lent) -> bool {
-        let Request { t, c, d } = request;
-        if ![13, 14, 15, 19].contains(&answer.number) {
-            let (gone, left) = self
-                .listed
-                .iter()
-                .partition(|one| one.job.a + one.job.c <= t);
-            self.dropped.extend::<Vec<Promised>>(gone);
-            self.listed = left;
-        }
-        if answer.number == 0 {
-            let [a, x] = [answer.second as u32, 0];
-            let job = Job { a, c, d, x };
-            self.listed
-                .insert(answer.first as usize, Promised { earliest: t, job });
-        }
-        let same_count = self.listed.len() == lent.listed().len();
-        same_count
-            && self.listed.iter_mut().zip(lent.listed()).all(|(one, now)| {
-                let was = one.job;
-                one.job = *now;
-                let moved = if was.a < t {
-                    now.a != was.a
-                } else {
-                    now.a < was.a
-                };
-                !moved && (now.c, now.d) == (was.c, was.d)
-            })
-    }
-
-    /// "no job starts before its opening start (a job taken in later: before its request time),
-    /// no two overlap, each ends by its deadline"
-    fn kept(&self) -> bool {
-        let all = [&self.dropped[..], &self.listed].concat();
-        let kept = |one: &Promised| one.earliest <= one.job.a && one.job.a + one.job.c <= one.job.d;
-        let mut spans: Vec<(u32, u32)> = all
-            .iter()
-            .map(|one| (one.job.a, one.job.a + one.job.c))
-            .collect();
-        spans.sort_unstable();
-        all.iter().all(kept) && spans.windows(2).all(|pair| pair[0].1 <= pair[1].0)
+    let end = asked.earliest(left, l) + asked.c;
+    match (taken, end.abs_diff(asked.d)) {
+        (true, 0) => Some("just fits"),
+        (true, _) => Some("fits"),
+        (false, 1) => Some("misses by a tick"),
+        _ => None,
     }
 }
-
-/// How often each answer was given, so that a trial can show that it came to all of them.
-type Tally = [u64; 20];
 
 /// So many requests after one opening, with the promise watched over all of them.
-fn sequence(trial: &mut Trial, count: usize, requests: usize, tally: &mut Tally) {
-    let spread = jobs::spread(&mut trial.rng);
-    let mut lent = Lent::new(jobs::table(&mut trial.rng, count, spread));
+fn sequence(trial: &mut Trial, mut lent: Lent, requests: usize, draw: Draw, seen: &mut Seen) {
     if open(trial, &mut lent).number != 0 {
         return;
     }
-    let mut record = Record::new(&lent);
+    let mut record = Record::new(lent.listed());
     for _ in 0..requests {
-        let mut asked = some_request(&mut trial.rng, &lent);
-        if trial.rng.one_in(12) {
-            asked = at_a_limit(&mut trial.rng, lent.desk.clock, asked);
-        }
+        let asked = draw(&mut trial.rng, lent.desk.clock, lent.listed());
         let before = lent.clone();
         let answer = request(trial, &mut lent, asked);
-        tally[answer.number as usize % 20] += 1;
-        let followed = record.follow(asked, answer, &lent);
+        note(seen, &before, asked, answer);
+        let followed = record.follow(asked, answer, lent.listed());
         trial.same((asked, &before, &lent, "moved"), followed, true);
         trial.same((asked, &before, &record, "promise"), record.kept(), true);
-        // An empty table has no place for anything, so there is little more to see.
-        if lent.desk.count == 0 && trial.rng.one_in(2) {
+        // Nothing ends after the latest time, so there is little more to see.
+        if lent.desk.clock == LATEST && trial.rng.one_in(2) {
             return;
         }
     }
 }
 
+fn some_table(rng: &mut Rng, count: usize) -> Lent {
+    let spread = jobs::spread(rng);
+    Lent::new(jobs::table(rng, count, spread))
+}
+
 fn sequences(trial: &mut Trial) {
-    let mut tally = [0; 20];
+    let mut seen = Seen::default();
     for _ in trial.cases(20_000) {
         let count = trial.rng.pick(&[0, 1, 2, 3, 5, 8, 20, 40]);
-        sequence(trial, count, 30, &mut tally);
+        let lent = some_table(&mut trial.rng, count);
+        sequence(trial, lent, 30, requests::any, &mut seen);
     }
-    trial.share("requests", tally.iter().sum(), [10, 1]);
-    for number in [0, 14, 15, 16, 18] {
-        trial.share(&format!("answered {number}"), tally[number], [1, 15]);
-    }
+    seen.share(trial, &["answered 0", "answered 16", "answered 18"], [2, 1]);
+    seen.share(trial, &["answered 14", "answered 15"], [1, 5]);
 }
 
 fn nearly_full_tables(trial: &mut Trial) {
-    let mut tally = [0; 20];
+    let mut seen = Seen::default();
     for _ in trial.cases(6000) {
         let count = trial.rng.pick(&[60, 62, 63, 64]);
-        sequence(trial, count, 20, &mut tally);
+        let lent = some_table(&mut trial.rng, count);
+        sequence(trial, lent, 20, requests::any, &mut seen);
     }
-    trial.share("answered 0", tally[0], [1, 12]);
-    trial.share("answered 17", tally[17], [1, 12]);
+    seen.share(trial, &["answered 0"], [2, 1]);
+    seen.share(trial, &["answered 17"], [1, 12]);
+}
+
+fn about_place_l(trial: &mut Trial) {
+    let mut seen = Seen::default();
+    for _ in trial.cases(12_000) {
+        let count = trial.rng.pick(&[0, 1, 2, 3, 8, 62, 63, 63, 64]);
+        let lent = Lent::new(jobs::about_a_gap(&mut trial.rng, count));
+        sequence(trial, lent, 8, requests::about_place_l, &mut seen);
+    }
+    for (place, share) in [
+        ("on an empty table", [1, 50]),
+        ("before all jobs", [1, 50]),
+        ("between two jobs", [1, 50]),
+        ("behind all jobs", [1, 50]),
+        ("by 1,000,000", [1, 100]),
+        ("as the last of 64", [1, 200]),
+    ] {
+        let outcomes = ["fits", "just fits", "misses by a tick"];
+        let kinds = outcomes.map(|outcome| format!("{outcome} {place}"));
+        seen.share(trial, &kinds, share);
+    }
+    seen.share(trial, &["answered 17", "d below t"], [1, 20]);
+}
+
+fn from_empty_to_full(trial: &mut Trial) {
+    for _ in trial.cases(1000) {
+        let mut seen = Seen::default();
+        let lent = some_table(&mut trial.rng, 0);
+        sequence(trial, lent, 100, requests::growing, &mut seen);
+        let was_full = seen.times("answered 17") > 0;
+        trial.same("100 requests from an empty table", was_full, true);
+    }
 }
 
 fn every_small_request(trial: &mut Trial) {
@@ -300,12 +245,12 @@ fn spoilt_tables(trial: &mut Trial) {
         let (mut desk, mut jobs) = jobs::table(rng, count, spread);
         desk::open(&mut desk, &mut jobs);
         let good = Lent::new((desk, jobs.clone()));
-        let mut asked = some_request(rng, &good);
+        let mut asked = requests::within_limits(rng, good.desk.clock, good.listed());
         for _ in 0..rng.pick(&[1, 1, 2]) {
             jobs::spoil(rng, &mut desk, &mut jobs);
         }
         if rng.one_in(4) {
-            asked = at_a_limit(rng, desk.clock, asked);
+            asked = requests::at_a_limit(rng, desk.clock, asked);
         }
         let mut lent = Lent::new((desk, jobs));
         if rng.one_in(10) {

@@ -10,6 +10,7 @@ mod listing;
 mod plan;
 mod programs;
 mod progress;
+mod promise;
 mod seen;
 mod service;
 mod settings;

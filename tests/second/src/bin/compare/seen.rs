@@ -1,4 +1,4 @@
-//! Which kinds of answers the planner gave.
+//! Which kinds of answers were given.
 
 use std::collections::BTreeMap;
 
@@ -11,17 +11,25 @@ use crate::trial::Trial;
 pub struct Seen(BTreeMap<String, u64>);
 
 impl Seen {
+    /// Notes an answer of the planner.
     pub fn note(&mut self, answer: &[u8]) {
         for kind in kinds(answer) {
-            *self.0.entry(kind).or_default() += 1;
+            self.count(kind);
         }
     }
 
+    pub fn count(&mut self, kind: String) {
+        *self.0.entry(kind).or_default() += 1;
+    }
+
+    pub fn times(&self, kind: &str) -> u64 {
+        self.0.get(kind).copied().unwrap_or(0)
+    }
+
     /// More than `few` of each in `many` cases.
-    pub fn share(&self, trial: &mut Trial, kinds: &[&str], share: [u64; 2]) {
+    pub fn share<K: AsRef<str>>(&self, trial: &mut Trial, kinds: &[K], share: [u64; 2]) {
         for kind in kinds {
-            let found = self.0.get(*kind).copied().unwrap_or(0);
-            trial.share(kind, found, share);
+            trial.share(kind.as_ref(), self.times(kind.as_ref()), share);
         }
     }
 }
