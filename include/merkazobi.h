@@ -187,7 +187,9 @@ merkazobi_answer merkazobi_open(merkazobi_desk *desk, merkazobi_job *jobs, size_
 
        while ((r = merkazobi_request(&desk, jobs, MERKAZOBI_PLACES, t, c, d)).number == MERKAZOBI_BUSY)
            t = sleep_until(jobs[0].a + jobs[0].c);
-@NUMBERS@*/
+
+   It is worth it: in a simulation (README.md) asking once takes 0.44 to 0.79 of the late jobs, asking again 0.68 to
+   1.00. */
 merkazobi_answer merkazobi_request(merkazobi_desk *desk, merkazobi_job *jobs, size_t places, uint32_t t, uint32_t c,
                                    uint32_t d);
 

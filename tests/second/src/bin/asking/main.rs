@@ -110,18 +110,62 @@ with place l tried, and had it not been tried.
                                      tried          not tried
 own jobs     supply    d   late   once   again    once   again";
 
+/// A setting's shares by how far deadlines lie and by how much is late.
+fn lines(setting: Setting) -> impl Iterator<Item = (u32, u32, [f64; 4])> {
+    let each = [4, 8, 12].map(|dlx| [5, 10, 15, 20].map(|percent| (dlx, percent)));
+    let line = move |(dlx, percent)| (dlx, percent, shares(setting, dlx, percent));
+    each.into_iter().flatten().map(line)
+}
+
 fn main() {
     println!("{LEGEND}");
     for setting in SETTINGS {
         let Setting { name, supply, .. } = setting;
-        for dlx in [4, 8, 12] {
-            for percent in [5, 10, 15, 20] {
-                let [once, again, once_without, again_without] = shares(setting, dlx, percent);
-                println!(
-                    "{name:<12} {supply:>6} {dlx:>4} {percent:>4} %  {once:.3}  {again:.3}   \
-                     {once_without:.3}  {again_without:.3}"
-                );
-            }
+        for (dlx, percent, [once, again, once_without, again_without]) in lines(setting) {
+            println!(
+                "{name:<12} {supply:>6} {dlx:>4} {percent:>4} %  {once:.3}  {again:.3}   \
+                 {once_without:.3}  {again_without:.3}"
+            );
         }
+    }
+}
+
+#[cfg(test)]
+mod tests {
+    use super::{lines, SETTINGS};
+
+    /// The smallest and the largest of some share, over the settings whose own jobs are named so.
+    fn span(own: &str, share: fn([f64; 4]) -> f64) -> String {
+        let settings = SETTINGS.into_iter().filter(|setting| setting.name == own);
+        let all: Vec<f64> = settings
+            .flat_map(|setting| lines(setting).map(|(_, _, shares)| share(shares)))
+            .collect();
+        let least = all.iter().copied().fold(f64::INFINITY, f64::min);
+        let most = all.iter().copied().fold(f64::NEG_INFINITY, f64::max);
+        format!("{least:.2} to {most:.2}")
+    }
+
+    fn says(page: &str, what: &str) {
+        let words: Vec<&str> = page.split_whitespace().collect();
+        assert!(words.join(" ").contains(what), "{what}");
+    }
+
+    #[test]
+    fn readme_and_header_say_the_shares_of_the_25_percent() {
+        let once = span("25 %", |[once, ..]| once);
+        let again = span("25 %", |[_, again, ..]| again);
+        let said = format!("asking once takes {once} of the late jobs, asking again {again}");
+        says(include_str!("../../../../../README.md"), &said);
+        says(include_str!("../../../../../include/merkazobi.h"), &said);
+    }
+
+    #[test]
+    fn readme_says_what_place_l_gains_in_sparse_tables() {
+        let gain = |own| span(own, |[_, again, _, without]| again - without);
+        let [three, one] = ["three jobs", "one job"].map(gain);
+        let said = format!(
+            "gains {three} of them where the table has three own jobs, {one} where it has one"
+        );
+        says(include_str!("../../../../../README.md"), &said);
     }
 }
