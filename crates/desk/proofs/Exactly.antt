@@ -1,5 +1,5 @@
 -- A request that no lower number refuses is taken exactly when some place keeps every deadline, and else is 18. Assumes nothing.
-use Prim.Native.Nat.{ℕ, zero, suc, _+_, _-_, _<_, _≤_, min}
+use Prim.Native.Nat.{ℕ, zero, suc, _+_, _-_, _<_, _≤_}
 use mathlib.Core.Path.{_≡_, refl, subst}
 use mathlib.Core.Logic.{_↔_, _⊎_, inl, inr}
 use mathlib.Core.Bool.{Bool, true, false}
@@ -61,26 +61,13 @@ record Delayed (js : List Job) (us : List Entry) : Type 0 where
 tail-delayed : (j : Job) (js : List Job) (u : Entry) (us : List Entry) → Delayed (j ∷ js) (u ∷ us) → Delayed js us
 tail-delayed j js u us w = record { same = omega (arith, w .same); later = λ m h. w .later (suc m) (omega arith) }
 
--- omega takes few case splits, and each `-` and `min` is one: so the numbers go in small steps
-gain : (m a c b : ℕ) → a ≤ b → b + c ≤ m → b - a ≤ m - a - c
-gain m a c b h g = omega arith
-
-at-most : (m p q : ℕ) → m ≤ p → m ≤ q → m ≤ min p q
-at-most m p q h g = omega arith
-
-back : (b a x : ℕ) → b - a ≤ x → b ≤ a + x
-back b a x h = omega arith
-
-within : (a c d y b : ℕ) → a ≤ b → b + c ≤ d → b + c ≤ y → b ≤ a + min (d - a - c) (y - a - c)
-within a c d y b h g l = back b a _ (at-most (b - a) (d - a - c) (y - a - c) (gain d a c b h g) (gain y a c b h l))
-
 limit : (j : Job) (js : List Job) (u : Entry) (us : List Entry) → rightX (j ∷ js) ≡ true → Delayed (j ∷ js) (u ∷ us) → Promise (u ∷ us)
     → u .start ≤ j .start + j .flex
 limit j [] u us r w p =
     let x : j .flex ≡ j .deadline - j .start - j .budget = eqb-true _ _ (and-parts _ (rightX []) r .0) in
     let one = w .later 0 (omega arith) in
     let due : u .start + j .budget ≤ j .deadline = rw (one .1, one .2) (p .in-time 0 (omega arith)) in
-    back (u .start) (j .start) (j .flex) (rw x (gain (j .deadline) (j .start) (j .budget) (u .start) (one .3) due))
+    omega (arith, one .3)
 limit j (k ∷ ks) u [] r w p = absurd (omega (arith, w .same))
 limit j (k ∷ ks) u (v ∷ vs) r w p =
     let x : j .flex ≡ xOf j (k ∷ ks) = eqb-true _ _ (and-parts _ (rightX (k ∷ ks)) r .0) in
@@ -88,7 +75,7 @@ limit j (k ∷ ks) u (v ∷ vs) r w p =
     let due : u .start + j .budget ≤ j .deadline = rw (one .1, one .2) (p .in-time 0 (omega arith)) in
     let next : v .start ≤ k .start + k .flex = limit k ks v vs (right-tail j (k ∷ ks) r) (tail-delayed j (k ∷ ks) u (v ∷ vs) w) (tail-promise u (v ∷ vs) p) in
     let after : u .start + j .budget ≤ v .start = rw (one .1) (p .apart 0 1 (omega arith) (omega arith)) in
-    rw x (within (j .start) (j .budget) (j .deadline) (k .flex + k .start) (u .start) (one .3) due (omega arith))
+    omega (arith, one .3)
 
 -- WHERE SOME PLACE KEEPS EVERY DEADLINE, ONE IS FOUND
 
