@@ -152,9 +152,10 @@ merkazobi_answer merkazobi_write(size_t frame, const uint16_t *parts, size_t par
 merkazobi_answer merkazobi_list(const uint8_t *file, size_t bytes, uint8_t *out, size_t out_bytes);
 
 /* ---- The desk, which takes in late jobs. The caller keeps the job table and the desk's record, and changes nothing in
-   them between the calls. */
+   them between the calls; to change something, open the desk again: its promises count from the last opening. */
 
-/* A job of the desk: start a, budget C, deadline d, flexibility x (how far it can be moved back). */
+/* A job of the desk: start a, budget C, deadline d, flexibility x (how far it can be moved back, with those behind it,
+   every deadline kept). */
 typedef struct {
     uint32_t a;
     uint32_t c;
@@ -171,25 +172,31 @@ typedef struct {
 /* Opening the desk: "takes any x of a listed job and any clock, works x out and sets the clock to 0". Before it: count
    is the number of jobs, at most 64; the jobs stand first in the table by rising start, each with c at least 1, with
    a + c at most its d and at most the next job's a, and with d at most 1,000,000; all places past the count hold zeros.
-   places is 64, the whole table's, whatever the count. Refusal 13, which changes nothing. */
+   places is 64, the whole table's, whatever the count; any other is 13. Refusal 13, which changes nothing. */
 merkazobi_answer merkazobi_open(merkazobi_desk *desk, merkazobi_job *jobs, size_t places);
 
 /* A request at time t of budget c and deadline d, in ticks of the desk's own partition; places is 64. The job is put at
    the lowest place with room: before a listed job, which is moved back with those behind it as far as they are forced,
    or behind the last one that starts by d, also into an empty table. first: the place from 0, after dropping; second:
-   the start. Refusals 13 to 19: "13, 14, 15 and 19 change nothing at the desk. 16, 17, 18 set the clock to t and drop
-   finished jobs .. A job taken in sets the clock too." A request that 13 to 17 don't refuse is taken "exactly when some
-   place in the order, started at t or later, with earlier jobs unmoved and later ones only delayed, keeps every
-   deadline"; else it is 18.
+   the start, t or the end of the job before. Both hold until the next call, which may move the job back in turn, never
+   past its deadline.
 
-   16 leaves it to the caller to ask again. The running job is then jobs[0], and a request at the tick when it ends is
-   not refused with 16 (one that comes later may be, for the next job may be running by then):
+   Refusals 13 to 19, of which 13 is for what an opening refuses, for a clock above 1,000,000 and for an x that is not
+   as worked out. "13, 14, 15 and 19 change nothing at the desk. 16, 17, 18 set the clock to t and drop finished jobs ..
+   A job taken in sets the clock too." A request that 13 to 17 don't refuse is taken "exactly when some place in the
+   order, started at t or later, with earlier jobs unmoved and later ones only delayed, keeps every deadline"; else it
+   is 18.
+
+   16: a job is running, a < t < a + c, and it is jobs[0] right after that answer. (A job whose start is t itself has not
+   begun and may be moved: make a tick's requests before its job starts.) It is left to the caller to ask again when the
+   running job ends. A request at that tick is not refused with 16; one that comes later may be, for the next job may be
+   running by then:
 
        while ((r = merkazobi_request(&desk, jobs, MERKAZOBI_PLACES, t, c, d)).number == MERKAZOBI_BUSY)
            t = sleep_until(jobs[0].a + jobs[0].c);
 
-   It is worth it: in a simulation (README.md) asking once takes 0.44 to 0.79 of the late jobs, asking again 0.68 to
-   1.00. */
+   Where jobs[0].a + jobs[0].c + c is past d, asking again is in vain. Else it is worth it: in a simulation (README.md)
+   asking once takes 0.44 to 0.79 of the late jobs, asking again 0.68 to 1.00. */
 merkazobi_answer merkazobi_request(merkazobi_desk *desk, merkazobi_job *jobs, size_t places, uint32_t t, uint32_t c,
                                    uint32_t d);
 
