@@ -177,9 +177,9 @@ merkazobi_answer merkazobi_open(merkazobi_desk *desk, merkazobi_job *jobs, size_
 
 /* A request at time t of budget c and deadline d, in ticks of the desk's own partition; places is 64. The job is put at
    the lowest place with room: before a listed job, which is moved back with those behind it as far as they are forced,
-   or behind the last one that starts by d, also into an empty table. first: the place from 0, after dropping; second:
-   the start, t or the end of the job before. Both hold until the next call, which may move the job back in turn, never
-   past its deadline.
+   or behind the last one that starts by d, in front of all where none does, also into an empty table. first: the place
+   from 0, after dropping; second: the start, t for place 0, else the end of the job before. Both hold until the next
+   call, which may move the job back in turn, never past its deadline.
 
    Refusals 13 to 19, of which 13 is for what an opening refuses, for a clock above 1,000,000 and for an x that is not
    as worked out. "13, 14, 15 and 19 change nothing at the desk. 16, 17, 18 set the clock to t and drop finished jobs ..
@@ -187,16 +187,16 @@ merkazobi_answer merkazobi_open(merkazobi_desk *desk, merkazobi_job *jobs, size_
    order, started at t or later, with earlier jobs unmoved and later ones only delayed, keeps every deadline"; else it
    is 18.
 
-   16: a job is running, a < t < a + c, and it is jobs[0] right after that answer. (A job whose start is t itself has not
-   begun and may be moved: make a tick's requests before its job starts.) It is left to the caller to ask again when the
-   running job ends. A request at that tick is not refused with 16; one that comes later may be, for the next job may be
-   running by then:
+   16: a job is running, a < t < a + c, and it is jobs[0] right after that answer. (A job whose start is t itself has
+   not begun and may be moved: make a tick's requests before its job starts.) It is left to the caller to ask again when
+   the running job ends. A request at that tick is not refused with 16; one that comes later may be, for the next job
+   may be running by then:
 
        while ((r = merkazobi_request(&desk, jobs, MERKAZOBI_PLACES, t, c, d)).number == MERKAZOBI_BUSY)
            t = sleep_until(jobs[0].a + jobs[0].c);
 
    Where jobs[0].a + jobs[0].c + c is past d, asking again is in vain. Else it is worth it: in a simulation (README.md)
-   asking once takes 0.44 to 0.79 of the late jobs, asking again 0.68 to 1.00. */
+   asking once takes 0.44 to 0.73 of the late jobs, asking again 0.68 to 1.00. */
 merkazobi_answer merkazobi_request(merkazobi_desk *desk, merkazobi_job *jobs, size_t places, uint32_t t, uint32_t c,
                                    uint32_t d);
 

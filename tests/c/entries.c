@@ -377,6 +377,8 @@ static void requests_at_the_last_place(void)
     static const merkazobi_job d6[] = {{25, 4, 29, 0}, {30, 2, 40, 8}};
     static const merkazobi_job behind[] = {{30, 2, 40, 0}, {32, 9, 41, 0}};
     static const merkazobi_job alone[] = {{7, 5, 12, 0}};
+    static const merkazobi_job behind_early[] = {{30, 2, 40, 4}, {32, 9, 45, 4}};
+    static const merkazobi_job alone_early[] = {{7, 5, 20, 8}};
     begin_desk(0, d1, 3);
     stand(&wanted, 25, d6, 2);
     ends("D6", request(25, 4, 29), (merkazobi_answer){0, 0, 25, 0, 0});
@@ -386,6 +388,12 @@ static void requests_at_the_last_place(void)
     begin_desk(0, NULL, 0);
     stand(&wanted, 7, alone, 1);
     ends("in an empty table", request(7, 5, 12), (merkazobi_answer){0, 0, 7, 0, 0});
+    begin_desk(0, &d1[2], 1);
+    stand(&wanted, 30, behind_early, 2);
+    ends("behind the last job, time to spare", request(30, 9, 45), (merkazobi_answer){0, 1, 32, 0, 0});
+    begin_desk(0, NULL, 0);
+    stand(&wanted, 7, alone_early, 1);
+    ends("in an empty table, time to spare", request(7, 5, 20), (merkazobi_answer){0, 0, 7, 0, 0});
 }
 
 /* "13, 14, 15 and 19 change nothing at the desk." */

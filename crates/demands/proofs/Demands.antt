@@ -5,9 +5,9 @@ use mathlib.Core.Logic.{_↔_}
 use mathlib.Core.Bool.{Bool, true, false, true≢false, not, _&&_, _||_}
 use mathlib.Core.List.{List, [], _∷_}
 use native.Mathlib.Omega.{arith}
-use borrow.Author.Tests.{eqb-true, eqb-false, not-true}
+use borrow.Author.Tests.{eqb-true, eqb-false, leb-true, not-true}
 use lib.Dec.{leb, ltb, eqb}
-use lib.ListN.{length, take, drop}
+use lib.ListN.{length, take, drop, getD}
 use Rattle.rules.specs.Walk.{pick}
 use Rattle.rules.specs.Limits.{longest, places}
 use Rattle.rules.specs.Table.{partitions, tasks, deadline}
@@ -57,10 +57,10 @@ use Rattle.desk.specs.declared.Job.{Job}
 use Rattle.desk.specs.declared.Desk.{Desk}
 use Rattle.desk.specs.declared.Answer.{Answer}
 use Rattle.desk.specs.declared.Answer.the-variants.{Opened, Taken, Refused}
-use Rattle.desk.specs.Table.{job, filled, flexes, Outcome, outcome, tableOk, deskOk, openOf}
+use Rattle.desk.specs.Table.{job, start, ends, none, filled, flexes, Outcome, outcome, tableOk, deskOk, openOf}
 use Rattle.desk.specs.Request.{kept, busy, Place, At, Nowhere, find, tooFar, insertAt, taking, dropping, numbersOk, drops, requestOf}
 use Rattle.desk.specs.Call.{deskOf, Leaves, said}
-use Rattle.desk.specs.Theorems.{Fits, NoLower}
+use Rattle.desk.specs.Theorems.{Fits, NoLower, Ready, startAt}
 use Rattle.desk.proofs.Proved as desk
 use Rattle.desk_lent.proofs.Proved as lent
 use Rattle.api.specs.Answers.{TellsCheck, TellsBuild, TellsVerdict, TellsRead, TellsSection, TellsWrite, TellsList, TellsRequest}
@@ -269,6 +269,37 @@ module _ (k k′ : Desk) (l l′ : List Job) (time c d : ℕ) (t : Told) (p : Te
   none-lower : ¬ ToldAs lower t → NoLower asked
   none-lower h m low high e = h (rw (desk-is asked k′ l′ t p, e) (lower-all m low high))
 
+  lower-told : (¬ ToldAs lower t) ↔ Ready (k .clock) (k .count) l time c d
+  lower-told =
+      let w = desk.proved .lower-exactly (k .clock) (k .count) l time c d in (
+        λ h. w .0 (none-lower h),
+        λ r e.
+            let m = said (asked .answer) .number in
+            let f = and-parts (leb 13 m) (leb m 17) (every-among (λ n. leb 13 n && leb n 17) lower m refl (rw (desk-is asked k′ l′ t p) at e)) in
+            w .1 r m (leb-true 13 m (f .0)) (omega (arith, leb-true m 17 (f .1))) refl,
+      )
+
+  start-told : t .number ≡ 0 → t .second ≡ startAt time left (t .first)
+  start-told e = rw (desk-is asked k′ l′ t p) (go (asked .answer) refl)
+    where
+      go : (a : Answer) → asked .answer ≡ a → said a .second ≡ startAt time left (said a .first)
+      go Opened f = absurd (not-opened f)
+      go (Taken i s) f = desk.proved .taken-start (k .clock) (k .count) l time c d i s f
+      go (Refused r) f = absurd (not-0 r (rw (desk-is asked k′ l′ t p, f) at e))
+
+  busy-told : t .number ≡ 16
+      → (start (getD l′ 0 none) < time) × (time < ends (getD l′ 0 none))
+      × ((u c₂ d₂ : ℕ) (k₂ : Desk) (l₂ : List Job) (t₂ : Told) → u ≡ ends (getD l′ 0 none) → TellsRequest k′ l′ u c₂ d₂ k₂ l₂ t₂ → ¬ (t₂ .number ≡ 16))
+  busy-told e =
+      let w = desk.proved .busy-ends (k .clock) (k .count) l time c d (rw (desk-is asked k′ l′ t p) at e) in
+      let tells : (k₃ : Desk) (l₃ : List Job) → k₃ ≡ deskOf asked → l₃ ≡ asked .jobs → (u c₂ d₂ : ℕ) → u ≡ ends (getD l₃ 0 none)
+      → ¬ (said (requestOf (k₃ .clock) (k₃ .count) l₃ u c₂ d₂ .answer) .number ≡ 16) =
+      λ k₃ l₃ ek el u c₂ d₂. rw (ek, el) (w .free-then u c₂ d₂) in (
+        rw (p .1 .2) (w .begun),
+        rw (p .1 .2) (w .unended),
+        λ u c₂ d₂ k₂ l₂ t₂ at q f. tells k′ l′ (p .1 .1) (p .1 .2) u c₂ d₂ at (rw (desk-is _ k₂ l₂ t₂ q) at f),
+      )
+
   taken-told : ¬ ToldAs lower t → (t .number ≡ 0) ↔ Fits time c d left
   taken-told h = rw (desk-is asked k′ l′ t p) (desk.proved .taken-exactly (k .clock) (k .count) l time c d (none-lower h))
 
@@ -388,8 +419,11 @@ second = record {
   write-read = writer.proved .write-read;
   open-afresh = λ k k′ l l′ t p. afresh-is _ k′ l′ t p (desk.proved .open-afresh (k .clock) (k .count) l);
   request-afresh = λ k k′ l l′ time c d t p. afresh-is _ k′ l′ t p (desk.proved .request-afresh (k .clock) (k .count) l time c d);
+  lower-exactly = lower-told;
   taken-exactly = taken-told;
   no-place-exactly = no-place-told;
+  taken-start = start-told;
+  busy-ends = busy-told;
 }
 
 third : Demand3

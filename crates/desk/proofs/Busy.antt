@@ -1,5 +1,5 @@
 -- After 16 the first job is running, and the desk is not busy when it ends. Assumes nothing.
-use Prim.Native.Nat.{ℕ, _<_}
+use Prim.Native.Nat.{ℕ, _<_, _≤_}
 use mathlib.Core.Path.{_≡_, refl, sym, subst, _∙_}
 use mathlib.Core.Bool.{Bool, true, false, true≢false}
 use mathlib.Core.List.{List, [], _∷_}
@@ -13,7 +13,7 @@ use Rattle.desk.specs.declared.Job.{Job}
 use Rattle.desk.specs.Table.{filled, ends, Outcome}
 use Rattle.desk.specs.Request.{kept, busy, dropping, requestOf}
 use Rattle.desk.specs.Theorems.{Refuses, Running, BusyEnds}
-use Rattle.desk.proofs.Chain.{Chain, kept-from}
+use Rattle.desk.proofs.Chain.{Chain, chain-low, kept-from}
 use Rattle.desk.proofs.Rules.{SoundAfter, good-of, good-kept, running, full, nowhere, Ending, same, dropped, taken, ending, request-sound, sound-unless}
 use Rattle.desk.proofs.Promise.{take-filled}
 
@@ -28,9 +28,9 @@ first-left t (k ∷ l) j js e = by-end (leb (ends k) t) refl e (first-left t l j
       rw (← z) (leb-false (ends k) t h)
 
 -- when it ends, the next one has not begun
-free : (j : Job) (js : List Job) → Chain (ends j) js → busy (ends j) (kept (ends j) (j ∷ js)) ≡ false
-free j js g = rw (le-leb (ends j) (ends j) (omega arith), kept-from (ends j) js g) (next js g) where
-  next : (ks : List Job) → Chain (ends j) ks → busy (ends j) ks ≡ false
+free : (u : ℕ) (j : Job) (js : List Job) → ends j ≤ u → Chain u js → busy u (kept u (j ∷ js)) ≡ false
+free u j js h g = rw (le-leb (ends j) u h, kept-from u js g) (next js g) where
+  next : (ks : List Job) → Chain u ks → busy u ks ≡ false
   next [] g = refl
   next (k ∷ ks) g = le-ltb _ _ (g .0)
 
@@ -44,15 +44,16 @@ is-busy clock n l t c d o (taken i s late small some due few g spot) e = absurd 
 
 running-of : (t : ℕ) (l js : List Job) → kept t l ≡ js → busy t js ≡ true → Chain 0 js → SoundAfter (dropping t js Busy) → Running t (dropping t js Busy)
 running-of t l [] e b g s = absurd (true≢false (sym b))
-running-of t l (j ∷ js) e b g s = record { begun = ltb-true _ _ b; unended = first-left t l j js e; free-then = free-then } where
-  n : ℕ
-  n = length (j ∷ js)
-
-  free-then : (c d : ℕ) → Refuses (requestOf t n (filled (j ∷ js)) (ends j) c d) 16 → ⊥
-  free-then c d f =
-      let again = is-busy t n (filled (j ∷ js)) (ends j) c d _ (ending t n (filled (j ∷ js)) (ends j) c d s) f .0 in
-      let here = subst (λ (ks : List Job). busy (ends j) (kept (ends j) ks) ≡ true) (take-filled (j ∷ js) n refl) again in
-      true≢false (sym here ∙ free j js (g .2))
+running-of t l (j ∷ js) e b g s =
+    let n = length (j ∷ js) in
+    record {
+      begun = ltb-true _ _ b;
+      unended = first-left t l j js e;
+      free-then = λ u c d at f.
+          let again = is-busy t n (filled (j ∷ js)) u c d _ (ending t n (filled (j ∷ js)) u c d s) f .0 in
+          let here = subst (λ (ks : List Job). busy u (kept u ks) ≡ true) (take-filled (j ∷ js) n refl) again in
+          true≢false (sym here ∙ free u j js (omega arith) (chain-low (ends j) u js (omega arith) (g .2)));
+    }
 
 pub busy-ends : BusyEnds
 busy-ends clock n l t c d e =

@@ -1,6 +1,6 @@
 -- A request that no lower number refuses is taken exactly when some place keeps every deadline, and else is 18. Assumes nothing.
 use Prim.Native.Nat.{ℕ, zero, suc, _+_, _-_, _<_, _≤_}
-use mathlib.Core.Path.{_≡_, refl, subst}
+use mathlib.Core.Path.{_≡_, refl, sym, ap, subst, _∙_}
 use mathlib.Core.Logic.{_↔_, _⊎_, inl, inr}
 use mathlib.Core.Bool.{Bool, true, false}
 use mathlib.Core.List.{List, [], _∷_}
@@ -14,11 +14,13 @@ use Rattle.rules.specs.Refusals.{told}
 use Rattle.rules.specs.declared.Refusal.the-variants.{Busy, Full, NoPlace}
 use Rattle.rules.proofs.Tests.{and-parts}
 use Rattle.desk.specs.declared.Job.{Job}
+use Rattle.desk.specs.declared.Answer.{Answer}
+use Rattle.desk.specs.declared.Answer.the-variants.{Taken}
 use Rattle.desk.specs.Table.{job, xOf, rightX, ends, Outcome}
 use Rattle.desk.specs.Request.{kept, early, room, findFrom, insertAt, requestOf, At, Nowhere}
 use Rattle.desk.specs.Call.{said}
 use Rattle.desk.specs.Story.{Entry, entry, noEntry, finish, standing, entries, Promise, Later, Joined}
-use Rattle.desk.specs.Theorems.{Refuses, Fits, NoLower, TakenExactly, NoPlaceExactly}
+use Rattle.desk.specs.Theorems.{Refuses, Fits, NoLower, TakenExactly, NoPlaceExactly, startAt, TakenStart}
 use Rattle.desk.proofs.Chain.{Chain}
 use Rattle.desk.proofs.Spot.{Spot, early-late, right-tail, spot-start, spot-inside, chain-insert}
 use Rattle.desk.proofs.Rules.{good-of, good-kept, fresh, running, full, nowhere, Ending, same, dropped, taken, ending, sound-unless}
@@ -171,6 +173,12 @@ module _ (b c d s : ℕ) where
 
 -- A REQUEST THAT NO LOWER NUMBER REFUSES
 
+spot-at : (c d e p : ℕ) (js : List Job) (s : ℕ) → Spot c d e p js s → s ≡ startAt e js p
+spot-at c d e zero js s h = h .0
+spot-at c d e (suc p) [] s h = absurd h
+spot-at c d e (suc zero) (j ∷ js) s h = h .0
+spot-at c d e (suc (suc p)) (j ∷ js) s h = spot-at c d (ends j) (suc p) js s h
+
 module _ (clock n : ℕ) (l : List Job) (t c d : ℕ) where
   abbrev js : List Job
   js = kept t (take n l)
@@ -204,6 +212,19 @@ module _ (clock n : ℕ) (l : List Job) (t c d : ℕ) where
   refused-fits : (o : Outcome) → Sought o → (Refuses o 18 → Fits t c d js → ⊥) × ((Fits t c d js → ⊥) → Refuses o 18)
   refused-fits o (inl w) = (λ e. absurd (omega (arith, w .0)), λ f. absurd (f (w .1)))
   refused-fits o (inr w) = (λ e. w .1, λ f. w .0)
+
+  started : (o : Outcome) (i s : ℕ) → o .answer ≡ Taken i s → Ending clock n l t c d o → s ≡ startAt t js i
+  started o i s e (same r h) = absurd (let z : _≡_ {A = ℕ} 0 1 = cc in omega arith)
+  started o i s e (dropped r h late small) = absurd (let z : _≡_ {A = ℕ} 0 1 = cc in omega arith)
+  started o i s e (taken i₂ s₂ late small some due few g spot) =
+      let zi : i₂ ≡ i = cc in
+      let zs : s₂ ≡ s = cc in
+      rw (← zi, ← zs) (spot-at c d t i₂ js s₂ spot)
+
+pub taken-start : TakenStart
+taken-start clock n l t c d i s e =
+    let sound = sound-unless clock n l t c d (λ f. let z : 0 ≡ 13 = sym (ap (λ (a : Answer). said a .number) e) ∙ f in absurd (omega arith)) in
+    started clock n l t c d (requestOf clock n l t c d) i s e (ending clock n l t c d sound)
 
 pub taken-exactly : TakenExactly
 taken-exactly clock n l t c d nl = taken-fits clock n l t c d (requestOf clock n l t c d) (sought-of clock n l t c d nl)

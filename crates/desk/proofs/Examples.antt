@@ -1,4 +1,5 @@
--- Place l by value, so that a wrong rule falls by its numbers: D6, a tick longer, an empty table, behind the last job and a tick longer. Assumes nothing.
+-- Place l by value, so that a wrong rule falls by its numbers: D6, a tick longer, an empty table, behind the last job and a tick longer; and with time to
+-- spare, where the start is still the earliest. Assumes nothing.
 use mathlib.Core.Path.{_≡_, refl}
 use mathlib.Core.List.{[], _∷_}
 use Rattle.desk.specs.Table.{job}
@@ -18,3 +19,9 @@ behind = refl
 
 behind-longer : find 30 10 41 (job 30 2 40 8 ∷ []) ≡ Nowhere
 behind-longer = refl
+
+empty-early : find 7 5 20 [] ≡ At 0 7
+empty-early = refl
+
+behind-early : find 30 9 45 (job 30 2 40 8 ∷ []) ≡ At 1 32
+behind-early = refl

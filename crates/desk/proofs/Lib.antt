@@ -9,4 +9,5 @@ pub mod Promise
 pub mod Still
 pub mod Exactly
 pub mod Busy
+pub mod Ready
 pub mod Proved

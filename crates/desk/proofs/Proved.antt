@@ -20,8 +20,9 @@ use Rattle.desk.specs.Theorems.{OpenLeaves, NeverTooFar, Refuses, OpenTe
 use Rattle.desk.proofs.Rules.{Sound, request-sound, request-numbers, opened-table, open-is, open-sound, open-good, open-sound-unless, sound-unless, afresh}
 use Rattle.desk.proofs.Entries.{Follow, entries-open}
 use Rattle.desk.proofs.Promise.{take-filled, table, Kept, kept-good, kept-many, kept-begin, promise}
-use Rattle.desk.proofs.Exactly.{taken-exactly, no-place-exactly}
+use Rattle.desk.proofs.Exactly.{taken-start, taken-exactly, no-place-exactly}
 use Rattle.desk.proofs.Busy.{busy-ends}
+use Rattle.desk.proofs.Ready.{lower-exactly}
 use Rattle.desk.proofs.Still.{refused-same, taken-joined, still, all-since-opening, still-ever, length-entries}
 
 open-leaves : OpenLeaves
@@ -127,8 +128,10 @@ proved =
       open-afresh = λ clock n l h. afresh (openOf clock n l) (open-sound-unless clock n l h);
       request-afresh = λ clock n l t c d h. afresh (requestOf clock n l t c d) (request-sound clock n l t c d (sound-unless clock n l t c d h));
       never-too-far = never-too-far;
+      lower-exactly = lower-exactly;
       taken-exactly = taken-exactly;
       no-place-exactly = no-place-exactly;
+      taken-start = taken-start;
       busy-ends = busy-ends;
       open-tells = open-tells;
       story-tells = λ clock n l e qs. tells _ (kept-story clock n l e qs);

@@ -23,10 +23,10 @@ Spot c d e zero js s = (s ≡ e) × (s + c ≤ d) × Near (s + c) js
 Spot c d e (suc p) [] s = ⊥
 Spot c d e (suc p) (j ∷ js) s = Spot c d (ends j) p js s
 
-pub record Found (k c d e : ℕ) (js : List Job) (i s : ℕ) : Type 0 where
-  pub at : ℕ
-  pub is : i ≡ k + at
-  pub spot : Spot c d e at js s
+record Found (k c d e : ℕ) (js : List Job) (i s : ℕ) : Type 0 where
+  at : ℕ
+  is : i ≡ k + at
+  spot : Spot c d e at js s
 
 pub early-late : (d e : ℕ) (js : List Job) → d < e → Chain e js → early d js ≡ 0
 early-late d e [] h g = refl
@@ -39,7 +39,7 @@ near-low e f [] h n = tt
 near-low e f (j ∷ js) h n = omega (arith, n)
 
 -- a place with room is a spot: the step from room ≥ C to a first move within x
-pub room-spot : (c d e : ℕ) (j : Job) → e ≤ j .start → j .start ≤ d → c ≤ room e d j → (e + c ≤ d) × (e + c ≤ j .start + j .flex)
+room-spot : (c d e : ℕ) (j : Job) → e ≤ j .start → j .start ≤ d → c ≤ room e d j → (e + c ≤ d) × (e + c ≤ j .start + j .flex)
 room-spot c d e j h g r = (omega arith, omega arith)
 
 -- place l is a spot: the job behind it, if any, starts after d

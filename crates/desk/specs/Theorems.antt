@@ -1,18 +1,19 @@
 -- What is proved of the desk's rules, each statement below the documents' words. `Proved` has a field for each. Assumes nothing.
-use Prim.Native.Nat.{ℕ, _+_, _<_, _≤_}
+use Prim.Native.Nat.{ℕ, zero, suc, _+_, _<_, _≤_}
 use mathlib.Core.Path.{_≡_}
 use mathlib.Core.Logic.{_↔_}
-use mathlib.Core.Bool.{Bool, true}
+use mathlib.Core.Bool.{Bool, true, false}
 use mathlib.Core.List.{List}
 use lib.ListN.{length, take, getD}
 use Rattle.rules.specs.Walk.{pick}
+use Rattle.rules.specs.Limits.{places}
 use Rattle.rules.specs.declared.Refusal.{Refusal}
 use Rattle.rules.specs.declared.Refusal.the-variants.{Rules}
 use Rattle.desk.specs.declared.Job.{Job}
 use Rattle.desk.specs.declared.Asked.{Asked}
 use Rattle.desk.specs.declared.Answer.the-variants.{Opened, Taken, Refused}
 use Rattle.desk.specs.Table.{start, budget, deadline, ends, none, Outcome, outcome, flexes, deskOk, openOf}
-use Rattle.desk.specs.Request.{kept, drops, dropping, requestOf}
+use Rattle.desk.specs.Request.{kept, busy, numbersOk, drops, dropping, requestOf}
 use Rattle.desk.specs.Call.{said}
 use Rattle.desk.specs.Story.{Entry, entry, noEntry, standing, Story, live, ever, begin, next, many, Promise, Joined, Fixed, takens}
 
@@ -87,6 +88,20 @@ pub record Fits (t c d : ℕ) (js : List Job) : Type 0 where
 abbrev pub NoLower : Outcome → Type 0
 NoLower o = (m : ℕ) → 13 ≤ m → m < 18 → Refuses o m → ⊥
 
+-- what 13 to 17 ask for, in their order: a table, clock and count that keep the rules, numbers within their limits, a time not before the clock, no job running,
+-- and fewer than 64 jobs left
+pub record Ready (clock n : ℕ) (l : List Job) (t c d : ℕ) : Type 0 where
+  pub rules : deskOk clock n l ≡ true
+  pub numbers : numbersOk t c d ≡ true
+  pub not-past : clock ≤ t
+  pub not-busy : busy t (kept t (take n l)) ≡ false
+  pub not-full : length (kept t (take n l)) < places
+
+-- they refuse exactly where one of these fails
+abbrev pub LowerExactly : Type 0
+LowerExactly =
+    (clock n : ℕ) (l : List Job) (t c d : ℕ) → NoLower (requestOf clock n l t c d) ↔ Ready clock n l t c d
+
 -- "A request that no lower number refuses is then taken exactly when some place .. keeps every deadline."
 abbrev pub TakenExactly : Type 0
 TakenExactly =
@@ -99,11 +114,22 @@ NoPlaceExactly =
     (clock n : ℕ) (l : List Job) (t c d : ℕ)
     → Refuses (requestOf clock n l t c d) 18 ↔ (NoLower (requestOf clock n l t c d) × (Fits t c d (kept t (take n l)) → ⊥))
 
+-- "s is t for place 0, else the end of the job before"
+abbrev pub startAt : ℕ → List Job → ℕ → ℕ
+startAt t js zero = t
+startAt t js (suc i) = ends (getD js i none)
+
+-- "The lowest place .. is taken, start s"
+abbrev pub TakenStart : Type 0
+TakenStart =
+    (clock n : ℕ) (l : List Job) (t c d i s : ℕ) → requestOf clock n l t c d .answer ≡ Taken i s → s ≡ startAt t (kept t (take n l)) i
+
 -- "it is running: busy": after 16 the first job in the table has begun and not ended, and a request when it ends is not refused with 16, whatever it asks for
 pub record Running (t : ℕ) (o : Outcome) : Type 0 where
   pub begun : start (getD (o .jobs) 0 none) < t
   pub unended : t < ends (getD (o .jobs) 0 none)
-  pub free-then : (c d : ℕ) → Refuses (requestOf (o .clock) (o .count) (o .jobs) (ends (getD (o .jobs) 0 none)) c d) 16 → ⊥
+  pub free-then :
+      (u c d : ℕ) → u ≡ ends (getD (o .jobs) 0 none) → Refuses (requestOf (o .clock) (o .count) (o .jobs) u c d) 16 → ⊥
 
 abbrev pub BusyEnds : Type 0
 BusyEnds =
@@ -169,8 +195,10 @@ pub record Proved : Type 0 where
   pub open-afresh : OpenAfresh
   pub request-afresh : RequestAfresh
   pub never-too-far : NeverTooFar
+  pub lower-exactly : LowerExactly
   pub taken-exactly : TakenExactly
   pub no-place-exactly : NoPlaceExactly
+  pub taken-start : TakenStart
   pub busy-ends : BusyEnds
   pub open-tells : OpenTells
   pub story-tells : StoryTells

@@ -13,6 +13,7 @@ use Rattle.desk_records.specs.Sums.{most32}
 use Rattle.desk_reading.specs.declared.searching.Searching.{Searching}
 use Rattle.desk.specs.Request.{kept, busy, early, room, findFrom, Place, At, Nowhere}
 use Rattle.desk.proofs.Chain.{Chain}
+use Rattle.desk.proofs.Spot.{early-late}
 use Rattle.desk_records.specs.Folds.{fold}
 use Rattle.desk_reading.specs.Reading.{searchStep}
 use Rattle.desk_engine.proofs.Counts.{some-more, one-less, sum-is}
@@ -115,12 +116,11 @@ module _ (t c d : ℕ) where
   found-stays p s [] = refl
   found-stays p s (j ∷ ks) = found-stays p s ks
 
-  late-stays : (p s e : ℕ) (ks : List Job) → d < e → Chain e ks → (searchFrom false p s ks ≡ pick (leb (s + c) d) (At p s) Nowhere) × (early d ks ≡ 0)
-  late-stays p s e [] h o = (refl, refl)
+  late-stays : (p s e : ℕ) (ks : List Job) → d < e → Chain e ks → searchFrom false p s ks ≡ pick (leb (s + c) d) (At p s) Nowhere
+  late-stays p s e [] h o = refl
   late-stays p s e (j ∷ ks) h o =
       let late : d < j .start = omega (arith, h, o .0) in
-      let two = late-stays p s (ends j) ks (omega arith) (o .2) in
-      (rw (lt-leb (j .start) d late) (two .0), rw (lt-leb (j .start) d late) (two .1))
+      rw (lt-leb (j .start) d late) (late-stays p s (ends j) ks (omega arith) (o .2))
 
   pub place-law : (p s e : ℕ) (ks : List Job) → Chain e ks → searchFrom false p s ks ≡ findFrom p s c d (take (early d ks) ks)
   place-law p s e [] o = refl
@@ -136,5 +136,5 @@ module _ (t c d : ℕ) where
         ≡ findFrom p s c d (take (pick v (suc (early d ks)) (early d ks)) (j ∷ ks))
     by-early true e₁ more = by-room (leb c (room s d j)) e₁ refl more
     by-early false e₁ more =
-        let two = late-stays p s (ends j) ks (omega (arith, leb-false (j .start) d e₁)) (o .2) in
-        rw (e₁, two .1) (two .0)
+        let late : d < ends j = omega (arith, leb-false (j .start) d e₁) in
+        rw (e₁, early-late d (ends j) ks late (o .2)) (late-stays p s (ends j) ks late (o .2))

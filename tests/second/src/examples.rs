@@ -174,6 +174,9 @@ fn behind_all_jobs() {
     assert_eq!(answer, Answer::good([3, 32, 0, 0]));
     assert_eq!((desk.clock, desk.count), (8, 4));
     assert_eq!(jobs[3], only(&[[32, 19, 51, 0]])[0]);
+    let (answer, _, jobs) = from_d1(8, 19, 60);
+    assert_eq!(answer, Answer::good([3, 32, 0, 0]));
+    assert_eq!(jobs[3], only(&[[32, 19, 60, 9]])[0]);
     let (answer, desk, jobs) = from_d1(8, 20, 51);
     assert_eq!(answer, Answer::refused(18));
     assert_eq!((desk.clock, desk.count, jobs), (8, 3, d1().1));
@@ -188,9 +191,9 @@ fn an_empty_table() {
         assert_eq!(desk.clock, t);
         (answer, desk.count, jobs)
     };
-    for (t, c, d) in [(0, 1, 1), (7, 5, 12), (0, 1_000_000, 1_000_000)] {
+    for (t, c, d) in [(0, 1, 1), (7, 5, 12), (7, 5, 20), (0, 1_000_000, 1_000_000)] {
         let taken = Answer::good([0, u64::from(t), 0, 0]);
-        assert_eq!(asked(t, c, d), (taken, 1, only(&[[t, c, d, 0]])));
+        assert_eq!(asked(t, c, d), (taken, 1, only(&[[t, c, d, d - t - c]])));
     }
     let refused = (Answer::refused(18), 0, only(&[]));
     assert_eq!(asked(0, 2, 1), refused);

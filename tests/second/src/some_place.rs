@@ -66,7 +66,7 @@ fn opened(listed: &[[u32; 3]]) -> (Desk, [Job; JOBS]) {
     (desk, jobs)
 }
 
-/// Asks, and compares with trying. Of the lower numbers only 16 can come here.
+/// Asks, and compares with trying; the start is the earliest that its place allows. Of the lower numbers only 16 can come here.
 fn ask(listed: &[[u32; 3]], asked: Request, ends: &mut Ends) {
     let Request { t, c, d } = asked;
     let (mut desk, mut jobs) = opened(listed);
@@ -84,6 +84,8 @@ fn ask(listed: &[[u32; 3]], asked: Request, ends: &mut Ends) {
         let table = &jobs[..desk.count as usize];
         let kept = keeps_all(&left, asked, place, table);
         assert!(kept, "{listed:?} {asked:?} {table:?}");
+        let start = u64::from(asked.earliest(&left, place));
+        assert_eq!(answer.second, start, "{listed:?} {asked:?}");
     }
     *ends.entry(way(wanted, &left, place, d)).or_default() += 1;
 }

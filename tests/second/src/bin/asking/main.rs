@@ -132,17 +132,24 @@ fn main() {
 
 #[cfg(test)]
 mod tests {
-    use super::{lines, SETTINGS};
+    use super::{lines, Setting, SETTINGS};
 
-    /// The smallest and the largest of some share, over the settings whose own jobs are named so.
-    fn span(own: &str, share: fn([f64; 4]) -> f64) -> String {
-        let settings = SETTINGS.into_iter().filter(|setting| setting.name == own);
-        let all: Vec<f64> = settings
-            .flat_map(|setting| lines(setting).map(|(_, _, shares)| share(shares)))
-            .collect();
-        let least = all.iter().copied().fold(f64::INFINITY, f64::min);
-        let most = all.iter().copied().fold(f64::NEG_INFINITY, f64::max);
-        format!("{least:.2} to {most:.2}")
+    /// Some share in each line of the settings whose own jobs are named so, with such supplies.
+    fn all(own: &str, supplies: &[u32], share: fn([f64; 4]) -> f64) -> Vec<f64> {
+        let such = |it: &Setting| it.name == own && supplies.contains(&it.supply);
+        let settings = SETTINGS.into_iter().filter(such);
+        settings
+            .flat_map(|it| lines(it).map(|(_, _, shares)| share(shares)))
+            .collect()
+    }
+
+    fn most(shares: &[f64]) -> f64 {
+        shares.iter().copied().fold(f64::NEG_INFINITY, f64::max)
+    }
+
+    fn span(shares: &[f64]) -> String {
+        let least = shares.iter().copied().fold(f64::INFINITY, f64::min);
+        format!("{least:.2} to {:.2}", most(shares))
     }
 
     fn says(page: &str, what: &str) {
@@ -150,21 +157,26 @@ mod tests {
         assert!(words.join(" ").contains(what), "{what}");
     }
 
+    /// Source document 002 has 70 % and 50 %.
+    const SUPPLIES: [u32; 2] = [7, 5];
+
     #[test]
-    fn readme_and_header_say_the_shares_of_the_25_percent() {
-        let once = span("25 %", |[once, ..]| once);
-        let again = span("25 %", |[_, again, ..]| again);
+    fn readme_and_header_say_the_shares_in_the_set_up_of_document_002() {
+        let once = span(&all("25 %", &SUPPLIES, |[once, ..]| once));
+        let again = span(&all("25 %", &SUPPLIES, |[_, again, ..]| again));
         let said = format!("asking once takes {once} of the late jobs, asking again {again}");
         says(include_str!("../../../../../README.md"), &said);
         says(include_str!("../../../../../include/merkazobi.h"), &said);
     }
 
     #[test]
-    fn readme_says_what_place_l_gains_in_sparse_tables() {
-        let gain = |own| span(own, |[_, again, _, without]| again - without);
-        let [three, one] = ["three jobs", "one job"].map(gain);
+    fn readme_says_what_place_l_gains() {
+        let gain = |[_, again, _, without]: [f64; 4]| again - without;
+        let there = most(&all("25 %", &SUPPLIES, gain));
+        let [three, one] = ["three jobs", "one job"].map(|own| span(&all(own, &[10], gain)));
         let said = format!(
-            "gains {three} of them where the table has three own jobs, {one} where it has one"
+            "gains at most {there:.2} there, where a job nearly always follows, but {three} with \
+             three own jobs in the table and {one} with one"
         );
         says(include_str!("../../../../../README.md"), &said);
     }

@@ -1,5 +1,6 @@
-//! Jobs as in source document 002, section V, in the partition's own ticks. Two things differ: the
-//! length of the cycle, and its filter of sets that can never take a late job is left out.
+//! Jobs as in source document 002, section V, in the partition's own ticks. What differs: the length
+//! of the cycle; how tasks of a given sum are drawn; its filter of sets that can never take a late
+//! job is left out; and there are settings besides its own, with all ticks or with few own jobs.
 
 use second::desk::Job;
 use second::inputs::requests::Request;
