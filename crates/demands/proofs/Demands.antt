@@ -9,7 +9,7 @@ use borrow.Author.Tests.{eqb-true, eqb-false, leb-true, not-true}
 use lib.Dec.{leb, ltb, eqb}
 use lib.ListN.{length, take, drop, getD}
 use Rattle.rules.specs.Walk.{pick}
-use Rattle.rules.specs.Limits.{longest, places}
+use Rattle.rules.specs.Limits.{longest}
 use Rattle.rules.specs.Table.{partitions, tasks, deadline}
 use Rattle.tables.specs.Tables.{unless}
 use Rattle.tables.specs.Contracts.{firstBadTick}
@@ -57,10 +57,11 @@ use Rattle.desk.specs.declared.Job.{Job}
 use Rattle.desk.specs.declared.Desk.{Desk}
 use Rattle.desk.specs.declared.Answer.{Answer}
 use Rattle.desk.specs.declared.Answer.the-variants.{Opened, Taken, Refused}
-use Rattle.desk.specs.Table.{job, start, ends, none, filled, flexes, Outcome, outcome, tableOk, deskOk, openOf}
-use Rattle.desk.specs.Request.{kept, busy, Place, At, Nowhere, find, tooFar, insertAt, taking, dropping, numbersOk, drops, requestOf}
+use Rattle.desk.specs.Table.{job, start, ends, none, filled, flexes, Outcome, outcome, tableOk, openOf}
+use Rattle.desk.specs.Request.{kept, Place, At, Nowhere, find, tooFar, insertAt, taking, dropping, drops, requestOf}
 use Rattle.desk.specs.Call.{deskOf, Leaves, said}
 use Rattle.desk.specs.Theorems.{Fits, NoLower, Ready, startAt}
+use Rattle.desk.proofs.Ready.{Comes, at-13, at-14, at-15, at-16, at-17, through, comes}
 use Rattle.desk.proofs.Proved as desk
 use Rattle.desk_lent.proofs.Proved as lent
 use Rattle.api.specs.Answers.{TellsCheck, TellsBuild, TellsVerdict, TellsRead, TellsSection, TellsWrite, TellsList, TellsRequest}
@@ -123,16 +124,17 @@ module _ (P : Outcome → Type 0) (clock n : ℕ) (l : List Job) (t c d : ℕ) w
       at true = far
       at false = new i s
 
-  choice : (b : Bool) (o p : Outcome) → P o → P p → P (pick b o p)
-  choice true o p h g = h
-  choice false o p h g = g
-
   request-holds : P (stays Rules) → P (stays Numbers) → P (stays Past) → P (dropping t js Busy) → P (dropping t js Full) → P (dropping t js NoPlace) → P (stays TooFar)
       → ((i s : ℕ) → P (takes i s)) → P (requestOf clock n l t c d)
-  unfolding requestOf
-  request-holds thirteen fourteen fifteen sixteen seventeen eighteen nineteen new =
-      choice (not (deskOk clock n l)) _ _ thirteen (choice (not (numbersOk t c d)) _ _ fourteen (choice (ltb t clock) _ _ fifteen
-      (choice (busy t js) _ _ sixteen (choice (leb places (length js)) _ _ seventeen (taking-holds (find t c d js) eighteen nineteen new)))))
+  request-holds thirteen fourteen fifteen sixteen seventeen eighteen nineteen new = by (requestOf clock n l t c d) (comes clock n l t c d)
+    where
+      by : (o : Outcome) → Comes clock n l t c d o → P o
+      by o (at-13 e) = thirteen
+      by o (at-14 e) = fourteen
+      by o (at-15 e) = fifteen
+      by o (at-16 late small e) = sixteen
+      by o (at-17 late small e) = seventeen
+      by o (through w) = taking-holds (find t c d js) eighteen nineteen new
 
 -- ---- from what is told to the rule's answer, and back
 

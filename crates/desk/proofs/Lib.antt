@@ -3,11 +3,11 @@ pub mod Check
 pub mod Afresh
 pub mod Chain
 pub mod Spot
+pub mod Ready
 pub mod Rules
 pub mod Entries
 pub mod Promise
 pub mod Still
 pub mod Exactly
 pub mod Busy
-pub mod Ready
 pub mod Proved

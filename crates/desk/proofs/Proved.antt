@@ -1,20 +1,18 @@
 -- Each statement of specs/Theorems.antt, proved. Assumes nothing.
 use Prim.Native.Nat.{ℕ, zero, suc, _+_, _<_}
 use mathlib.Core.Path.{_≡_, refl, ap, _∙_}
-use mathlib.Core.Bool.{Bool, true, false, not}
+use mathlib.Core.Bool.{Bool, true, false}
 use mathlib.Core.List.{List, [], _∷_}
 use native.Mathlib.Omega.{arith}
-use lib.Dec.{leb, ltb}
 use lib.ListN.{length, take, drop, getD}
 use lib.Seq.{getD-take}
 use Rattle.rules.specs.Walk.{pick}
 use Rattle.rules.specs.declared.Refusal.{Refusal}
 use Rattle.rules.specs.declared.Refusal.the-variants.{Rules, Numbers, Past, Busy, Full, NoPlace, TooFar}
-use Rattle.rules.specs.Limits.{places}
 use Rattle.desk.specs.declared.Job.{Job}
 use Rattle.desk.specs.declared.Answer.the-variants.{Opened, Taken, Refused}
-use Rattle.desk.specs.Table.{none, filled, outcome, flexes, tableOk, deskOk, openOf, Outcome}
-use Rattle.desk.specs.Request.{kept, busy, find, tooFar, dropping, taking, numbersOk, drops, requestOf, Place, At, Nowhere}
+use Rattle.desk.specs.Table.{none, filled, outcome, flexes, tableOk, openOf, Outcome}
+use Rattle.desk.specs.Request.{kept, find, tooFar, dropping, taking, drops, requestOf, Place, At, Nowhere}
 use Rattle.desk.specs.Story.{Entry, noEntry, entries, Story, begin}
 use Rattle.desk.specs.Theorems.{OpenLeaves, NeverTooFar, Refuses, OpenTells, InEveryStory, Matches, Proved}
 use Rattle.desk.proofs.Rules.{Sound, request-sound, request-numbers, opened-table, open-is, open-sound, open-good, open-sound-unless, sound-unless, afresh}
@@ -22,7 +20,7 @@ use Rattle.desk.proofs.Entries.{Follow, entries-open}
 use Rattle.desk.proofs.Promise.{take-filled, table, Kept, kept-good, kept-many, kept-begin, promise}
 use Rattle.desk.proofs.Exactly.{taken-start, taken-exactly, no-place-exactly}
 use Rattle.desk.proofs.Busy.{busy-ends}
-use Rattle.desk.proofs.Ready.{lower-exactly}
+use Rattle.desk.proofs.Ready.{Comes, at-13, at-14, at-15, at-16, at-17, through, comes, lower-exactly}
 use Rattle.desk.proofs.Still.{refused-same, taken-joined, still, all-since-opening, still-ever, length-entries}
 
 open-leaves : OpenLeaves
@@ -67,14 +65,16 @@ module _ (clock n : ℕ) (l : List Job) (t c d : ℕ) where
       choose (tooFar (s + c) (drop i (kept t (take n l)))) _ _ (stays TooFar refl)
       (record { refused = λ r e. absurd (let z : _≡_ {A = ℕ} 0 1 = cc in omega arith); taken = λ k u e. refl })
 
+  right-by : (o : Outcome) → Comes clock n l t c d o → Right o
+  right-by o (at-13 e) = stays Rules refl
+  right-by o (at-14 e) = stays Numbers refl
+  right-by o (at-15 e) = stays Past refl
+  right-by o (at-16 late small e) = drops-all Busy refl
+  right-by o (at-17 late small e) = drops-all Full refl
+  right-by o (through w) = right-placed (find t c d (kept t (take n l)))
+
   right-request : Right (requestOf clock n l t c d)
-  unfolding requestOf
-  right-request =
-      choose (not (deskOk clock n l)) _ _ (stays Rules refl)
-      (choose (not (numbersOk t c d)) _ _ (stays Numbers refl)
-      (choose (ltb t clock) _ _ (stays Past refl)
-      (choose (busy t (kept t (take n l))) _ _ (drops-all Busy refl)
-      (choose (leb places (length (kept t (take n l)))) _ _ (drops-all Full refl) (right-placed (find t c d (kept t (take n l))))))))
+  right-request = right-by (requestOf clock n l t c d) (comes clock n l t c d)
 
 open-tells : OpenTells
 open-tells clock n l e =

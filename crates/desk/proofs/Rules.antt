@@ -1,13 +1,13 @@
 -- The table rules survive each call, refusal 19 is never given, and each x is the rule's own. Assumes nothing.
 use Prim.Native.Nat.{ℕ, zero, suc, _+_, _-_, _<_, _≤_}
-use mathlib.Core.Path.{_≡_, refl, sym, ap}
-use mathlib.Core.Bool.{Bool, true, false, not}
+use mathlib.Core.Path.{_≡_, refl, sym, ap, _∙_}
+use mathlib.Core.Bool.{Bool, true, false, true≢false}
 use mathlib.Core.List.{List, [], _∷_}
 use native.Mathlib.Omega.{arith}
-use lib.Dec.{leb, ltb}
+use lib.Dec.{leb}
 use lib.ListN.{length, take, drop, replicate, length-append, length-replicate}
 use lib.Seq.{take-append-seam, drop-append-seam, length-take-le}
-use borrow.Author.Tests.{leb-false, le-leb, ltb-false, eqb-true, eq-eqb}
+use borrow.Author.Tests.{le-leb, ltb-false, eqb-true, eq-eqb}
 use Rattle.rules.specs.Refusals.{told}
 use Rattle.rules.specs.declared.Refusal.{Refusal}
 use Rattle.rules.specs.declared.Refusal.the-variants.{Rules, Numbers, Past, Busy, Full, NoPlace, TooFar}
@@ -18,8 +18,10 @@ use Rattle.desk.specs.declared.Answer.the-variants.{Opened, Taken, Refus
 use Rattle.rules.specs.Walk.{pick}
 use Rattle.desk.specs.Table.{job, none, filled, xOf, refit, flexes, allZeros, rightX, tableOk, deskOk, outcome, openOf, ends, Outcome}
 use Rattle.desk.specs.Call.{said}
-use Rattle.desk.specs.Request.{kept, busy, find, insertAt, dropping, taking, numbersOk, requestOf, Place, At, Nowhere}
+use Rattle.desk.specs.Request.{kept, busy, find, insertAt, dropping, taking, requestOf, Place, At, Nowhere}
+use Rattle.desk.specs.Theorems.{Ready}
 use Rattle.rules.proofs.Tests.{and-parts}
+use Rattle.desk.proofs.Ready.{Comes, at-13, at-14, at-15, at-16, at-17, through, comes}
 use Rattle.desk.proofs.Check.{numbers-small, listed-of, desk-table, desk-right}
 use Rattle.desk.proofs.Check.{length-refit}
 use Rattle.desk.proofs.Afresh.{insert-right, refit-right}
@@ -100,47 +102,30 @@ pub data Ending (clock n : ℕ) (l : List Job) (t c d : ℕ) : Outcome → Type 
       → Ending clock n l t c d (outcome (filled (insertAt i (job s c d 0) (kept t (take n l)))) (length (kept t (take n l)) + 1) t (Taken i s))
 
 module _ (clock n : ℕ) (l : List Job) (t c d : ℕ) (sound : Sound clock n l) where
-  abbrev keep : Outcome
-  keep = outcome l n clock (Refused TooFar)
+  good : Good (length (kept t (take n l))) (kept t (take n l))
+  good = good-kept t n (take n l) (good-of clock n l sound)
 
-  ending-placed : clock ≤ t → numbersOk t c d ≡ true → length (kept t (take n l)) < places → Chain t (kept t (take n l))
-      → (p : Place) → find t c d (kept t (take n l)) ≡ p → Ending clock n l t c d (taking keep t c d (kept t (take n l)) p)
-  ending-placed h nums few g Nowhere e = dropped NoPlace (nowhere g e) h (numbers-small t c d nums .2)
-  ending-placed h nums few g (At i s) e =
-      let js = kept t (take n l) in
-      let spot = found-spot t c d js g i s e in
-      let r : rightX js ≡ true = good-kept t n (take n l) (good-of clock n l sound) .right in
-      let small = numbers-small t c d nums in
-      rw (spot-near c d t i js s g r spot) (taken i s h (small .2) (small .0) (small .1) few g spot)
+  ending-placed : Ready clock n l t c d → (p : Place) → find t c d (kept t (take n l)) ≡ p
+      → Ending clock n l t c d (taking (outcome l n clock (Refused TooFar)) t c d (kept t (take n l)) p)
+  ending-placed w Nowhere e =
+      dropped NoPlace (nowhere (not-busy t (kept t (take n l)) (w .not-busy) (good .order)) e) (w .not-past) (numbers-small t c d (w .numbers) .2)
+  ending-placed w (At i s) e =
+      let order = not-busy t (kept t (take n l)) (w .not-busy) (good .order) in
+      let spot = found-spot t c d (kept t (take n l)) order i s e in
+      let small = numbers-small t c d (w .numbers) in
+      rw (spot-near c d t i (kept t (take n l)) s order (good .right) spot)
+      (taken i s (w .not-past) (small .2) (small .0) (small .1) (w .not-full) order spot)
+
+  ending-by : (o : Outcome) → Comes clock n l t c d o → Ending clock n l t c d o
+  ending-by o (at-13 e) = absurd (true≢false (sym (sound .test) ∙ e))
+  ending-by o (at-14 e) = same Numbers (omega arith, omega arith)
+  ending-by o (at-15 e) = same Past (omega arith, omega arith)
+  ending-by o (at-16 late small e) = dropped Busy (running e) late small
+  ending-by o (at-17 late small e) = dropped Full full late small
+  ending-by o (through w) = ending-placed w (find t c d (kept t (take n l))) refl
 
   pub ending : Ending clock n l t c d (requestOf clock n l t c d)
-  unfolding requestOf
-  ending = rw (sound .test) (by-numbers (numbersOk t c d) refl) where
-    good : Good (length (kept t (take n l))) (kept t (take n l))
-    good = good-kept t n (take n l) (good-of clock n l sound)
-
-    by-full : (b : Bool) → leb places (length (kept t (take n l))) ≡ b → clock ≤ t → numbersOk t c d ≡ true → Chain t (kept t (take n l))
-        → Ending clock n l t c d (pick b (dropping t (kept t (take n l)) Full) (taking keep t c d (kept t (take n l)) (find t c d (kept t (take n l)))))
-    by-full true e h nums g = dropped Full full h (numbers-small t c d nums .2)
-    by-full false e h nums g = ending-placed h nums (leb-false places _ e) g (find t c d (kept t (take n l))) refl
-
-    by-busy : (b : Bool) → busy t (kept t (take n l)) ≡ b → clock ≤ t → numbersOk t c d ≡ true
-        → Ending clock n l t c d (pick b (dropping t (kept t (take n l)) Busy)
-        (pick (leb places (length (kept t (take n l)))) (dropping t (kept t (take n l)) Full) (taking keep t c d (kept t (take n l)) (find t c d (kept t (take n l))))))
-    by-busy true e h nums = dropped Busy (running e) h (numbers-small t c d nums .2)
-    by-busy false e h nums = by-full (leb places (length (kept t (take n l)))) refl h nums (not-busy t (kept t (take n l)) e (good .order))
-
-    by-clock : (b : Bool) → ltb t clock ≡ b → numbersOk t c d ≡ true
-        → Ending clock n l t c d (pick b (outcome l n clock (Refused Past)) (pick (busy t (kept t (take n l))) (dropping t (kept t (take n l)) Busy)
-        (pick (leb places (length (kept t (take n l)))) (dropping t (kept t (take n l)) Full) (taking keep t c d (kept t (take n l)) (find t c d (kept t (take n l)))))))
-    by-clock true e nums = same Past (omega arith, omega arith)
-    by-clock false e nums = by-busy (busy t (kept t (take n l))) refl (ltb-false t clock e) nums
-
-    by-numbers : (b : Bool) → numbersOk t c d ≡ b
-        → Ending clock n l t c d (pick (not b) (outcome l n clock (Refused Numbers)) (pick (ltb t clock) (outcome l n clock (Refused Past)) (pick (busy t (kept t (take n l))) (dropping t (kept t (take n l)) Busy)
-        (pick (leb places (length (kept t (take n l)))) (dropping t (kept t (take n l)) Full) (taking keep t c d (kept t (take n l)) (find t c d (kept t (take n l))))))))
-    by-numbers true e = by-clock (ltb t clock) refl e
-    by-numbers false e = same Numbers (omega arith, omega arith)
+  ending = ending-by (requestOf clock n l t c d) (comes clock n l t c d)
 
   pub sound-ending : (o : Outcome) → Ending clock n l t c d o → SoundAfter o
   sound-ending o (same r h) = sound

@@ -82,6 +82,7 @@ fn lend_all(call: Call, before: &Lent, after: &Lent) {
 
 /// Notes the answer, and of a request that came to place l where that was and how it came out.
 fn note(seen: &mut Seen, before: &Lent, asked: Request, answer: Answer) {
+    seen.count("requests".to_string());
     seen.count(format!("answered {}", answer.number));
     if answer.number == 18 && asked.d < asked.t {
         seen.count("d below t".to_string());
@@ -154,6 +155,7 @@ fn sequences(trial: &mut Trial) {
         let lent = some_table(&mut trial.rng, count);
         sequence(trial, lent, 30, requests::any, &mut seen);
     }
+    seen.share(trial, &["requests"], [20, 1]);
     seen.share(trial, &["answered 0", "answered 16", "answered 18"], [2, 1]);
     seen.share(trial, &["answered 14", "answered 15"], [1, 5]);
 }
