@@ -1,4 +1,5 @@
 // The answers as C is told them: a number and four values, made of what each crate answers; and what the desk is asked.
+use counts::Holding;
 use desk::Answer;
 use desk::Ask;
 use desk::Asked;
@@ -11,6 +12,7 @@ use rules::Told;
 use task_points::Judged;
 ghost use mathlib.Core.Path.{_≡_};
 ghost use Rattle.rules.specs.Refusals.{toldFinding, toldFilling};
+ghost use Rattle.counts.specs.Counts.{toldHolding};
 ghost use Rattle.task_points.specs.Task.{toldJudged};
 ghost use Rattle.file_read.specs.Reader.{toldReading};
 ghost use Rattle.file_read.specs.Contracts.{Few};
@@ -45,6 +47,15 @@ pub fn tell_filling(filled: Filling) -> Told
     match filled {
         Filling::Fills(n) => answer(n, 0),
         Filling::Refused(r) => rules::tell(r),
+    }
+}
+
+pub fn tell_holding(held: Holding) -> Told
+    ensures { λ r. ⌜ r ≡ toldHolding held ⌝ }
+{
+    match held {
+        Holding::Holds(n) => answer(n, 0),
+        Holding::Refused(r) => rules::tell(r),
     }
 }
 

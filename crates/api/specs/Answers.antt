@@ -6,6 +6,7 @@ use Rattle.rules.specs.declared.Told.{Told}
 use Rattle.rules.specs.Refusals.{toldFinding, toldFilling, Tells}
 use Rattle.plan_check.specs.Check.{Checks}
 use Rattle.plan_build.specs.Build.{Builds}
+use Rattle.counts.specs.Counts.{FillsCounts, HoldsOne, toldHolding, HoldsMany, Changes}
 use Rattle.task_points.specs.Task.{toldJudged}
 use Rattle.task_verdict.specs.Verdict.{Judges}
 use Rattle.file_read.specs.Reader.{toldReading, Reads}
@@ -24,6 +25,19 @@ TellsCheck plan ps = Tells toldFinding (Checks plan ps)
 
 abbrev pub TellsBuild : List ℕ → List ℕ → List ℕ → Told → Type 0
 TellsBuild ps out o = Tells toldFilling (Builds ps out o)
+
+abbrev pub TellsFill : List ℕ → List ℕ → List ℕ → List ℕ → Told → Type 0
+TellsFill plan ps list o = Tells toldFilling (FillsCounts plan ps list o)
+
+abbrev pub TellsHeld : List ℕ → List ℕ → List ℕ → ℕ → ℕ → ℕ → Told → Type 0
+TellsHeld plan ps list p s n = Tells toldHolding (HoldsOne plan ps list p s n)
+
+abbrev pub TellsMany : List ℕ → List ℕ → List ℕ → List ℕ → List ℕ → List ℕ → Told → Type 0
+TellsMany plan ps list qs out o = Tells toldFilling (HoldsMany plan ps list qs out o)
+
+-- plan and list, as lent, and plan′ and o what they then hold
+abbrev pub TellsChange : List ℕ → List ℕ → List ℕ → ℕ → ℕ → List ℕ → List ℕ → Told → Type 0
+TellsChange plan ps list tick owner plan′ o = Tells toldFinding (Changes plan ps list tick owner plan′ o)
 
 abbrev pub TellsVerdict : List ℕ → List ℕ → List ℕ → ℕ → Told → Type 0
 TellsVerdict plan ps ts place = Tells toldJudged (Judges plan ps ts place)

@@ -5,7 +5,7 @@ use desk::Job;
 use rules::Told;
 ghost use Rattle.rules.specs.Table.{WantsIs};
 ghost use Rattle.theory.specs.Plan.{HeldIs, LeastIs};
-ghost use Rattle.api.specs.Answers.{TellsCheck, TellsBuild, TellsVerdict, TellsRead, TellsSection, TellsWrite, TellsList, TellsOpen, TellsRequest};
+ghost use Rattle.api.specs.Answers.{TellsCheck, TellsBuild, TellsFill, TellsHeld, TellsMany, TellsChange, TellsVerdict, TellsRead, TellsSection, TellsWrite, TellsList, TellsOpen, TellsRequest};
 
 #[no_mangle]
 pub extern "C" fn merkazobi_wants(m: u16, num: u16, den: u16) -> usize
@@ -40,6 +40,56 @@ pub extern "C" fn merkazobi_build(parts: &[u16], out: &mut [u16]) -> Told
     ensures { λ r. ⌜ TellsBuild (now (parts .entry)) (now (out .entry)) (now (out .exit)) r ⌝ }
 {
     answers::tell_filling(plan_build::build(parts, out))
+}
+
+#[no_mangle]
+pub extern "C" fn merkazobi_counts_fill(plan: &[u16], parts: &[u16], list: &mut [u16]) -> Told
+    ensures { λ r. ⌜ TellsFill (now (plan .entry)) (now (parts .entry)) (now (list .entry)) (now (list .exit)) r ⌝ }
+{
+    answers::tell_filling(plan_counts::fill(plan, parts, list))
+}
+
+#[no_mangle]
+pub extern "C" fn merkazobi_counts_held(
+    plan: &[u16],
+    parts: &[u16],
+    list: &[u16],
+    partition: usize,
+    start: usize,
+    length: usize,
+) -> Told
+    ensures { λ r. ⌜ TellsHeld (now (plan .entry)) (now (parts .entry)) (now (list .entry))
+        partition start length r ⌝ }
+{
+    answers::tell_holding(plan_counts::held(plan, parts, list, partition, start, length))
+}
+
+#[no_mangle]
+pub extern "C" fn merkazobi_counts_held_many(
+    plan: &[u16],
+    parts: &[u16],
+    list: &[u16],
+    questions: &[u16],
+    answers: &mut [u16],
+) -> Told
+    ensures { λ r. ⌜ TellsMany (now (plan .entry)) (now (parts .entry)) (now (list .entry)) (now (questions .entry))
+        (now (answers .entry)) (now (answers .exit)) r ⌝ }
+{
+    answers::tell_filling(plan_counts::held_many(plan, parts, list, questions, answers))
+}
+
+#[no_mangle]
+pub extern "C" fn merkazobi_counts_change(
+    plan: &mut [u16],
+    parts: &[u16],
+    list: &mut [u16],
+    tick: usize,
+    owner: usize,
+) -> Told
+    ensures { λ r. ⌜ TellsChange (now (plan .entry)) (now (parts .entry)) (now (list .entry)) tick owner
+        (now (plan .exit)) (now (list .exit)) r ⌝ }
+{
+    answers::tell_finding(plan_counts::change(plan, parts, list, tick, owner))
 }
 
 #[no_mangle]

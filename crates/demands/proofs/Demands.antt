@@ -38,6 +38,9 @@ use Rattle.plan_build.proofs.Answers as builder
 use Rattle.task_points.specs.declared.Judged.{Judged}
 use Rattle.task_points.specs.declared.Judged.the-variants as judged
 use Rattle.task_points.specs.Task.{taskOf, toldJudged}
+use Rattle.rules.specs.Walk.{listed}
+use Rattle.counts.specs.Counts.{runningCounts, FillsCounts, HoldsOne, toldHolding, answerAt, questions, HoldsMany}
+use Rattle.counts.proofs.Changes as counts
 use Rattle.task_verdict.specs.Verdict.{placeOf, verdictOf, Judges}
 use Rattle.task_verdict.proofs.Answers as verdict
 use Rattle.file_tables.proofs.Chain.{file-holds}
@@ -68,6 +71,7 @@ use Rattle.api.specs.Answers.{TellsCheck, TellsBuild, TellsVerdict, TellsRead, 
 use Rattle.answers.specs.Parts.{toldPart}
 use Rattle.demands.specs.Demands.{among, ToldAs, Numbered, Demand1, OneOutcome, Afresh, lower, Demand2, Demand3, Demands}
 use Rattle.demands.proofs.Entries.{entries}
+use Rattle.demands.proofs.Counting as counting
 
 -- ---- the numbers, whatever the tests give: one case for each answer
 
@@ -342,6 +346,10 @@ first = record {
       rw (check-is plan ps t p)
       (unless-parts-hold (length plan) ps (λ (r : Finding). Numbered (3 ∷ 6 ∷ 8 ∷ 9 ∷ []) (toldFinding r)) found.Refused (planCheckOf plan ps) refl (λ k. refl)
       (check-told (ltb (firstBadTick (partitions ps) plan) (length plan)) (ltb (shortPart plan ps) (partitions ps)) _ _ _ _ _));
+  fill-numbers = counting.fill-numbers;
+  counts-held-numbers = counting.held-numbers;
+  many-numbers = counting.many-numbers;
+  change-numbers = counting.change-numbers;
   verdict-numbers = λ plan ps ts place t p.
       rw (verdict-is plan ps ts place t p)
       (unless-holds (length plan) ps ts (λ (r : Judged). Numbered (3 ∷ 6 ∷ 7 ∷ 8 ∷ 9 ∷ []) (toldJudged r)) judged.Refused (placeOf plan ps ts place) refl (λ k. refl) (λ j. refl)
@@ -367,6 +375,9 @@ first = record {
   build-refused = λ ps out o t p n. p .1 .1 ∙ left-refused (p .0) (harmonicPlan ps) out (λ z. n (rw (p .2) z));
   write-refused = λ f ps ts rs out o t p n. p .1 .1 ∙ left-refused (writeOf f ps ts rs (length out)) (fileOf f ps ts rs) out (λ z. n (rw (write-is f ps ts rs out o t p) z));
   list-refused = λ b out o t p n. p .1 .1 ∙ left-refused (listOf b (length out)) (listingOf b) out (λ z. n (rw (list-is b out o t p) z));
+  fill-refused = λ plan ps list o t p n. p .1 .1 ∙ left-refused (p .0) (runningCounts plan ps) list (λ z. n (rw (p .2) z));
+  many-refused = λ plan ps list qs out o t p n. p .1 .1 ∙ left-refused (p .0) (listed (answerAt plan qs) (questions qs)) out (λ z. n (rw (p .2) z));
+  change-refused = counting.change-refused;
   open-refused = λ k k′ l l′ t p n.
       let r = refusal-is _ k′ l′ t p n in left-is _ k′ l′ t p _ (desk.proved .open-leaves (k .clock) (k .count) l (r .0) (r .1));
   request-refused = stayed;
@@ -393,6 +404,10 @@ one-outcome : OneOutcome
 one-outcome = record {
   check-one = λ plan ps. same-told toldFinding (Checks plan ps) (checker.proved .check-one plan ps);
   build-one = λ ps out. same-left toldFilling (Builds ps out) (builder.proved .build-one ps out);
+  fill-one = λ plan ps list. same-left toldFilling (FillsCounts plan ps list) (counts.proved .fill-one plan ps list);
+  counts-held-one = λ plan ps list p s n. same-told toldHolding (HoldsOne plan ps list p s n) (counts.proved .held-one plan ps list p s n);
+  many-one = λ plan ps list qs out. same-left toldFilling (HoldsMany plan ps list qs out) (counts.proved .many-one plan ps list qs out);
+  change-one = counting.change-one;
   verdict-one = λ plan ps ts place. same-told toldJudged (Judges plan ps ts place) (verdict.proved .verdict-one plan ps ts place);
   read-one = λ b. same-told toldReading (Reads b) (reader.proved .one-read b);
   section-one = λ b which. same-told (toldPart which) (Reads b) (reader.proved .one-read b);
@@ -409,6 +424,7 @@ second = record {
   of-output = output.proved;
   of-checker = checker.proved;
   of-builder = builder.proved;
+  of-counts = counts.proved;
   of-verdicts = verdict.proved;
   of-reader = reader.proved;
   of-writer = writer.proved;
@@ -419,6 +435,8 @@ second = record {
   of-lent-desk = lent.proved;
   read-write = writer.proved .read-write;
   write-read = writer.proved .write-read;
+  counts-walked = counting.walked;
+  counts-follow = counting.follow;
   open-afresh = λ k k′ l l′ t p. afresh-is _ k′ l′ t p (desk.proved .open-afresh (k .clock) (k .count) l);
   request-afresh = λ k k′ l l′ time c d t p. afresh-is _ k′ l′ t p (desk.proved .request-afresh (k .clock) (k .count) l time c d);
   lower-exactly = lower-told;

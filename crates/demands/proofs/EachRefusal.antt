@@ -1,12 +1,13 @@
 -- Every refusal of every entry, by computation. Assumes nothing.
 use mathlib.Core.Path.{refl}
-use Rattle.rules.specs.Walk.{only, fails, first, sum, count, smallest, largest, walk, gathered, roundUp}
+use Rattle.rules.specs.Walk.{only, fails, first, sum, count, smallest, largest, walk, gathered, listed, roundUp}
 use Rattle.rules.specs.Table.{wants, goodShare, goodTimes}
 use Rattle.tables.specs.Tables.{countedIn, withinLimits, tablesOf}
 use Rattle.theory.specs.Plan.{owner, owned, least}
-use Rattle.theory.specs.Harmonic.{pairs, frame, allWanted, sooner, rank, give, turn, planned, ticks}
+use Rattle.theory.specs.Harmonic.{pairs, frame, allWanted, sooner, rank, give, turn, planned}
 use Rattle.plan_check.specs.Check.{shortAt, scanOf, planCheckOf, checkOf}
 use Rattle.plan_build.specs.Build.{unharmonic, laidOf, buildOf}
+use Rattle.counts.specs.Counts.{countAt, agreesAt, planJudged, listJudged, countsJudged, goodName, goodStretch, fillOf, heldOf, namesOne, withinFrame, answerAt, manyOf, changeOf}
 use Rattle.theory.specs.Load.{asked, demand, multiple, point, pointFits, firstPoint}
 use Rattle.theory.specs.Task.{rival, taskLoad}
 use Rattle.task_points.specs.Task.{taskOf}
@@ -27,10 +28,10 @@ use Rattle.share_plan.specs.Answer.{planFile, writeBuiltOf, writePlanOf, fileOr
 use Rattle.file_listing.specs.Listing.{tablesLines, listingOf, listOf}
 use Rattle.desk.specs.Table.{openOf}
 use Rattle.desk.specs.Request.{requestOf}
-use Rattle.demands.specs.EachRefusal.{EachPlan, EachFile, EachText, EachDesk, EachLimit, EachRefusal}
+use Rattle.demands.specs.EachRefusal.{EachPlan, EachCount, EachFile, EachText, EachDesk, EachLimit, EachRefusal}
 
 plans : EachPlan
-unfolding only fails first sum count smallest largest walk gathered roundUp wants countedIn withinLimits tablesOf goodShare goodTimes owner owned least pairs frame allWanted sooner rank give turn planned ticks shortAt scanOf planCheckOf checkOf unharmonic laidOf buildOf placeOf verdictOf
+unfolding only fails first sum count smallest largest walk gathered roundUp wants countedIn withinLimits tablesOf goodShare goodTimes owner owned least pairs frame allWanted sooner rank give turn planned listed shortAt scanOf planCheckOf checkOf unharmonic laidOf buildOf placeOf verdictOf
 plans = record {
   check-3 = (_, refl, refl);
   check-6 = (_, refl, refl);
@@ -49,6 +50,53 @@ plans = record {
   verdict-7-past = (_, refl, refl);
   verdict-8 = (_, refl, refl);
   verdict-9 = (_, refl, refl);
+}
+
+counts : EachCount
+unfolding only fails first sum count listed countedIn withinLimits tablesOf goodShare owner owned countAt agreesAt planJudged listJudged countsJudged goodName goodStretch fillOf heldOf namesOne withinFrame answerAt manyOf changeOf
+counts = record {
+  fill-0 = (_, (refl, refl), refl);
+  fill-3 = (_, (refl, refl), refl);
+  fill-6 = (_, (refl, refl), refl);
+  fill-8 = (_, (refl, refl), refl);
+  fill-3-first = (_, (refl, refl), refl);
+  fill-6-first = (_, (refl, refl), refl);
+  fill-8-first = (_, (refl, refl), refl);
+  fill-12 = (_, (refl, refl), refl);
+  held-0 = (_, refl, refl);
+  held-3 = (_, refl, refl);
+  held-6 = (_, refl, refl);
+  held-8 = (_, refl, refl);
+  held-8-0 = (_, refl, refl);
+  held-8-past = (_, refl, refl);
+  held-8-far = (_, refl, refl);
+  held-12 = (_, refl, refl);
+  held-20 = (_, refl, refl);
+  held-26-start = (_, refl, refl);
+  held-26-far = (_, refl, refl);
+  held-26-length = (_, refl, refl);
+  many-0 = (_, (refl, refl), refl);
+  many-none = (_, (refl, refl), refl);
+  many-3 = (_, (refl, refl), refl);
+  many-3-first = (_, (refl, refl), refl);
+  many-6 = (_, (refl, refl), refl);
+  many-8 = (_, (refl, refl), refl);
+  many-8-0 = (_, (refl, refl), refl);
+  many-12 = (_, (refl, refl), refl);
+  many-20 = (_, (refl, refl), refl);
+  many-26 = (_, (refl, refl), refl);
+  change-0 = (_, (refl, refl, refl), refl);
+  change-idle = (_, (refl, refl, refl), refl);
+  change-same = (_, (refl, refl, refl), refl);
+  change-3 = (_, (refl, refl, refl), refl);
+  change-6 = (_, (refl, refl, refl), refl);
+  change-8 = (_, (refl, refl, refl), refl);
+  change-8-0 = (_, (refl, refl, refl), refl);
+  change-8-far = (_, (refl, refl, refl), refl);
+  change-12 = (_, (refl, refl, refl), refl);
+  change-20 = (_, (refl, refl, refl), refl);
+  change-26-far = (_, (refl, refl, refl), refl);
+  change-26 = (_, (refl, refl, refl), refl);
 }
 
 files : EachFile
@@ -91,7 +139,7 @@ files = record {
 }
 
 texts : EachText
-unfolding only fails first sum count smallest largest gathered roundUp wants countedIn withinLimits tablesOf goodShare goodTimes pairs frame allWanted unharmonic laidOf buildOf digits decimal value refusedLine blank stops stopsAt width wordOf restOf differs same isNumber numeral partRow taskRow recordOf rowOf lineOf afterLine fromLine rowAt wrongAt numsAt recordsOf seenOf sizedOf readTextOf joined runsOf repeats runOwner runLength goodRun runsJudged fileTablesOf owner owned sooner rank give turn planned ticks walk writeOf planFile writeBuiltOf writePlanOf fileOrLine answerOf
+unfolding only fails first sum count smallest largest gathered roundUp wants countedIn withinLimits tablesOf goodShare goodTimes pairs frame allWanted unharmonic laidOf buildOf digits decimal value refusedLine blank stops stopsAt width wordOf restOf differs same isNumber numeral partRow taskRow recordOf rowOf lineOf afterLine fromLine rowAt wrongAt numsAt recordsOf seenOf sizedOf readTextOf joined runsOf repeats runOwner runLength goodRun runsJudged fileTablesOf owner owned sooner rank give turn planned listed walk writeOf planFile writeBuiltOf writePlanOf fileOrLine answerOf
 texts = record {
   plan-3 = record { place = refl; bytes = refl };
   plan-6 = record { place = refl; bytes = refl };
@@ -144,4 +192,4 @@ limits = record {
 }
 
 pub each-refusal : EachRefusal
-each-refusal = record { plans = plans; files = files; texts = texts; desks = desks; limits = limits }
+each-refusal = record { plans = plans; counts = counts; files = files; texts = texts; desks = desks; limits = limits }

@@ -20,6 +20,10 @@ module _ {M : Type 1} (𝓤 : URA M) (H : Heap 𝓤) (A : Atoms 𝓤) (mem : Mem
     of-c-least = record { asks-nothing = λ κs a g. id⊢ 𝓤 _; ensures = λ κs a g r e. id⊢ 𝓤 _ };
     of-c-check = record { asks-nothing = λ κs a g. id⊢ 𝓤 _; ensures = λ κs a g r e. id⊢ 𝓤 _ };
     of-c-build = record { asks-nothing = λ κs a g. id⊢ 𝓤 _; ensures = λ κs a g r e. id⊢ 𝓤 _ };
+    of-c-fill = record { asks-nothing = λ κs a g. id⊢ 𝓤 _; ensures = λ κs a g r e. id⊢ 𝓤 _ };
+    of-c-counts-held = record { asks-nothing = λ κs a g. id⊢ 𝓤 _; ensures = λ κs a g r e. id⊢ 𝓤 _ };
+    of-c-many = record { asks-nothing = λ κs a g. id⊢ 𝓤 _; ensures = λ κs a g r e. id⊢ 𝓤 _ };
+    of-c-change = record { asks-nothing = λ κs a g. id⊢ 𝓤 _; ensures = λ κs a g r e. id⊢ 𝓤 _ };
     of-c-verdict = record { asks-nothing = λ κs a g. id⊢ 𝓤 _; ensures = λ κs a g r e. id⊢ 𝓤 _ };
     of-c-read = record { asks-nothing = λ κs a g. id⊢ 𝓤 _; ensures = λ κs a g r e. id⊢ 𝓤 _ };
     of-c-section = record { asks-nothing = λ κs a g. id⊢ 𝓤 _; ensures = λ κs a g r e. id⊢ 𝓤 _ };
@@ -32,6 +36,10 @@ module _ {M : Type 1} (𝓤 : URA M) (H : Heap 𝓤) (A : Atoms 𝓤) (mem : Mem
     of-least = record { asks-nothing = λ κs a g. id⊢ 𝓤 _; ensures = λ κs a g r e. id⊢ 𝓤 _ };
     of-check = record { asks-nothing = λ κs a g. id⊢ 𝓤 _; ensures = λ κs a g r e. id⊢ 𝓤 _ };
     of-build = record { asks-nothing = λ κs a g. id⊢ 𝓤 _; ensures = λ κs a g r e. id⊢ 𝓤 _ };
+    of-fill = record { asks-nothing = λ κs a g. id⊢ 𝓤 _; ensures = λ κs a g r e. id⊢ 𝓤 _ };
+    of-counts-held = record { asks-nothing = λ κs a g. id⊢ 𝓤 _; ensures = λ κs a g r e. id⊢ 𝓤 _ };
+    of-many = record { asks-nothing = λ κs a g. id⊢ 𝓤 _; ensures = λ κs a g r e. id⊢ 𝓤 _ };
+    of-change = record { asks-nothing = λ κs a g. id⊢ 𝓤 _; ensures = λ κs a g r e. id⊢ 𝓤 _ };
     of-verdict = record { asks-nothing = λ κs a g. id⊢ 𝓤 _; ensures = λ κs a g r e. id⊢ 𝓤 _ };
     of-read = record { asks-nothing = λ κs a g. id⊢ 𝓤 _; ensures = λ κs a g r e. id⊢ 𝓤 _ };
     of-section = record { asks-nothing = λ κs a g. id⊢ 𝓤 _; ensures = λ κs a g r e. id⊢ 𝓤 _ };

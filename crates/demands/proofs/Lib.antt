@@ -1,4 +1,5 @@
 pub mod Worked
+pub mod Counting
 pub mod Demands
 pub mod Entries
 pub mod EachRefusal

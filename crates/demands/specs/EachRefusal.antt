@@ -3,12 +3,12 @@
 use Prim.Native.Nat.{ℕ, zero, suc, _+_}
 use mathlib.Core.List.{List, [], _∷_, _++_}
 use lib.ListN.{take, drop, replicate}
-use Rattle.rules.specs.Refusals.{placed, telling}
+use Rattle.rules.specs.Refusals.{placed, questioned, telling}
 use Rattle.output.specs.Text.{bytes}
 use Rattle.share_plan.specs.Answer.{Plans}
 use Rattle.desk.specs.declared.Job.{Job}
 use Rattle.desk.specs.Table.{job, filled, flexes}
-use Rattle.api.specs.Answers.{TellsCheck, TellsBuild, TellsVerdict, TellsRead, TellsSection, TellsWrite, TellsList, TellsOpen, TellsRequest}
+use Rattle.api.specs.Answers.{TellsCheck, TellsBuild, TellsFill, TellsHeld, TellsMany, TellsChange, TellsVerdict, TellsRead, TellsSection, TellsWrite, TellsList, TellsOpen, TellsRequest}
 use Rattle.demands.specs.Document01.{three, eight, plan1, plan5, two, desk, opened, file, page}
 
 -- a partition of cycle 4 that wants 2, and one like it with share 0
@@ -62,6 +62,72 @@ pub record EachPlan : Type 0 where
   pub verdict-7-past : TellsVerdict (4 ∷ drop 1 plan1) (three 1 100) (two 14) 3 (placed 7 0)
   pub verdict-8 : TellsVerdict (4 ∷ drop 1 plan1) (three 1 100) (two 14) 1 (placed 8 1)
   pub verdict-9 : TellsVerdict plan1 (three 1 2) (two 14) 1 (telling 9 3 0 1 4)
+
+-- a plan of two partitions that doesn't serve them, its running counts with one number behind them, and the same with the last count off by one
+abbrev pub unserved : List ℕ
+unserved = 1 ∷ 2 ∷ 0 ∷ 1 ∷ []
+
+abbrev pub counted : List ℕ
+counted = 0 ∷ 1 ∷ 1 ∷ 1 ∷ 2 ∷ 0 ∷ 0 ∷ 1 ∷ 1 ∷ 1 ∷ 7 ∷ []
+
+abbrev pub spoilt : List ℕ
+spoilt = 0 ∷ 1 ∷ 1 ∷ 1 ∷ 2 ∷ 0 ∷ 0 ∷ 1 ∷ 1 ∷ 2 ∷ 7 ∷ []
+
+-- outputs of counts and of answers that hold something
+abbrev pub counts-room : List ℕ
+counts-room = replicate 11 7
+
+abbrev pub answers-room : List ℕ
+answers-room = replicate 3 7
+
+-- the running counts'
+pub record EachCount : Type 0 where
+  pub fill-0 : TellsFill unserved parts counts-room counted (placed 0 10)
+  pub fill-3 : TellsFill [] parts counts-room counts-room (placed 3 0)
+  pub fill-6 : TellsFill unserved (half ++ nothing) counts-room counts-room (placed 6 2)
+  pub fill-8 : TellsFill (1 ∷ 2 ∷ 3 ∷ 1 ∷ []) parts counts-room counts-room (placed 8 3)
+  -- 3 and 6 before 8, and each of them before 12
+  pub fill-3-first : TellsFill (9 ∷ []) [] [] [] (placed 3 0)
+  pub fill-6-first : TellsFill (1 ∷ 2 ∷ 3 ∷ 1 ∷ []) (half ++ nothing) [] [] (placed 6 2)
+  pub fill-8-first : TellsFill (1 ∷ 2 ∷ 3 ∷ 1 ∷ []) parts [] [] (placed 8 3)
+  pub fill-12 : TellsFill unserved parts (take 9 counts-room) (take 9 counts-room) (placed 12 0)
+  -- across the frame's end: ticks 3, 0 and 1
+  pub held-0 : TellsHeld unserved parts counted 1 3 3 (placed 0 2)
+  pub held-3 : TellsHeld [] parts counted 1 3 3 (placed 3 0)
+  pub held-6 : TellsHeld unserved (half ++ nothing) counted 1 3 3 (placed 6 2)
+  pub held-8 : TellsHeld (1 ∷ 2 ∷ 3 ∷ 1 ∷ []) parts counted 0 3 3 (placed 8 3)
+  pub held-8-0 : TellsHeld unserved parts (take 9 counted) 0 3 3 (placed 8 0)
+  pub held-8-past : TellsHeld unserved parts counted 3 3 3 (placed 8 0)
+  -- far out, before a list too short
+  pub held-8-far : TellsHeld unserved parts [] 65537 3 3 (placed 8 0)
+  pub held-12 : TellsHeld unserved parts (take 9 spoilt) 1 3 3 (placed 12 0)
+  pub held-20 : TellsHeld unserved parts spoilt 1 4 5 (placed 20 0)
+  pub held-26-start : TellsHeld unserved parts counted 1 4 0 (placed 26 0)
+  pub held-26-far : TellsHeld unserved parts counted 1 4096 3 (placed 26 0)
+  pub held-26-length : TellsHeld unserved parts counted 1 0 5 (placed 26 0)
+  -- of many the lowest question's place, from 1, as a second value
+  pub many-0 : TellsMany unserved parts counted (1 ∷ 3 ∷ 3 ∷ 2 ∷ 0 ∷ 4 ∷ []) answers-room (2 ∷ 1 ∷ 7 ∷ []) (placed 0 2)
+  pub many-none : TellsMany unserved parts counted [] [] [] (placed 0 0)
+  pub many-3 : TellsMany unserved parts counted (1 ∷ 3 ∷ []) answers-room answers-room (placed 3 0)
+  pub many-3-first : TellsMany (9 ∷ []) (half ++ nothing) [] (0 ∷ 9 ∷ 9 ∷ 0 ∷ []) [] [] (placed 3 0)
+  pub many-6 : TellsMany unserved (half ++ nothing) counted (1 ∷ 3 ∷ 3 ∷ []) answers-room answers-room (placed 6 2)
+  pub many-8 : TellsMany (1 ∷ 2 ∷ 3 ∷ 1 ∷ []) parts counted (0 ∷ 3 ∷ 3 ∷ []) answers-room answers-room (placed 8 3)
+  pub many-8-0 : TellsMany unserved parts spoilt (1 ∷ 9 ∷ 9 ∷ 0 ∷ 3 ∷ 3 ∷ 3 ∷ 3 ∷ 3 ∷ []) [] [] (questioned 8 2)
+  pub many-12 : TellsMany unserved parts spoilt (1 ∷ 3 ∷ 3 ∷ []) [] [] (placed 12 0)
+  pub many-20 : TellsMany unserved parts spoilt (1 ∷ 9 ∷ 3 ∷ []) answers-room answers-room (placed 20 0)
+  pub many-26 : TellsMany unserved parts counted (1 ∷ 3 ∷ 3 ∷ 1 ∷ 3 ∷ 5 ∷ 1 ∷ 4 ∷ 3 ∷ []) answers-room answers-room (questioned 26 2)
+  pub change-0 : TellsChange unserved parts counted 0 2 (2 ∷ 2 ∷ 0 ∷ 1 ∷ []) (0 ∷ 0 ∷ 0 ∷ 0 ∷ 1 ∷ 0 ∷ 1 ∷ 2 ∷ 2 ∷ 2 ∷ 7 ∷ []) (placed 0 0)
+  pub change-idle : TellsChange unserved parts counted 3 0 (1 ∷ 2 ∷ 0 ∷ 0 ∷ []) (0 ∷ 1 ∷ 1 ∷ 1 ∷ 1 ∷ 0 ∷ 0 ∷ 1 ∷ 1 ∷ 1 ∷ 7 ∷ []) (placed 0 0)
+  pub change-same : TellsChange unserved parts counted 3 1 unserved counted (placed 0 0)
+  pub change-3 : TellsChange [] parts counted 0 2 [] counted (placed 3 0)
+  pub change-6 : TellsChange unserved (half ++ nothing) counted 0 2 unserved counted (placed 6 2)
+  pub change-8 : TellsChange (1 ∷ 2 ∷ 3 ∷ 1 ∷ []) parts counted 0 3 (1 ∷ 2 ∷ 3 ∷ 1 ∷ []) counted (placed 8 3)
+  pub change-8-0 : TellsChange unserved parts (take 9 counted) 0 3 unserved (take 9 counted) (placed 8 0)
+  pub change-8-far : TellsChange unserved parts [] 9 65536 unserved [] (placed 8 0)
+  pub change-12 : TellsChange unserved parts (take 9 spoilt) 4 2 unserved (take 9 spoilt) (placed 12 0)
+  pub change-20 : TellsChange unserved parts spoilt 4 2 unserved spoilt (placed 20 0)
+  pub change-26-far : TellsChange unserved parts counted 65536 2 unserved counted (placed 26 0)
+  pub change-26 : TellsChange unserved parts counted 4 2 unserved counted (placed 26 0)
 
 -- the reader's, the writer's and the listing's
 pub record EachFile : Type 0 where
@@ -177,6 +243,7 @@ pub record EachLimit : Type 0 where
 
 pub record EachRefusal : Type 0 where
   pub plans : EachPlan
+  pub counts : EachCount
   pub files : EachFile
   pub texts : EachText
   pub desks : EachDesk

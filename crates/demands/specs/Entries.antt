@@ -14,6 +14,7 @@ use Rattle.rules.specs.Table.{WantsIs}
 use Rattle.theory.specs.Plan.{HeldIs, LeastIs}
 use Rattle.plan_check.specs.Check.{Checks}
 use Rattle.plan_build.specs.Build.{Builds}
+use Rattle.counts.specs.Counts.{FillsCounts, HoldsOne, HoldsMany, Changes}
 use Rattle.task_verdict.specs.Verdict.{Judges}
 use Rattle.file_read.specs.Reader.{Reads, HandsBack}
 use Rattle.file_write.specs.Writer.{Writes}
@@ -23,12 +24,16 @@ use Rattle.file_listing.specs.Listing.{Lists}
 use Rattle.share_text.specs.Table.{ReadsText}
 use Rattle.share_plan.specs.Answer.{Plans}
 use Rattle.desk.specs.Call.{callOf, Leaves}
-use Rattle.api.specs.Answers.{TellsCheck, TellsBuild, TellsVerdict, TellsRead, TellsSection, TellsWrite, TellsList, TellsOpen, TellsRequest}
+use Rattle.api.specs.Answers.{TellsCheck, TellsBuild, TellsFill, TellsHeld, TellsMany, TellsChange, TellsVerdict, TellsRead, TellsSection, TellsWrite, TellsList, TellsOpen, TellsRequest}
 use Rattle.api.proofs.merkazobi_wants as c-wants
 use Rattle.api.proofs.merkazobi_held as c-held
 use Rattle.api.proofs.merkazobi_least as c-least
 use Rattle.api.proofs.merkazobi_check as c-check
 use Rattle.api.proofs.merkazobi_build as c-build
+use Rattle.api.proofs.merkazobi_counts_fill as c-fill
+use Rattle.api.proofs.merkazobi_counts_held as c-counts-held
+use Rattle.api.proofs.merkazobi_counts_held_many as c-many
+use Rattle.api.proofs.merkazobi_counts_change as c-change
 use Rattle.api.proofs.merkazobi_verdict as c-verdict
 use Rattle.api.proofs.merkazobi_read as c-read
 use Rattle.api.proofs.merkazobi_section as c-section
@@ -41,6 +46,10 @@ use Rattle.plan_service.proofs.held as held
 use Rattle.plan_service.proofs.least as least
 use Rattle.plan_check.proofs.check as check
 use Rattle.plan_build.proofs.build as build
+use Rattle.plan_counts.proofs.fill as fill
+use Rattle.plan_counts.proofs.held as counts-held
+use Rattle.plan_counts.proofs.held_many as many
+use Rattle.plan_counts.proofs.change as change
 use Rattle.task_verdict.proofs.verdict as verdict
 use Rattle.file_read.proofs.read as read
 use Rattle.file_read.proofs.section as section
@@ -66,6 +75,13 @@ module _ {M : Type 1} (𝓤 : URA M) (H : Heap 𝓤) (A : Atoms 𝓤) (mem : Mem
     pub of-c-least : Ensures c-least.ended (c-least.clauses 𝓤 H A mem run) (λ κs a r e. LeastIs (a .0 .now) (a .1 .0) (a .1 .1 .0) r)
     pub of-c-check : Ensures c-check.ended (c-check.clauses 𝓤 H A mem run) (λ κs a r e. TellsCheck (a .0 .now) (a .1 .0 .now) r)
     pub of-c-build : Ensures c-build.ended (c-build.clauses 𝓤 H A mem run) (λ κs a r e. TellsBuild (a .0 .now) (a .1 .0 .now) (e .1 .0 .now) r)
+    pub of-c-fill : Ensures c-fill.ended (c-fill.clauses 𝓤 H A mem run) (λ κs a r e. TellsFill (a .0 .now) (a .1 .0 .now) (a .1 .1 .0 .now) (e .1 .1 .0 .now) r)
+    pub of-c-counts-held : Ensures c-counts-held.ended (c-counts-held.clauses 𝓤 H A mem run)
+        (λ κs a r e. TellsHeld (a .0 .now) (a .1 .0 .now) (a .1 .1 .0 .now) (a .1 .1 .1 .0) (a .1 .1 .1 .1 .0) (a .1 .1 .1 .1 .1 .0) r)
+    pub of-c-many : Ensures c-many.ended (c-many.clauses 𝓤 H A mem run)
+        (λ κs a r e. TellsMany (a .0 .now) (a .1 .0 .now) (a .1 .1 .0 .now) (a .1 .1 .1 .0 .now) (a .1 .1 .1 .1 .0 .now) (e .1 .1 .1 .1 .0 .now) r)
+    pub of-c-change : Ensures c-change.ended (c-change.clauses 𝓤 H A mem run)
+        (λ κs a r e. TellsChange (a .0 .now) (a .1 .0 .now) (a .1 .1 .0 .now) (a .1 .1 .1 .0) (a .1 .1 .1 .1 .0) (e .0 .now) (e .1 .1 .0 .now) r)
     pub of-c-verdict : Ensures c-verdict.ended (c-verdict.clauses 𝓤 H A mem run)
         (λ κs a r e. TellsVerdict (a .0 .now) (a .1 .0 .now) (a .1 .1 .0 .now) (a .1 .1 .1 .0) r)
     pub of-c-read : Ensures c-read.ended (c-read.clauses 𝓤 H A mem run) (λ κs a r e. TellsRead (a .0 .now) r)
@@ -82,6 +98,13 @@ module _ {M : Type 1} (𝓤 : URA M) (H : Heap 𝓤) (A : Atoms 𝓤) (mem : Mem
     pub of-least : Ensures least.ended (least.clauses 𝓤 H A mem run) (λ κs a r e. LeastIs (a .0 .now) (a .1 .0) (a .1 .1 .0) r)
     pub of-check : Ensures check.ended (check.clauses 𝓤 H A mem run) (λ κs a r e. Checks (a .0 .now) (a .1 .0 .now) r)
     pub of-build : Ensures build.ended (build.clauses 𝓤 H A mem run) (λ κs a r e. Builds (a .0 .now) (a .1 .0 .now) (e .1 .0 .now) r)
+    pub of-fill : Ensures fill.ended (fill.clauses 𝓤 H A mem run) (λ κs a r e. FillsCounts (a .0 .now) (a .1 .0 .now) (a .1 .1 .0 .now) (e .1 .1 .0 .now) r)
+    pub of-counts-held : Ensures counts-held.ended (counts-held.clauses 𝓤 H A mem run)
+        (λ κs a r e. HoldsOne (a .0 .now) (a .1 .0 .now) (a .1 .1 .0 .now) (a .1 .1 .1 .0) (a .1 .1 .1 .1 .0) (a .1 .1 .1 .1 .1 .0) r)
+    pub of-many : Ensures many.ended (many.clauses 𝓤 H A mem run)
+        (λ κs a r e. HoldsMany (a .0 .now) (a .1 .0 .now) (a .1 .1 .0 .now) (a .1 .1 .1 .0 .now) (a .1 .1 .1 .1 .0 .now) (e .1 .1 .1 .1 .0 .now) r)
+    pub of-change : Ensures change.ended (change.clauses 𝓤 H A mem run)
+        (λ κs a r e. Changes (a .0 .now) (a .1 .0 .now) (a .1 .1 .0 .now) (a .1 .1 .1 .0) (a .1 .1 .1 .1 .0) (e .0 .now) (e .1 .1 .0 .now) r)
     pub of-verdict : Ensures verdict.ended (verdict.clauses 𝓤 H A mem run) (λ κs a r e. Judges (a .0 .now) (a .1 .0 .now) (a .1 .1 .0 .now) (a .1 .1 .1 .0) r)
     pub of-read : Ensures read.ended (read.clauses 𝓤 H A mem run) (λ κs a r e. Reads (a .0 .now) r)
     pub of-section : Ensures section.ended (section.clauses 𝓤 H A mem run) (λ κs a r e. HandsBack (a .0 .now) (a .1 .0) (r .now))

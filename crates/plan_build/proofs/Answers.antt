@@ -20,11 +20,11 @@ use Rattle.rules.specs.declared.Refusal.the-variants.{Unharmonic, Want, Output}
 use Rattle.rules.proofs.First.{first-none, some-none}
 use Rattle.tables.proofs.Chain.{good-exactly, unless-given, other-frame}
 use Rattle.rules.proofs.Sum.{le-or-lt}
+use Rattle.rules.proofs.Named.{listed-length}
 use Rattle.rules.proofs.Tests.{pick-second}
 use Rattle.rules.proofs.Known.{named, by-number, filling-refused, filling-as}
 use Rattle.theory.specs.Plan.{own}
 use Rattle.theory.specs.Harmonic.{pairs, Harmonic, frame, allWanted, planned, harmonicPlan}
-use Rattle.theory.proofs.Harmonic.{ticks-length}
 use Rattle.theory.proofs.Built.{harmonic-serves, harmonic-refused, harmonic-plan-good}
 use Rattle.plan_check.proofs.Answers.{check-serves}
 use Rattle.rules.specs.declared.Filling.{Filling}
@@ -136,7 +136,7 @@ built-serves ps out o h (e, left) =
     let a = frames ps (length out) h (sym e) in
     let few = counted-few ps [] (a .0) .0 in
     let w = harmonic-plan-good ps few (a .0 .parts) in
-    let n : length (harmonicPlan ps) ≡ h = ticks-length (planned ps (partitions ps)) (frame ps) ∙ sym (a .3) in
+    let n : length (harmonicPlan ps) ≡ h = listed-length (planned ps (partitions ps)) (frame ps) ∙ sym (a .3) in
     let t : take h o ≡ harmonicPlan ps = rw left (take-at (harmonicPlan ps) (drop h out) h n) in
     let g : GoodTables (length (harmonicPlan ps)) ps [] = rw (w .0) (other-frame longest (frame ps) ps [] (a .0) (w .1) (w .2) (w .3)) in
     rw t (check-serves (harmonicPlan ps) ps .1 (g, (λ k l. le-leb _ _ (w .4 k)), harmonic-serves ps few (a .0 .parts) (a .1) (a .2)))
@@ -145,11 +145,11 @@ built-serves ps out o h (e, left) =
 
 module _ (ps : List ℕ) (room n : ℕ) where
   -- refused with a number from 1 on: by the refusal of that number
-  by : 1 ≤ n → toldFilling (buildOf ps room) .number ≡ n → (r : Refusal) × (buildOf ps room ≡ Refused (named n (told r .first) (told r .second) (told r .third) (told r .fourth)))
-  by l e = let a = filling-refused (buildOf ps room) n l e in (a .0, a .1 ∙ ap Refused (by-number (a .0) n (a .2)))
+  by : 1 ≤ n → ¬ (n ≡ 8) → toldFilling (buildOf ps room) .number ≡ n → (r : Refusal) × (buildOf ps room ≡ Refused (named n (told r .first) (told r .second) (told r .third) (told r .fourth)))
+  by l g e = let a = filling-refused (buildOf ps room) n l e in (a .0, a .1 ∙ ap Refused (by-number (a .0) n g (a .2)))
 
 pub want-exactly : WantExactly
-want-exactly ps room = (λ e. elevens ps room (by ps room 11 (omega arith) e .1), λ h. rw (is-eleven ps room h))
+want-exactly ps room = (λ e. elevens ps room (by ps room 11 (omega arith) (λ q. absurd (omega arith)) e .1), λ h. rw (is-eleven ps room h))
 
 pub want-none : WantNone
 want-none ps room e rule plan =
@@ -160,7 +160,7 @@ pub want-checked : WantChecked
 want-checked ps room e plan s = want-none ps room e own plan (check-serves plan ps .0 s .2)
 
 pub unharmonic-exactly : UnharmonicExactly
-unharmonic-exactly ps room = (λ e. tens ps room (by ps room 10 (omega arith) e .1), λ h. rw (is-ten ps room h))
+unharmonic-exactly ps room = (λ e. tens ps room (by ps room 10 (omega arith) (λ q. absurd (omega arith)) e .1), λ h. rw (is-ten ps room h))
 
 pub frame-exactly : FrameExactly
 frame-exactly ps room h = (λ e. frames ps room h (filling-as (buildOf ps room) h e), λ a. rw (is-frame ps room h a))

@@ -120,7 +120,7 @@ pub check-serves : CheckServes
 check-serves plan ps = (accepted plan ps, accepts plan ps)
 
 pub check-short : CheckShort
-check-short plan ps p s h w e = short plan ps p s h w (found-refused (checkOf plan ps) (telling 9 p s h w) (omega arith) e)
+check-short plan ps p s h w e = short plan ps p s h w (found-refused (checkOf plan ps) (telling 9 p s h w) (omega arith) (λ q. absurd (omega arith)) e)
 
 pub check-one : CheckOne
 check-one plan ps r r′ e f = e ∙ sym f

@@ -8,12 +8,11 @@ use borrow.Author.Tests.{lt-ltb, le-ltb}
 use native.Mathlib.Omega.{arith}
 use Rattle.rules.specs.Walk.{first, some}
 use Rattle.rules.specs.Table.{partitions, cycle, wanted}
-use Rattle.tables.specs.Contracts.{firstBadTick}
-use Rattle.tables.specs.Tables.{tablesOf}
+use Rattle.tables.specs.Tables.{tablesOf, ticksJudged}
 use Rattle.rules.specs.declared.Finding.{Finding}
 use Rattle.rules.specs.declared.Finding.the-variants.{Good, Refused}
 use Rattle.rules.specs.declared.Refusal.{Refusal}
-use Rattle.rules.specs.declared.Refusal.the-variants.{Tick, Shortfall}
+use Rattle.rules.specs.declared.Refusal.the-variants.{Shortfall}
 use Rattle.rules.proofs.First.{first-found, first-done}
 use Rattle.theory.specs.Plan.{own, held}
 use Rattle.plan_check.specs.Check.{shortAt, scanOf, planCheckOf, checkOf}
@@ -64,14 +63,13 @@ module _ (plan ps : List ℕ) where
 
   -- ---- 8, then 9
 
-  module _ (t : ℕ) (et : t ≡ firstBadTick (partitions ps) plan) where
-    pub plan-8 : t < length plan → Refused (Tick (t + 1)) ≡ planCheckOf plan ps
-    unfolding planCheckOf
-    plan-8 h = rw (← et, lt-ltb t (length plan) h)
+  pub plan-8 : (r : Refusal) → ticksJudged plan ps ≡ Refused r → Refused r ≡ planCheckOf plan ps
+  unfolding planCheckOf
+  plan-8 r e = rw e
 
-    pub plan-9 : length plan ≤ t → (r : Finding) → r ≡ scanOf plan ps → r ≡ planCheckOf plan ps
-    unfolding planCheckOf
-    plan-9 h r e = rw (← et, le-ltb t (length plan) h) e
+  pub plan-9 : ticksJudged plan ps ≡ Good → (r : Finding) → r ≡ scanOf plan ps → r ≡ planCheckOf plan ps
+  unfolding planCheckOf
+  plan-9 e r h = rw e h
 
   -- ---- 3 and 6, then the plan
 

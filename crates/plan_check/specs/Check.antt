@@ -6,11 +6,11 @@ use mathlib.Core.Bool.{Bool}
 use lib.ListN.{length}
 use lib.Dec.{ltb}
 use Rattle.rules.specs.Walk.{pick, first, some}
-use Rattle.rules.specs.Table.{partitions, cycle, wanted, goodTick}
-use Rattle.tables.specs.Tables.{lowest, unless, tablesOf}
+use Rattle.rules.specs.Table.{partitions, cycle, wanted}
+use Rattle.tables.specs.Tables.{unless, tablesOf, ticksJudged}
 use Rattle.rules.specs.declared.Finding.{Finding}
 use Rattle.rules.specs.declared.Finding.the-variants.{Good, Refused}
-use Rattle.rules.specs.declared.Refusal.the-variants.{Tick, Shortfall}
+use Rattle.rules.specs.declared.Refusal.the-variants.{Shortfall}
 use Rattle.theory.specs.Plan.{own, held}
 
 -- "holds at least q ticks of that partition": the stretch of place k that starts at s holds too little
@@ -26,7 +26,7 @@ scanOf plan ps =
 
 -- "bad .. run (or tick) record", then 9
 unfoldable pub planCheckOf : List ℕ → List ℕ → Finding
-planCheckOf plan ps = unless Refused (lowest Tick (goodTick (partitions ps) plan) (length plan)) (scanOf plan ps)
+planCheckOf plan ps = unless Refused (ticksJudged plan ps) (scanOf plan ps)
 
 -- "the checker 3, 6, 8, 9", or accepted
 unfoldable pub checkOf : List ℕ → List ℕ → Finding

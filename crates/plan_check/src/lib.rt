@@ -39,11 +39,11 @@ pub fn scan(plan: &[u16], parts: &[u16]) -> Finding
 pub fn check_plan(plan: &[u16], parts: &[u16]) -> Finding
     ensures { λ r. ⌜ r ≡ planCheckOf (now (plan .entry)) (now (parts .entry)) ⌝ }
 {
-    let t = tables::first_bad_tick(plan, rules::records::partitions(parts));
-    if t < plan.len() {
-        return Finding::Refused(Refusal::Tick(t + 1));
+    let ticks = tables::judge_ticks(plan, parts);
+    match ticks {
+        Finding::Refused(r) => Finding::Refused(r),
+        Finding::Good => scan(plan, parts),
     }
-    scan(plan, parts)
 }
 
 // Whether the plan serves the table.

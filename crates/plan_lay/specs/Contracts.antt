@@ -1,10 +1,9 @@
 -- Words that only inner contracts use: no statement and no entry's contract cites them. Assumes nothing.
 use Prim.Native.Nat.{ℕ, _≤_, _<_}
-use mathlib.Core.Path.{_≡_}
 use mathlib.Core.Bool.{_&&_}
 use mathlib.Core.List.{List}
 use lib.Dec.{eqb, ltb}
-use lib.ListN.{length, getD}
+use lib.ListN.{getD}
 use Rattle.rules.specs.Walk.{pick}
 use Rattle.rules.specs.Limits.{mostPartitions}
 use Rattle.rules.specs.Table.{partitions, cycle}
@@ -16,12 +15,6 @@ tickOf l t = getD l t 0
 -- what a tick of owner o becomes when p is given its q, where `seen` idle ticks lie before it in its cycle
 abbrev pub givenTick : ℕ → ℕ → ℕ → ℕ → ℕ
 givenTick p q seen o = pick (eqb o 0 && ltb seen q) p o
-
--- what a pass leaves: the first h ticks are as o names them, the others as they were
-pub record AsNamed (o : ℕ → ℕ) (h : ℕ) (before after : List ℕ) : Type 0 where
-  pub as-long : length after ≡ length before
-  pub done : (t : ℕ) → t < h → tickOf after t ≡ o t
-  pub rest : (t : ℕ) → h ≤ t → tickOf after t ≡ tickOf before t
 
 -- a table that the passes can lay out
 pub record Layable (ps : List ℕ) : Type 0 where

@@ -6,8 +6,9 @@ ghost use lib.ListN.{length, set};
 ghost use lib.Dec.{eqb};
 ghost use Rattle.rules.specs.Walk.{pick, only};
 ghost use Rattle.rules.specs.Table.{partitions};
+ghost use Rattle.rules.specs.Contracts.{AsNamed};
 ghost use Rattle.theory.specs.Harmonic.{give, turn, planned};
-ghost use Rattle.plan_lay.specs.Contracts.{tickOf, givenTick, AsNamed, Layable};
+ghost use Rattle.plan_lay.specs.Contracts.{tickOf, givenTick, Layable};
 ghost use Rattle.theory.specs.Contracts.{idle};
 
 mod order; // order.rt: by rising cycle, equal cycles by place

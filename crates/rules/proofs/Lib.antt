@@ -5,3 +5,4 @@ pub mod Round
 pub mod Tests
 pub mod Answers
 pub mod Known
+pub mod Named

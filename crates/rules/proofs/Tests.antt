@@ -34,6 +34,10 @@ and-parts a b = and-eq-true-iff a b .0
 pub and-intro : (a b : Bool) → a ≡ true → b ≡ true → a && b ≡ true
 and-intro a b e f = and-eq-true-iff a b .1 (e, f)
 
+pub and-none : (a b : Bool) → b ≡ false → a && b ≡ false
+and-none true b e = e
+and-none false b e = refl
+
 pub or-left : (a b : Bool) → a ≡ true → a || b ≡ true
 or-left a b e = rw e
 

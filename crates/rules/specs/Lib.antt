@@ -3,3 +3,4 @@ pub mod Walk
 pub mod Table
 pub mod Filling
 pub mod Refusals
+pub mod Contracts

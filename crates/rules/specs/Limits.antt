@@ -37,6 +37,10 @@ taskWidth = 4
 abbrev pub runWidth : ℕ
 runWidth = 2
 
+-- a question about running counts: partition, start, length
+abbrev pub questionWidth : ℕ
+questionWidth = 3
+
 -- "Numbers of two bytes"
 abbrev pub numberBytes : ℕ
 numberBytes = 2

@@ -1,8 +1,8 @@
--- Document 01's table of refusals: "No.", and "Also returned"; and what a caller is told. Assumes nothing.
+-- Document 01's table of refusals: "No.", and "Also returned", with those of document 02; and what a caller is told. Assumes nothing.
 use Prim.Native.Nat.{ℕ}
 use mathlib.Core.Path.{_≡_}
 use Rattle.rules.specs.declared.Refusal.{Refusal}
-use Rattle.rules.specs.declared.Refusal.the-variants.{Short, Edition, Limits, Offset, Length, Partition, Task, Tick, Shortfall, Unharmonic, Want, Output, Rules, Numbers, Past, Busy, Full, NoPlace, TooFar}
+use Rattle.rules.specs.declared.Refusal.the-variants.{Short, Edition, Limits, Offset, Length, Partition, Task, Tick, Asked, Shortfall, Unharmonic, Want, Output, Rules, Numbers, Past, Busy, Full, NoPlace, TooFar, Counts, Beyond}
 use Rattle.rules.specs.declared.Told.{Told}
 use Rattle.rules.specs.declared.Finding.{Finding}
 use Rattle.rules.specs.declared.Finding.the-variants as found
@@ -16,6 +16,10 @@ telling n a b c d = record { number = n; first = a; second = b; third = c; fourt
 abbrev pub placed : ℕ → ℕ → Told
 placed n place = telling n place 0 0 0
 
+-- of many questions in one call the place from 1, of one question 0
+abbrev pub questioned : ℕ → ℕ → Told
+questioned n question = telling n 0 question 0 0
+
 abbrev pub told : Refusal → Told
 told Short = placed 1 0
 told Edition = placed 2 0
@@ -25,6 +29,8 @@ told Length = placed 5 0
 told (Partition place) = placed 6 place
 told (Task place) = placed 7 place
 told (Tick place) = placed 8 place
+-- "a partition asked for or a new owner outside the table is 8 with place 0"
+told (Asked question) = questioned 8 question
 told (Shortfall p s h w) = telling 9 p s h w
 told Unharmonic = placed 10 0
 told Want = placed 11 0
@@ -36,13 +42,17 @@ told Busy = placed 16 0
 told Full = placed 17 0
 told NoPlace = placed 18 0
 told TooFar = placed 19 0
+-- "a list that disagrees with the plan is 20"
+told Counts = placed 20 0
+-- "a tick outside the plan or a stretch longer than the frame is 26"
+told (Beyond question) = questioned 26 question
 
 -- 0 where nothing tells against the call
 abbrev pub toldFinding : Finding → Told
 toldFinding found.Good = placed 0 0
 toldFinding (found.Refused r) = told r
 
--- 0 and the frame, or the length of the file or text
+-- 0 and the frame, the length of the file or text, or how many counts or answers
 abbrev pub toldFilling : Filling → Told
 toldFilling (filling.Fills n) = placed 0 n
 toldFilling (filling.Refused r) = told r

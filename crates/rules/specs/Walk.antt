@@ -2,7 +2,7 @@
 use Prim.Native.Nat.{ℕ, zero, suc, _+_, _-_, _/_, _<_, min, max}
 use mathlib.Core.Path.{_≡_}
 use mathlib.Core.Bool.{Bool, true, false, not}
-use mathlib.Core.List.{List, [], _++_}
+use mathlib.Core.List.{List, [], _∷_, _++_}
 use lib.Dec.{ltb}
 
 -- a where the test holds, else b
@@ -55,6 +55,11 @@ largest f (suc n) = max (largest f n) (f n)
 unfoldable pub walk : {A : Type 0} → (ℕ → A → A) → A → ℕ → A
 walk f x zero = x
 walk f x (suc n) = f n (walk f x n)
+
+-- the numbers f 0, .., f (n - 1), written out
+unfoldable pub listed : (ℕ → ℕ) → ℕ → List ℕ
+listed f zero = []
+listed f (suc n) = f 0 ∷ listed (λ k. f (suc k)) n
 
 -- the lists f 0, .., f (n - 1), one behind the other
 unfoldable pub gathered : (ℕ → List ℕ) → ℕ → List ℕ

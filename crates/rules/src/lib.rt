@@ -1,12 +1,12 @@
 // The rules that every call shares: limits, tables behind accessors, and why a call refuses.
 ghost use mathlib.Core.Path.{_≡_};
-ghost use Rattle.rules.specs.Refusals.{told, placed};
+ghost use Rattle.rules.specs.Refusals.{told, placed, questioned};
 
 pub mod limits; // limits.rt: every limit and width by name
 pub mod numbers; // numbers.rt: what numbers need everywhere
 pub mod records; // records.rt: the tables behind accessors, and ticks wanted
 
-// Why a call refuses: document 01's table, from 1 to 19.
+// Why a call refuses: document 01's table, from 1 to 19, and 20 and 26 of document 02.
 pub enum Refusal {
     Short,
     Edition,
@@ -16,6 +16,7 @@ pub enum Refusal {
     Partition(usize),
     Task(usize),
     Tick(usize),
+    Asked(usize),
     Shortfall {
         partition: usize,
         start: usize,
@@ -32,6 +33,8 @@ pub enum Refusal {
     Full,
     NoPlace,
     TooFar,
+    Counts,
+    Beyond(usize),
 }
 
 // A refusal as the paper tells it: its number, and what is returned beside it.
@@ -68,6 +71,7 @@ pub fn tell(r: Refusal) -> Told
         Refusal::Partition(place) => numbered(6, place),
         Refusal::Task(place) => numbered(7, place),
         Refusal::Tick(place) => numbered(8, place),
+        Refusal::Asked(question) => questioned(8, question),
         Refusal::Shortfall {
             partition,
             start,
@@ -90,6 +94,8 @@ pub fn tell(r: Refusal) -> Told
         Refusal::Full => numbered(17, 0),
         Refusal::NoPlace => numbered(18, 0),
         Refusal::TooFar => numbered(19, 0),
+        Refusal::Counts => numbered(20, 0),
+        Refusal::Beyond(question) => questioned(26, question),
     }
 }
 
@@ -100,6 +106,19 @@ fn numbered(number: usize, place: usize) -> Told
         number,
         first: place,
         second: 0,
+        third: 0,
+        fourth: 0,
+    }
+}
+
+// Of a question that a call was given, by its place from 1; 0 where the call is one question itself.
+fn questioned(number: usize, question: usize) -> Told
+    ensures { λ t. ⌜ t ≡ questioned number question ⌝ }
+{
+    Told {
+        number,
+        first: 0,
+        second: question,
         third: 0,
         fourth: 0,
     }

@@ -15,7 +15,7 @@ use Rattle.rules.specs.declared.Refusal.the-variants.{Limits, Partition, Task}
 use Rattle.rules.proofs.Answers.{no-filling}
 use Rattle.tables.proofs.Chain.{unless-given}
 use Rattle.theory.specs.Harmonic.{frame, harmonicPlan}
-use Rattle.theory.proofs.Harmonic.{ticks-length}
+use Rattle.rules.proofs.Named.{listed-length}
 use Rattle.rules.specs.declared.Filling.{Filling}
 use Rattle.plan_build.specs.Build.{buildOf}
 use Rattle.plan_build.proofs.Orders.{laid}
@@ -82,7 +82,7 @@ pub built-front : (ps l o : List ℕ) (r : Filling) (h : ℕ) → length l ≡ l
 built-front ps l o r h el er eo e =
     let b : buildOf ps longest ≡ Fills h = rw el at (sym er ∙ e) in
     let a = laid ps longest h b in
-    let n : length (harmonicPlan ps) ≡ h = ticks-length _ _ ∙ sym (a .is-frame) in
+    let n : length (harmonicPlan ps) ≡ h = listed-length _ _ ∙ sym (a .is-frame) in
     let f : o ≡ harmonicPlan ps ++ drop h l = rw e at eo in
     record {
       is-built = b;

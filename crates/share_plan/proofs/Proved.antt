@@ -15,7 +15,7 @@ use Rattle.tables.specs.Tables.{GoodTables}
 use Rattle.tables.proofs.Chain.{other-frame, without-tasks, unless-good}
 use Rattle.file_tables.proofs.Chain.{GoodFile, of-good}
 use Rattle.theory.specs.Harmonic.{Harmonic, frame, allWanted, planned, harmonicPlan}
-use Rattle.theory.proofs.Harmonic.{ticks-length}
+use Rattle.rules.proofs.Named.{listed-length}
 use Rattle.theory.proofs.Built.{harmonic-plan-good}
 use Rattle.rules.specs.declared.Finding.the-variants.{Good}
 use Rattle.plan_check.specs.Check.{checkOf}
@@ -48,7 +48,7 @@ serves : (ps : List ℕ) → buildOf ps longest ≡ Fills (frame ps) → checkOf
 serves ps e =
     let out : List ℕ = replicate longest 0 in
     let s = built-serves ps out _ (frame ps) (rw (length-replicate {A = ℕ} longest 0) (sym e), refl) in
-    rw (take-at (harmonicPlan ps) (drop (frame ps) out) (frame ps) (ticks-length (planned ps (partitions ps)) (frame ps))) at s
+    rw (take-at (harmonicPlan ps) (drop (frame ps) out) (frame ps) (listed-length (planned ps (partitions ps)) (frame ps))) at s
 
 file-serves : FileServes
 unfolding planFile

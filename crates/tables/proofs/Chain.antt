@@ -8,17 +8,17 @@ use native.Mathlib.Nat.{not-suc-le-zero}
 use native.Mathlib.Omega.{arith}
 use lib.ListN.{length}
 use lib.Dec.{ltb, leb, eqb}
-use borrow.Author.Tests.{lt-ltb, le-ltb, ltb-false, le-leb, leb-true, eqb-true, eq-eqb, not-true, not-false}
+use borrow.Author.Tests.{lt-ltb, le-ltb, ltb-true, ltb-false, le-leb, leb-true, eqb-true, eq-eqb, not-true, not-false}
 use Rattle.rules.specs.Limits.{mostPartitions, mostTasks, longest, finestShare, partWidth, taskWidth}
 use Rattle.rules.specs.Walk.{pick, first, fails, Every}
 use Rattle.rules.specs.Table.{partitions, cycle, num, den, tasks, goodShare, goodPart, goodTask}
-use Rattle.tables.specs.Contracts.{firstBadPart, firstBadTask}
-use Rattle.tables.specs.Tables.{countedIn, withinLimits, lowest, unless, tablesOf, GoodTables}
+use Rattle.tables.specs.Contracts.{firstBadPart, firstBadTask, firstBadTick}
+use Rattle.tables.specs.Tables.{countedIn, withinLimits, lowest, unless, tablesOf, ticksJudged, GoodTables}
 use Rattle.rules.specs.declared.Refusal.{Refusal}
-use Rattle.rules.specs.declared.Refusal.the-variants.{Limits, Partition, Task}
+use Rattle.rules.specs.declared.Refusal.the-variants.{Limits, Partition, Task, Tick}
 use Rattle.rules.specs.declared.Finding.{Finding}
 use Rattle.rules.specs.declared.Finding.the-variants.{Good, Refused}
-use Rattle.rules.proofs.First.{every-first, first-every}
+use Rattle.rules.proofs.First.{first-found, first-done, first-at, first-before, every-first, first-every}
 use Rattle.rules.proofs.Tests.{pick-first, pick-second, and-parts, good-share}
 
 -- ---- the limits
@@ -138,11 +138,37 @@ module _ (refusal : ℕ → Refusal) (good : ℕ → Bool) (n : ℕ) where
       let w = pick-second b (refused at-first) next z other (sym (found-then b refused at-first next) ∙ e) in
       (first-every good n (ltb-false _ _ (w .0)), w .1)
 
+  -- a loop's find and its end
+  pub lowest-found : (k : ℕ) → k < n → first (fails good) k ≡ k → fails good k ≡ true → Refused (refusal (k + 1)) ≡ lowest refusal good n
+  lowest-found k l e h = rw (first-found (fails good) n k l e h, lt-ltb k n l)
+
+  pub lowest-end : (k : ℕ) → k ≤ n → n ≤ k → first (fails good) k ≡ k → Good ≡ lowest refusal good n
+  lowest-end k h l e = rw (first-done (fails good) n k h l e, le-ltb n n (omega arith))
+
+  -- a refusal is that of the first which isn't good: it fails, and each one before it passes
+  pub lowest-at : (r : Refusal) → lowest refusal good n ≡ Refused r
+      → (k : ℕ) × (r ≡ refusal (k + 1)) × (k < n) × (good k ≡ false) × ((j : ℕ) → j < k → good j ≡ true)
+  unfolding fails
+  lowest-at r e =
+      let k = first (fails good) n in
+      let a = pick-first (ltb k n) (Refused at-first) Good (Refused r) (λ q. not-good r (sym q)) e in
+      let z : at-first ≡ r = cc (a .1) in
+      let l : k < n = ltb-true k n (a .0) in
+      (k, sym z, l, not-true (good k) (first-at (fails good) n l), λ j h. not-false (good j) (first-before (fails good) n j h))
+
   pub lowest-good : lowest refusal good n ≡ Good → Every good n
   lowest-good e = first-every good n (ltb-false _ _ (pick-second (ltb (first (fails good) n) n) (Refused at-first) Good Good (not-good at-first) e .0))
 
   pub good-lowest : Every good n → lowest refusal good n ≡ Good
   good-lowest h = rw (every-first good n h, le-ltb n n (omega arith))
+
+-- 8 of a plan's ticks
+module _ (plan ps : List ℕ) (t : ℕ) (et : t ≡ firstBadTick (partitions ps) plan) where
+  pub ticks-8 : t < length plan → Refused (Tick (t + 1)) ≡ ticksJudged plan ps
+  ticks-8 h = rw (← et, lt-ltb t (length plan) h)
+
+  pub ticks-good : length plan ≤ t → Good ≡ ticksJudged plan ps
+  ticks-good h = rw (← et, le-ltb t (length plan) h)
 
 module _ (frame : ℕ) (ps ts : List ℕ) where
   pub tables-3 : withinLimits frame (length ps) (length ts) ≡ false → Refused Limits ≡ tablesOf frame ps ts

@@ -1,4 +1,4 @@
--- The one chain of table refusals: 3, 6 and 7. Places count from 0 here, and from 1 in a refusal. Assumes nothing.
+-- The one chain of table refusals: 3, 6 and 7; and 8 of a plan's ticks. Places count from 0 here, and from 1 in a refusal. Assumes nothing.
 use Prim.Native.Nat.{ℕ, _+_, _/_, _%_}
 use mathlib.Core.Path.{_≡_}
 use mathlib.Core.List.{List}
@@ -7,9 +7,9 @@ use lib.ListN.{length}
 use lib.Dec.{ltb, leb, eqb}
 use Rattle.rules.specs.Limits.{mostPartitions, mostTasks, longest, partWidth, taskWidth}
 use Rattle.rules.specs.Walk.{pick, fails, first, Every}
-use Rattle.rules.specs.Table.{partitions, tasks, goodPart, goodTask}
+use Rattle.rules.specs.Table.{partitions, tasks, goodPart, goodTask, goodTick}
 use Rattle.rules.specs.declared.Refusal.{Refusal}
-use Rattle.rules.specs.declared.Refusal.the-variants.{Limits, Partition, Task}
+use Rattle.rules.specs.declared.Refusal.the-variants.{Limits, Partition, Task, Tick}
 use Rattle.rules.specs.declared.Finding.{Finding}
 use Rattle.rules.specs.declared.Finding.the-variants.{Good, Refused}
 
@@ -36,6 +36,10 @@ tablesOf frame ps ts =
     pick (withinLimits frame (length ps) (length ts))
     (unless Refused (lowest Partition (goodPart frame ps) (partitions ps)) (lowest Task (goodTask (partitions ps) ts) (tasks ts)))
     (Refused Limits)
+
+-- "bad .. run (or tick) record": 8 of a plan's ticks
+abbrev pub ticksJudged : List ℕ → List ℕ → Finding
+ticksJudged plan ps = lowest Tick (goodTick (partitions ps) plan) (length plan)
 
 -- nothing tells against the tables
 pub record GoodTables (frame : ℕ) (ps ts : List ℕ) : Type 0 where

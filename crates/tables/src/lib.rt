@@ -1,11 +1,13 @@
-// What tells against tables: the limits, good records, and the one chain of the refusals 3, 6 and 7.
+// What tells against tables: the limits, good records, and the one chain of the refusals 3, 6 and 7; and against a plan's
+// ticks: 8.
 ghost use mathlib.Core.Path.{_≡_};
 ghost use mathlib.Core.List.{[]};
 ghost use Prim.Native.Nat.{_<_};
 ghost use Rattle.rules.specs.Walk.{fails};
 ghost use Rattle.rules.specs.Table.{goodShare, goodTimes, goodPart, goodTask, goodTick};
 ghost use Rattle.tables.specs.Contracts.{firstBadPart, firstBadTask, firstBadTick};
-ghost use Rattle.tables.specs.Tables.{countedIn, withinLimits, tablesOf};
+ghost use Rattle.tables.specs.Tables.{countedIn, withinLimits, unless, tablesOf, ticksJudged};
+ghost use Rattle.rules.specs.declared.Finding.the-variants.{Refused};
 use rules::Finding;
 use rules::Refusal;
 use rules::limits::FINEST_SHARE;
@@ -182,4 +184,25 @@ pub fn judge_partitions(frame: usize, parts: &[u16]) -> Finding
     ensures { λ r. ⌜ r ≡ tablesOf frame (now (parts .entry)) [] ⌝ }
 {
     judge_tables(frame, parts, &parts[..0])
+}
+
+// What tells against a plan's ticks: 8.
+pub fn judge_ticks(plan: &[u16], parts: &[u16]) -> Finding
+    ensures { λ r. ⌜ r ≡ ticksJudged (now (plan .entry)) (now (parts .entry)) ⌝ }
+{
+    let t = first_bad_tick(plan, partitions(parts));
+    if t < plan.len() {
+        return Finding::Refused(Refusal::Tick(t + 1));
+    }
+    Finding::Good
+}
+
+// Of two findings the one that tells against the call, the first of both.
+pub fn first_found(found: Finding, next: Finding) -> Finding
+    ensures { λ r. ⌜ r ≡ unless Refused found next ⌝ }
+{
+    match found {
+        Finding::Refused(r) => Finding::Refused(r),
+        Finding::Good => next,
+    }
 }

@@ -104,10 +104,10 @@ module _ (plan ts : List ℕ) (i : ℕ) where
 
 -- ---- 7 with place 0
 
-judged-refused : (j : Judged) (t : Told) → 1 ≤ t .number → toldJudged j ≡ t → j ≡ Refused (named (t .number) (t .first) (t .second) (t .third) (t .fourth))
-judged-refused (Pass n) t h e = let z : 0 ≡ t .number = ap (λ (u : Told). u .number) e in absurd (omega arith)
-judged-refused Fail t h e = let z : 0 ≡ t .number = ap (λ (u : Told). u .number) e in absurd (omega arith)
-judged-refused (Refused r) t h e = ap Refused (by-told r t e)
+judged-refused : (j : Judged) (t : Told) → 1 ≤ t .number → ¬ (t .number ≡ 8) → toldJudged j ≡ t → j ≡ Refused (named (t .number) (t .first) (t .second) (t .third) (t .fourth))
+judged-refused (Pass n) t h g e = let z : 0 ≡ t .number = ap (λ (u : Told). u .number) e in absurd (omega arith)
+judged-refused Fail t h g e = let z : 0 ≡ t .number = ap (λ (u : Told). u .number) e in absurd (omega arith)
+judged-refused (Refused r) t h g e = ap Refused (by-told r t g e)
 
 -- neither 8 nor 9 nor a task's own answer is a 7
 no-seven : (c d b : Bool) (t p s h w u : ℕ)
@@ -185,7 +185,7 @@ answered-exactly plan ps ts place = (
 
 pub outside-table : OutsideTable
 outside-table plan ps ts place = (
-  λ e. let a = outside plan ps ts place (judged-refused (verdictOf plan ps ts place) (placed 7 0) (omega arith) e) in
+  λ e. let a = outside plan ps ts place (judged-refused (verdictOf plan ps ts place) (placed 7 0) (omega arith) (λ q. absurd (omega arith)) e) in
       (a .0, λ i. absurd (true≢false (sym (rw (le-leb 1 place (i .0), le-leb place (tasks ts) (i .1))) ∙ a .1))),
   λ a. rw (is-outside plan ps ts place (a .0) (none (leb 1 place) (leb place (tasks ts)) refl refl (a .1))),
 )

@@ -11,13 +11,14 @@ use Rattle.rules.specs.Walk.{sum, Every}
 use Rattle.rules.specs.Limits.{longest}
 use Rattle.rules.specs.Table.{cycle, num, den, partitions, wanted, goodPart}
 use Rattle.rules.proofs.Sum.{le-or-lt}
+use Rattle.rules.proofs.Named.{listed-length, listed-at, listed-past}
 use Rattle.rules.proofs.Least.{largest-le, largest-is}
 use Rattle.theory.specs.Plan.{service, owned}
 use Rattle.theory.specs.Harmonic.{Harmonic, frame, allWanted, rank, taken, turn, planned, harmonicPlan}
 use Rattle.theory.specs.Theorems.{HarmonicServes, HarmonicRefused, HarmonicPlanGood}
 use Rattle.theory.proofs.Order.{Sooner, pairs-divide, rank-below, taken-rank, taken-below, taken-sooner, taken-sum}
 use Rattle.theory.proofs.Need.{needed}
-use Rattle.theory.proofs.Harmonic.{Divides, Chain, After, built, built-bound, after, ticks-length, ticks-at, ticks-past, ticks-held}
+use Rattle.theory.proofs.Harmonic.{Divides, Chain, After, built, built-bound, after, listed-held}
 
 module _ (ps : List ℕ) (some : 0 < partitions ps) (good : Every (goodPart longest ps) (partitions ps)) where
   abbrev n : ℕ
@@ -54,8 +55,8 @@ module _ (ps : List ℕ) (some : 0 < partitions ps) (good : Every (goodPart long
           (λ s l. omega (arith, taken-below ps s l)) t
 
       go : (frame ps ≤ t) ⊎ (t < frame ps) → getD (harmonicPlan ps) t 0 ≤ n
-      go (inl h) = omega (arith, ticks-past (planned ps n) (frame ps) t h)
-      go (inr h) = omega (arith, low, ticks-at (planned ps n) (frame ps) t h)
+      go (inl h) = omega (arith, listed-past (planned ps n) (frame ps) t h)
+      go (inr h) = omega (arith, low, listed-at (planned ps n) (frame ps) t h)
 
   -- ---- the cycles of the turns
 
@@ -112,7 +113,7 @@ module _ (ps : List ℕ) (some : 0 < partitions ps) (good : Every (goodPart long
 pub harmonic-serves : HarmonicServes
 unfolding allWanted planned turn
 harmonic-serves ps some good har h k s l =
-    rw (ticks-held (planned ps (partitions ps)) (frame ps) (frame-pos ps some good) (all-after ps some good har (wanted ps) h .frames) (k + 1) (cycle ps k) s)
+    rw (listed-held (planned ps (partitions ps)) (frame ps) (frame-pos ps some good) (all-after ps some good har (wanted ps) h .frames) (k + 1) (cycle ps k) s)
     (all-served ps some good har (wanted ps) h k s l)
 
 pub harmonic-refused : HarmonicRefused
@@ -122,4 +123,4 @@ harmonic-refused ps some good har h rule plan s =
 
 pub harmonic-plan-good : HarmonicPlanGood
 harmonic-plan-good ps some good =
-    (ticks-length (planned ps (partitions ps)) (frame ps), frame-pos ps some good, frame-low ps some good, frame-longest ps some good, owner-low ps some good)
+    (listed-length (planned ps (partitions ps)) (frame ps), frame-pos ps some good, frame-low ps some good, frame-longest ps some good, owner-low ps some good)

@@ -3,17 +3,17 @@ use mathlib.Core.Path.{_≡_, refl}
 use mathlib.Core.Bool.{true, false}
 use mathlib.Core.List.{List, [], _∷_}
 use Prim.Native.Nat.{ℕ}
-use Rattle.rules.specs.Walk.{only, first, sum, count, largest, walk, roundUp}
+use Rattle.rules.specs.Walk.{only, first, sum, count, largest, walk, listed, roundUp}
 use Rattle.rules.specs.Table.{wants}
 use Rattle.theory.specs.Plan.{owned}
-use Rattle.theory.specs.Harmonic.{pairs, frame, allWanted, sooner, rank, give, turn, planned, ticks, harmonicPlan}
+use Rattle.theory.specs.Harmonic.{pairs, frame, allWanted, sooner, rank, give, turn, planned, harmonicPlan}
 
 -- P1: cycles 4, 8, 8, shares 1/4, 3/8, 1/100
 abbrev p1 : List ℕ
 p1 = 4 ∷ 1 ∷ 4 ∷ 8 ∷ 3 ∷ 8 ∷ 8 ∷ 1 ∷ 100 ∷ []
 
 pub p1-plan : harmonicPlan p1 ≡ 1 ∷ 2 ∷ 2 ∷ 2 ∷ 1 ∷ 3 ∷ 0 ∷ 0 ∷ []
-unfolding only first sum count largest walk roundUp wants owned frame sooner rank give turn planned ticks
+unfolding only first sum count largest walk roundUp wants owned frame sooner rank give turn planned listed
 p1-plan = refl
 
 pub p1-pairs : pairs p1 1 0 ≡ true
@@ -32,5 +32,5 @@ p4-pairs = refl
 
 -- the smallest cycle stands last
 pub rising-plan : harmonicPlan (4 ∷ 1 ∷ 4 ∷ 4 ∷ 1 ∷ 4 ∷ 2 ∷ 1 ∷ 2 ∷ []) ≡ 3 ∷ 1 ∷ 3 ∷ 2 ∷ []
-unfolding only first sum count largest walk roundUp wants owned frame sooner rank give turn planned ticks
+unfolding only first sum count largest walk roundUp wants owned frame sooner rank give turn planned listed
 rising-plan = refl

@@ -9,11 +9,12 @@ use native.Mathlib.Decide.{ℕ-discrete}
 use native.Mathlib.Omega.{arith}
 use lib.Dec.{eqb, ltb}
 use borrow.Author.Tests.{lt-ltb, le-ltb, eq-eqb, ne-eqb}
-use lib.ListN.{length, getD, List·getD-eq-default}
-use Rattle.rules.specs.Walk.{pick, only, sum, count, walk}
+use lib.ListN.{getD}
+use Rattle.rules.specs.Walk.{pick, only, sum, count, walk, listed}
 use Rattle.rules.proofs.Sum.{le-or-lt, only-eq, only-ne, only-self, sum-le, sum-eq, sum-first, sum-mono, count-zero, count-more}
+use Rattle.rules.proofs.Named.{listed-length, listed-at}
 use Rattle.theory.specs.Plan.{owner, own, owned, held}
-use Rattle.theory.specs.Harmonic.{give, ticks}
+use Rattle.theory.specs.Harmonic.{give}
 use Rattle.theory.proofs.Need.{owned-split}
 use Rattle.theory.specs.Contracts.{idle}
 use Rattle.theory.proofs.Words.{ownsFrom}
@@ -248,27 +249,13 @@ module _ (who want cyc : ℕ → ℕ) (n H : ℕ) (ch : Chain who want cyc n H) 
 
 -- ---- the ticks of a plan, written out
 
-pub ticks-length : (o : ℕ → ℕ) (n : ℕ) → length (ticks o n) ≡ n
-unfolding ticks
-ticks-length o zero = refl
-ticks-length o (suc n) = ap suc (ticks-length (λ k. o (suc k)) n)
-
-pub ticks-at : (o : ℕ → ℕ) (n t : ℕ) → t < n → getD (ticks o n) t 0 ≡ o t
-unfolding ticks
-ticks-at o zero t h = absurd (omega arith)
-ticks-at o (suc n) zero h = refl
-ticks-at o (suc n) (suc t) h = ticks-at (λ k. o (suc k)) n t (omega arith)
-
-pub ticks-past : (o : ℕ → ℕ) (n t : ℕ) → n ≤ t → getD (ticks o n) t 0 ≡ 0
-ticks-past o n t h = List·getD-eq-default (ticks o n) 0 {n = t} (omega (arith, ticks-length o n))
-
 -- repeated, they are the owner of every tick
-pub ticks-owner : (o : ℕ → ℕ) (H : ℕ) → 0 < H → Period o H → (t : ℕ) → owner (ticks o H) t ≡ o t
+pub listed-owner : (o : ℕ → ℕ) (H : ℕ) → 0 < H → Period o H → (t : ℕ) → owner (listed o H) t ≡ o t
 unfolding owner
-ticks-owner o H pos per t =
+listed-owner o H pos per t =
     let e : t % H + t / H * H ≡ t = omega (arith, div-add-mod' t H) in
-    ap (λ (x : ℕ). getD (ticks o H) (t % x) 0) (ticks-length o H) ∙ ticks-at o H (t % H) (mod-lt t pos) ∙ sym (period-mul o H per (t / H) (t % H)) ∙ ap o e
+    ap (λ (x : ℕ). getD (listed o H) (t % x) 0) (listed-length o H) ∙ listed-at o H (t % H) (mod-lt t pos) ∙ sym (period-mul o H per (t / H) (t % H)) ∙ ap o e
 
-pub ticks-held : (o : ℕ → ℕ) (H : ℕ) → 0 < H → Period o H → (p t a : ℕ) → held own (ticks o H) p t a ≡ owned o p t a
+pub listed-held : (o : ℕ → ℕ) (H : ℕ) → 0 < H → Period o H → (p t a : ℕ) → held own (listed o H) p t a ≡ owned o p t a
 unfolding owned count
-ticks-held o H pos per p t a = sum-eq t _ _ (λ k. ap (λ (x : ℕ). only (eqb x p) 1) (ticks-owner o H pos per (a + k)))
+listed-held o H pos per p t a = sum-eq t _ _ (λ k. ap (λ (x : ℕ). only (eqb x p) 1) (listed-owner o H pos per (a + k)))

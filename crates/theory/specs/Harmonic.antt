@@ -1,10 +1,10 @@
 -- The harmonic rule, in closed form. Assumes nothing.
 use mathlib.Core.Path.{_≡_}
 use mathlib.Core.Bool.{Bool, true, _&&_, _||_}
-use mathlib.Core.List.{List, [], _∷_}
-use Prim.Native.Nat.{ℕ, zero, suc, _+_, _-_, _*_, _/_, _%_, _<_}
+use mathlib.Core.List.{List}
+use Prim.Native.Nat.{ℕ, _+_, _-_, _*_, _/_, _%_, _<_}
 use lib.Dec.{eqb, ltb}
-use Rattle.rules.specs.Walk.{pick, first, count, sum, largest, walk}
+use Rattle.rules.specs.Walk.{pick, first, count, sum, largest, walk, listed}
 use Rattle.rules.specs.Table.{cycle, partitions, wanted}
 use Rattle.theory.specs.Plan.{owned}
 
@@ -48,11 +48,6 @@ turn ps r = let k = taken ps r in give (k + 1) (wanted ps k) (cycle ps k)
 unfoldable pub planned : List ℕ → ℕ → ℕ → ℕ
 planned ps r = walk (turn ps) (λ t. 0) r
 
--- the first n ticks, written out
-unfoldable pub ticks : (ℕ → ℕ) → ℕ → List ℕ
-ticks o zero = []
-ticks o (suc n) = o 0 ∷ ticks (λ t. o (suc t)) n
-
 -- the plan that the rule writes: every partition had its turn, "The frame H"
 abbrev pub harmonicPlan : List ℕ → List ℕ
-harmonicPlan ps = ticks (planned ps (partitions ps)) (frame ps)
+harmonicPlan ps = listed (planned ps (partitions ps)) (frame ps)

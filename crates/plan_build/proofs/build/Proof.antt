@@ -1,6 +1,6 @@
 use mathlib.Core.Path.{refl, sym, _∙_}
 use Rattle.plan_build.proofs.Orders.{laid, layable}
-use Rattle.plan_lay.proofs.Passes.{named-list}
+use Rattle.rules.proofs.Named.{named-list}
 use borrow.Author.Needs.{needs}
 use Rattle.plan_build.proofs.build.Statement.{statement}
 use Rattle.plan_build.proofs.build.Tie as tie

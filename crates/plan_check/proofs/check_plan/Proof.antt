@@ -1,27 +1,28 @@
+use mathlib.Core.Path.{sym, _∙_}
 use Rattle.plan_check.proofs.Orders.{plan-8, plan-9}
 use borrow.Author.Needs.{needs}
 use Rattle.plan_check.proofs.check_plan.Statement.{statement}
 use Rattle.plan_check.proofs.check_plan.Tie as tie
 
-partitions-requires : tie.Need-partitions-requires
-partitions-requires c κs = search needs
+judge-ticks-requires : tie.Need-judge-ticks-requires
+judge-ticks-requires c κs = search needs
 
-first-bad-tick-requires : tie.Need-first-bad-tick-requires
-first-bad-tick-requires c κs = search needs
+enum-known-ticks : tie.Need-enum-known-ticks
+enum-known-ticks c = search needs
 
-add-t6 : tie.Need-add-t6
-add-t6 c = search needs
-
-returns : tie.Need-returns
-returns c = plan-8 _ _ _ (rw (c .before .before .partitions .ensures) at (c .before .first-bad-tick .ensures)) (c .if1 .taken)
+enum-told : tie.Need-enum-told
+enum-told c = search needs
 
 scan-requires : tie.Need-scan-requires
 scan-requires c κs = search needs
 
+returns : tie.Need-returns
+returns c = plan-8 _ _ _ (sym (c .before .before .before .judge-ticks .ensures) ∙ c .before .ticks .given .1)
+
 returns-2 : tie.Need-returns-2
-returns-2 c = plan-9 _ _ _ (rw (c .before .before .before .partitions .ensures) at (c .before .before .first-bad-tick .ensures)) (c .before .if1 .left) _ (c .scan .ensures)
+returns-2 c = plan-9 _ _ (sym (c .before .before .before .judge-ticks .ensures) ∙ c .before .enum-told .given .1) _ (c .scan .ensures)
 
 pub check-plan-spec : {M : Type 1} → statement M
 check-plan-spec =
     tie.close
-    (tie.spec partitions-requires first-bad-tick-requires add-t6 returns scan-requires returns-2)
+    (tie.spec judge-ticks-requires enum-known-ticks enum-told scan-requires returns returns-2)

@@ -1,8 +1,8 @@
 use Prim.Native.Nat.{_-_, _≤_}
 use mathlib.Core.Path.{_≡_, refl}
 use lib.ListN.{length, length-set}
-use Rattle.plan_lay.specs.Contracts.{AsNamed}
-use Rattle.plan_lay.proofs.Passes.{named-none, named-turn, named-end}
+use Rattle.rules.specs.Contracts.{AsNamed}
+use Rattle.rules.proofs.Named.{named-none, named-turn, named-end}
 use borrow.Author.Needs.{needs}
 use Rattle.plan_lay.proofs.clear.Statement.{statement}
 use Rattle.plan_lay.proofs.clear.Tie as tie

@@ -1,5 +1,6 @@
 use Prim.Native.Nat.{_-_, _≤_}
-use Rattle.plan_lay.proofs.Passes.{Giving, giving-none, giving-turn, named-end}
+use Rattle.rules.proofs.Named.{named-end}
+use Rattle.plan_lay.proofs.Passes.{Giving, giving-none, giving-turn}
 use borrow.Author.Needs.{needs}
 use Rattle.plan_lay.proofs.give.Statement.{statement}
 use Rattle.plan_lay.proofs.give.Tie as tie

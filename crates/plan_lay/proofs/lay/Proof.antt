@@ -4,8 +4,9 @@ use native.Mathlib.Omega.{arith}
 use lib.ListN.{length}
 use Rattle.rules.specs.Table.{partitions}
 use Rattle.theory.specs.Harmonic.{planned}
-use Rattle.plan_lay.specs.Contracts.{AsNamed}
-use Rattle.plan_lay.proofs.Passes.{named-self, named-then, planned-none, planned-turn}
+use Rattle.rules.specs.Contracts.{AsNamed}
+use Rattle.rules.proofs.Named.{named-self, named-then}
+use Rattle.plan_lay.proofs.Passes.{planned-none, planned-turn}
 use borrow.Author.Needs.{needs}
 use Rattle.plan_lay.proofs.lay.Statement.{statement}
 use Rattle.plan_lay.proofs.lay.Tie as tie

@@ -53,6 +53,12 @@ numbered-requires-8 c κs = search needs
 enum-known-r-4 : tie.Need-enum-known-r-4
 enum-known-r-4 c = search needs
 
+questioned-requires : tie.Need-questioned-requires
+questioned-requires c κs = search needs
+
+enum-known-r-5 : tie.Need-enum-known-r-5
+enum-known-r-5 c = search needs
+
 enum-told-6 : tie.Need-enum-told-6
 enum-told-6 c = search needs
 
@@ -113,6 +119,18 @@ enum-told-15 c = search needs
 numbered-requires-18 : tie.Need-numbered-requires-18
 numbered-requires-18 c κs = search needs
 
+enum-told-16 : tie.Need-enum-told-16
+enum-told-16 c = search needs
+
+numbered-requires-19 : tie.Need-numbered-requires-19
+numbered-requires-19 c κs = search needs
+
+enum-known-r-6 : tie.Need-enum-known-r-6
+enum-known-r-6 c = search needs
+
+questioned-requires-2 : tie.Need-questioned-requires-2
+questioned-requires-2 c κs = search needs
+
 returns : tie.Need-returns
 returns c = rw (c .before .enum-told .given .1) (c .numbered .ensures)
 
@@ -138,37 +156,46 @@ returns-8 : tie.Need-returns-8
 returns-8 c = rw (c .before .before .r3 .given .1) (c .numbered8 .ensures)
 
 returns-9 : tie.Need-returns-9
-returns-9 c = rw (c .before .r4 .given .1)
+returns-9 c = rw (c .before .before .r4 .given .1) (c .questioned .ensures)
 
 returns-10 : tie.Need-returns-10
-returns-10 c = rw (c .before .enum-told6 .given .1) (c .numbered9 .ensures)
+returns-10 c = rw (c .before .r5 .given .1)
 
 returns-11 : tie.Need-returns-11
-returns-11 c = rw (c .before .enum-told7 .given .1) (c .numbered10 .ensures)
+returns-11 c = rw (c .before .enum-told6 .given .1) (c .numbered9 .ensures)
 
 returns-12 : tie.Need-returns-12
-returns-12 c = rw (c .before .enum-told8 .given .1) (c .numbered11 .ensures)
+returns-12 c = rw (c .before .enum-told7 .given .1) (c .numbered10 .ensures)
 
 returns-13 : tie.Need-returns-13
-returns-13 c = rw (c .before .enum-told9 .given .1) (c .numbered12 .ensures)
+returns-13 c = rw (c .before .enum-told8 .given .1) (c .numbered11 .ensures)
 
 returns-14 : tie.Need-returns-14
-returns-14 c = rw (c .before .enum-told10 .given .1) (c .numbered13 .ensures)
+returns-14 c = rw (c .before .enum-told9 .given .1) (c .numbered12 .ensures)
 
 returns-15 : tie.Need-returns-15
-returns-15 c = rw (c .before .enum-told11 .given .1) (c .numbered14 .ensures)
+returns-15 c = rw (c .before .enum-told10 .given .1) (c .numbered13 .ensures)
 
 returns-16 : tie.Need-returns-16
-returns-16 c = rw (c .before .enum-told12 .given .1) (c .numbered15 .ensures)
+returns-16 c = rw (c .before .enum-told11 .given .1) (c .numbered14 .ensures)
 
 returns-17 : tie.Need-returns-17
-returns-17 c = rw (c .before .enum-told13 .given .1) (c .numbered16 .ensures)
+returns-17 c = rw (c .before .enum-told12 .given .1) (c .numbered15 .ensures)
 
 returns-18 : tie.Need-returns-18
-returns-18 c = rw (c .before .enum-told14 .given .1) (c .numbered17 .ensures)
+returns-18 c = rw (c .before .enum-told13 .given .1) (c .numbered16 .ensures)
 
 returns-19 : tie.Need-returns-19
-returns-19 c = rw (c .before .enum-told15 .given .1) (c .numbered18 .ensures)
+returns-19 c = rw (c .before .enum-told14 .given .1) (c .numbered17 .ensures)
+
+returns-20 : tie.Need-returns-20
+returns-20 c = rw (c .before .enum-told15 .given .1) (c .numbered18 .ensures)
+
+returns-21 : tie.Need-returns-21
+returns-21 c = rw (c .before .enum-told16 .given .1) (c .numbered19 .ensures)
+
+returns-22 : tie.Need-returns-22
+returns-22 c = rw (c .before .before .r6 .given .1) (c .questioned2 .ensures)
 
 pub tell-spec : {M : Type 1} → statement M
 tell-spec =
@@ -191,6 +218,8 @@ tell-spec =
     enum-known-r-3
     numbered-requires-8
     enum-known-r-4
+    questioned-requires
+    enum-known-r-5
     enum-told-6
     numbered-requires-9
     enum-told-7
@@ -211,6 +240,10 @@ tell-spec =
     numbered-requires-17
     enum-told-15
     numbered-requires-18
+    enum-told-16
+    numbered-requires-19
+    enum-known-r-6
+    questioned-requires-2
     returns
     returns-2
     returns-3
@@ -229,4 +262,7 @@ tell-spec =
     returns-16
     returns-17
     returns-18
-    returns-19)
+    returns-19
+    returns-20
+    returns-21
+    returns-22)

@@ -1,0 +1,10 @@
+pub mod Passes
+pub mod Agree
+pub mod Look
+pub mod Orders
+pub mod Asking
+pub mod Changing
+pub mod Answers
+pub mod Many
+pub mod Changes
+pub mod Examples
