@@ -25,6 +25,7 @@ tried() {
 }
 tried desk.c c99
 tried entries.c c11
+tried counts.c c11
 tried limits.c c11
 tried caller.cpp c++11
 

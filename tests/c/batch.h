@@ -15,8 +15,27 @@
 
 _Static_assert(sizeof(size_t) == 8 && sizeof(merkazobi_answer) == 40, "the numbers of a call are the library's own");
 
-enum { WANTS, HELD, LEAST, CHECK, BUILD, VERDICT, READ, SECTION, WRITE, LIST, OPEN, REQUEST, PLAN, ENTRIES };
-enum { MOST_SLICES = 4 };
+enum {
+    WANTS,
+    HELD,
+    LEAST,
+    CHECK,
+    BUILD,
+    VERDICT,
+    COUNTS_FILL,
+    COUNTS_HELD,
+    COUNTS_HELD_MANY,
+    COUNTS_CHANGE,
+    READ,
+    SECTION,
+    WRITE,
+    LIST,
+    OPEN,
+    REQUEST,
+    PLAN,
+    ENTRIES
+};
+enum { MOST_SLICES = 5 };
 
 /* How wide the elements of each entry's slices are; 0 where it lends no more. */
 static const size_t widths[ENTRIES][MOST_SLICES + 1] = {
@@ -25,6 +44,10 @@ static const size_t widths[ENTRIES][MOST_SLICES + 1] = {
     [CHECK] = {2, 2},
     [BUILD] = {2, 2},
     [VERDICT] = {2, 2, 2},
+    [COUNTS_FILL] = {2, 2, 2},
+    [COUNTS_HELD] = {2, 2, 2},
+    [COUNTS_HELD_MANY] = {2, 2, 2, 2, 2},
+    [COUNTS_CHANGE] = {2, 2, 2},
     [READ] = {1},
     [SECTION] = {1},
     [WRITE] = {2, 2, 2, 1},

@@ -6,6 +6,25 @@ static merkazobi_answer only(size_t number)
     return (merkazobi_answer){.first = number};
 }
 
+/* The running counts; what is given is handed on in its whole width. */
+static merkazobi_answer counts(size_t entry, const size_t *given, const slice *of)
+{
+    const slice plan = of[0], parts = of[1], list = of[2];
+    switch (entry) {
+    case COUNTS_FILL:
+        return merkazobi_counts_fill(plan.at, plan.lent, parts.at, parts.lent, list.at, list.lent);
+    case COUNTS_HELD:
+        return merkazobi_counts_held(plan.at, plan.lent, parts.at, parts.lent, list.at, list.lent, given[0], given[1],
+                                     given[2]);
+    case COUNTS_HELD_MANY:
+        return merkazobi_counts_held_many(plan.at, plan.lent, parts.at, parts.lent, list.at, list.lent, of[3].at,
+                                          of[3].lent, of[4].at, of[4].lent);
+    default:
+        return merkazobi_counts_change(plan.at, plan.lent, parts.at, parts.lent, list.at, list.lent, given[0],
+                                       given[1]);
+    }
+}
+
 static merkazobi_answer answer(size_t entry, const size_t *given, const slice *of)
 {
     const size_t one = given[0], two = given[1], three = given[2];
@@ -22,6 +41,11 @@ static merkazobi_answer answer(size_t entry, const size_t *given, const slice *o
         return merkazobi_build(of[0].at, of[0].lent, of[1].at, of[1].lent);
     case VERDICT:
         return merkazobi_verdict(of[0].at, of[0].lent, of[1].at, of[1].lent, of[2].at, of[2].lent, one);
+    case COUNTS_FILL:
+    case COUNTS_HELD:
+    case COUNTS_HELD_MANY:
+    case COUNTS_CHANGE:
+        return counts(entry, given, of);
     case READ:
         return merkazobi_read(of[0].at, of[0].lent);
     case SECTION:

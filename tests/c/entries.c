@@ -1,12 +1,10 @@
-/* Each entry with all five numbers of its answers, and with all that is lent to it: after a call there stands what it
-   is to write, and else what stood there before, in the inputs and behind the outputs too. Examples and refusal numbers
-   are document 01's; the numbers are not taken from the header, which limits.c tries against the library. */
-#include <string.h>
-
+/* Each entry, but for those over running counts (counts.c), with all five numbers of its answers, and with all that is
+   lent to it: after a call there stands what it is to write, and else what stood there before, in the inputs and behind
+   the outputs too. Examples and refusal numbers are those of documents 01 and 02; the numbers are not taken from the
+   header, which limits.c tries against the library. */
 #include "expect.h"
 #include "merkazobi.h"
 
-enum { PATTERN = 0xA5 };
 enum { PARTS = 9, TASKS = 8, TICKS = 8, RUNS = 10, FILE_BYTES = 70, PLACES = MERKAZOBI_PLACES };
 
 /* P1 with the tasks of V1 and V2, its file's contents and its listing. */
@@ -33,7 +31,7 @@ static const char w1_listing[] = "frame 4\n"
                                  "partition 2 wants 2 in 4 least 2\n"
                                  "task 1 partition 1 pass 4\n";
 
-/* All that is lent, with room behind, and what has to stand there after the call. */
+/* All that is lent, with room behind. */
 typedef struct {
     uint16_t parts[2 * PARTS], tasks[2 * TASKS], plan[2 * TICKS], runs[2 * RUNS];
     uint16_t ticks[2 * TICKS];
@@ -42,11 +40,8 @@ typedef struct {
     merkazobi_desk desk[2];
     merkazobi_job jobs[PLACES + 1];
 } memory;
-static memory lent, wanted;
 
-/* One number of what is lent is another. */
-#define SET(where, number) (lent.where = wanted.where = (number))
-#define PUT(where, from) (memcpy(lent.where, from, sizeof from), memcpy(wanted.where, from, sizeof from))
+#include "lent.h"
 
 static uint8_t *put_numbers(uint8_t *file, const uint16_t *numbers, size_t count)
 {
@@ -69,28 +64,6 @@ static void begin(void)
     bodies = put_numbers(put_numbers(bodies, parts, PARTS), tasks, TASKS);
     put_numbers(bodies, runs, RUNS);
     memcpy(&wanted, &lent, sizeof lent);
-}
-
-static void ends(const char *what, merkazobi_answer r, merkazobi_answer told)
-{
-    if (memcmp(&r, &told, sizeof r) != 0) {
-        printf("%s: %zu (%zu %zu %zu %zu), not %zu (%zu %zu %zu %zu)\n", what, r.number, r.first, r.second, r.third,
-               r.fourth, told.number, told.first, told.second, told.third, told.fourth);
-        failures++;
-    }
-    const uint8_t *found = (const uint8_t *)&lent, *stands = (const uint8_t *)&wanted;
-    size_t at = 0;
-    while (at < sizeof lent && found[at] == stands[at])
-        at++;
-    if (at < sizeof lent) {
-        printf("%s: byte %zu of what is lent is %d, not %d\n", what, at, found[at], stands[at]);
-        failures++;
-    }
-}
-
-static merkazobi_answer told(size_t number, size_t first)
-{
-    return (merkazobi_answer){number, first, 0, 0, 0};
 }
 
 /* ---- Shares and plans. */

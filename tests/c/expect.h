@@ -3,7 +3,7 @@
 
 static int failures;
 
-static void expect(const char *what, size_t found, size_t wanted)
+static inline void expect(const char *what, size_t found, size_t wanted)
 {
     if (found != wanted) {
         printf("%s: %zu, not %zu\n", what, found, wanted);

@@ -11,6 +11,9 @@ static uint16_t parts[MERKAZOBI_PART_NUMBERS * (MERKAZOBI_PARTITIONS + 1)];
 static uint16_t tasks[MERKAZOBI_TASK_NUMBERS * (MERKAZOBI_TASKS + 1)];
 static uint16_t runs[MERKAZOBI_RUN_NUMBERS * (MERKAZOBI_RUNS + 1)];
 static uint16_t plan[MERKAZOBI_FRAME + 1];
+static uint16_t list[MERKAZOBI_COUNT_NUMBERS];
+static uint16_t questions[MERKAZOBI_QUESTION_NUMBERS * MERKAZOBI_PARTITIONS];
+static uint16_t answers[MERKAZOBI_PARTITIONS];
 static uint8_t file[MERKAZOBI_FILE_BYTES];
 static uint8_t text[MERKAZOBI_LISTING_BYTES];
 static merkazobi_job jobs[MERKAZOBI_PLACES + 1];
@@ -21,10 +24,12 @@ enum {
     TASKS = MERKAZOBI_TASK_NUMBERS * MERKAZOBI_TASKS,
     RUNS = MERKAZOBI_RUN_NUMBERS * MERKAZOBI_RUNS,
     FRAME = MERKAZOBI_FRAME,
+    LIST = MERKAZOBI_COUNT_NUMBERS,
+    QUESTIONS = MERKAZOBI_QUESTION_NUMBERS * MERKAZOBI_PARTITIONS,
     PLACES = MERKAZOBI_PLACES,
 };
 
-/* Partitions by turns, a tick each, as ticks and as runs. */
+/* Partitions by turns, a tick each, as ticks and as runs; of each a stretch across the frame's end is asked. */
 static void fill(void)
 {
     for (size_t i = 0; i <= MERKAZOBI_PARTITIONS; i++)
@@ -35,6 +40,8 @@ static void fill(void)
         plan[i] = (uint16_t)(1 + i % MERKAZOBI_PARTITIONS);
     for (size_t i = 0; i <= MERKAZOBI_RUNS; i++)
         memcpy(&runs[MERKAZOBI_RUN_NUMBERS * i], (uint16_t[]){plan[i % FRAME], 1}, 4);
+    for (size_t i = 0; i < MERKAZOBI_PARTITIONS; i++)
+        memcpy(&questions[MERKAZOBI_QUESTION_NUMBERS * i], (uint16_t[]){(uint16_t)(1 + i), FRAME - 1, FRAME}, 6);
 }
 
 /* A table of one record. */
@@ -52,6 +59,27 @@ static size_t judged(uint16_t c, uint16_t d, uint16_t t)
 static size_t written(size_t frame, size_t part_numbers, size_t task_numbers, size_t run_numbers, size_t bytes)
 {
     return merkazobi_write(frame, parts, part_numbers, tasks, task_numbers, runs, run_numbers, file, bytes).number;
+}
+
+static size_t filled(size_t ticks, size_t part_numbers, size_t list_numbers)
+{
+    return merkazobi_counts_fill(plan, ticks, parts, part_numbers, list, list_numbers).number;
+}
+
+static size_t held(size_t partition, size_t start, size_t length)
+{
+    return merkazobi_counts_held(plan, FRAME, parts, PARTS, list, LIST, partition, start, length).number;
+}
+
+static merkazobi_answer held_many(size_t question_numbers, size_t answer_numbers)
+{
+    return merkazobi_counts_held_many(plan, FRAME, parts, PARTS, list, LIST, questions, question_numbers, answers,
+                                      answer_numbers);
+}
+
+static size_t changed(size_t tick, size_t owner)
+{
+    return merkazobi_counts_change(plan, FRAME, parts, PARTS, list, LIST, tick, owner).number;
 }
 
 static size_t opened(uint32_t count, size_t places)
@@ -92,6 +120,28 @@ static void limits(void)
     opened(1, PLACES);
     expect("time", asked(0, 1, MERKAZOBI_TIME), MERKAZOBI_GOOD);
     expect("a later deadline", asked(0, 1, MERKAZOBI_TIME + 1), MERKAZOBI_NUMBER);
+}
+
+static void count_limits(void)
+{
+    expect("the longest list", merkazobi_counts_fill(plan, FRAME, parts, PARTS, list, LIST).first, LIST);
+    expect("a number less", filled(FRAME, PARTS, LIST - 1), MERKAZOBI_OUTPUT);
+    expect("a partition more to count", filled(FRAME, PARTS + 3, LIST), MERKAZOBI_LIMITS);
+    expect("a tick more to count", filled(FRAME + 1, PARTS, LIST), MERKAZOBI_LIMITS);
+    expect("the longest stretch", held(MERKAZOBI_PARTITIONS, FRAME - 1, FRAME), MERKAZOBI_GOOD);
+    expect("a longer stretch", held(MERKAZOBI_PARTITIONS, FRAME - 1, FRAME + 1), MERKAZOBI_STRETCH);
+    expect("a later start", held(MERKAZOBI_PARTITIONS, FRAME, 0), MERKAZOBI_STRETCH);
+    expect("a partition more asked for", held(MERKAZOBI_PARTITIONS + 1, 0, 0), MERKAZOBI_RUN);
+    expect("questions", held_many(QUESTIONS, MERKAZOBI_PARTITIONS).first, MERKAZOBI_PARTITIONS);
+    expect("the last answer", answers[MERKAZOBI_PARTITIONS - 1], FRAME / MERKAZOBI_PARTITIONS);
+    expect("an answer less", held_many(QUESTIONS, MERKAZOBI_PARTITIONS - 1).number, MERKAZOBI_OUTPUT);
+    expect("a question", held_many(MERKAZOBI_QUESTION_NUMBERS, 1).first, 1);
+    expect("a number less than a question", held_many(MERKAZOBI_QUESTION_NUMBERS - 1, 1).number, MERKAZOBI_LIMITS);
+    expect("the last tick", changed(FRAME - 1, MERKAZOBI_PARTITIONS), MERKAZOBI_GOOD);
+    expect("a later tick", changed(FRAME, MERKAZOBI_PARTITIONS), MERKAZOBI_STRETCH);
+    expect("an owner more", changed(FRAME - 1, MERKAZOBI_PARTITIONS + 1), MERKAZOBI_RUN);
+    list[LIST - 1]++;
+    expect("another last number", held(1, 0, 0), MERKAZOBI_COUNTS);
 }
 
 /* The numbers that nothing else here comes to. */
@@ -138,6 +188,29 @@ static void nulls(void)
     expect("ticks of no plan", merkazobi_least(NULL, 0, 1, 7), 0);
 }
 
+static void count_nulls(void)
+{
+    filled(FRAME, PARTS, LIST);
+    expect("null, fill", merkazobi_counts_fill(NULL, 0, NULL, 0, NULL, 0).number, MERKAZOBI_LIMITS);
+    expect("null, held", merkazobi_counts_held(NULL, 0, NULL, 0, NULL, 0, 1, 0, 0).number, MERKAZOBI_LIMITS);
+    expect("null, held of many", merkazobi_counts_held_many(NULL, 0, NULL, 0, NULL, 0, NULL, 0, NULL, 0).number,
+           MERKAZOBI_LIMITS);
+    expect("null, change", merkazobi_counts_change(NULL, 0, NULL, 0, NULL, 0, 0, 1).number, MERKAZOBI_LIMITS);
+    expect("null table, fill", merkazobi_counts_fill(plan, FRAME, NULL, 0, list, LIST).number, MERKAZOBI_LIMITS);
+    expect("null table, change", merkazobi_counts_change(plan, FRAME, NULL, 0, list, LIST, 0, 1).number,
+           MERKAZOBI_LIMITS);
+    expect("null list, fill", merkazobi_counts_fill(plan, FRAME, parts, PARTS, NULL, 0).number, MERKAZOBI_OUTPUT);
+    expect("null list, held", merkazobi_counts_held(plan, FRAME, parts, PARTS, NULL, 0, 1, 0, 0).number,
+           MERKAZOBI_OUTPUT);
+    expect("null list, change", merkazobi_counts_change(plan, FRAME, parts, PARTS, NULL, 0, 0, 1).number,
+           MERKAZOBI_OUTPUT);
+    expect("null questions", merkazobi_counts_held_many(plan, FRAME, parts, PARTS, list, LIST, NULL, 0, NULL, 0).number,
+           MERKAZOBI_GOOD);
+    expect("null answers",
+           merkazobi_counts_held_many(plan, FRAME, parts, PARTS, list, LIST, questions, QUESTIONS, NULL, 0).number,
+           MERKAZOBI_OUTPUT);
+}
+
 /* What each entry takes at most, in bytes below the caller's stack pointer: the return address and arguments that no
    register holds are among them. Measured at the largest inputs, and rounded up to a multiple of 64. */
 enum {
@@ -147,6 +220,10 @@ enum {
     BUILD_STACK = 256,
     CHECK_STACK = 320,
     VERDICT_STACK = 448,
+    COUNTS_FILL_STACK = 256,
+    COUNTS_HELD_STACK = 704,
+    COUNTS_HELD_MANY_STACK = 704,
+    COUNTS_CHANGE_STACK = 704,
     READ_STACK = 18112,
     SECTION_STACK = 18112,
     WRITE_STACK = 448,
@@ -188,6 +265,19 @@ static void within(const char *call, size_t found, size_t most, size_t header)
 /* The first call may go through the loader, to find a function of the C library; the second is measured. */
 #define STACK(most, header, call) ((void)(call), paint(), (void)(call), within(#call, taken(), most, header))
 
+/* The change is to the next partition, so that both calls of it give the tick to another. */
+static void count_stack(void)
+{
+    STACK(COUNTS_FILL_STACK, MERKAZOBI_STACK, merkazobi_counts_fill(plan, FRAME, parts, PARTS, list, LIST));
+    STACK(COUNTS_HELD_STACK, MERKAZOBI_STACK,
+          merkazobi_counts_held(plan, FRAME, parts, PARTS, list, LIST, MERKAZOBI_PARTITIONS, FRAME - 1, FRAME));
+    STACK(COUNTS_HELD_MANY_STACK, MERKAZOBI_STACK,
+          merkazobi_counts_held_many(plan, FRAME, parts, PARTS, list, LIST, questions, QUESTIONS, answers,
+                                     MERKAZOBI_PARTITIONS));
+    STACK(COUNTS_CHANGE_STACK, MERKAZOBI_STACK,
+          merkazobi_counts_change(plan, FRAME, parts, PARTS, list, LIST, 0, 1U + plan[0] % MERKAZOBI_PARTITIONS));
+}
+
 static void stack(void)
 {
     STACK(WANTS_STACK, MERKAZOBI_STACK, merkazobi_wants(4096, 999, 1000));
@@ -210,8 +300,11 @@ int main(void)
 {
     fill();
     limits();
+    count_limits();
     refusals();
     nulls();
+    count_nulls();
     stack();
+    count_stack();
     return failures != 0;
 }

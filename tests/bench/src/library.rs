@@ -8,6 +8,7 @@ compile_error!("the archive is for x86-64, and a time under an emulator means no
 
 #[link(name = "api", kind = "static")]
 extern "C" {
+    fn merkazobi_held(plan: *const u16, ticks: usize, p: u16, s: u32, n: u32) -> usize;
     fn merkazobi_build(
         parts: *const u16,
         part_numbers: usize,
@@ -29,6 +30,18 @@ extern "C" {
         task_numbers: usize,
         place: usize,
     ) -> Answer;
+    fn merkazobi_counts_held_many(
+        plan: *const u16,
+        ticks: usize,
+        parts: *const u16,
+        part_numbers: usize,
+        list: *const u16,
+        list_numbers: usize,
+        questions: *const u16,
+        question_numbers: usize,
+        answers: *mut u16,
+        answer_numbers: usize,
+    ) -> Answer;
     fn merkazobi_list(file: *const u8, bytes: usize, out: *mut u8, out_bytes: usize) -> Answer;
     fn merkazobi_request(
         desk: *mut Desk,
@@ -38,6 +51,10 @@ extern "C" {
         c: u32,
         d: u32,
     ) -> Answer;
+}
+
+pub fn held(plan: &[u16], p: u16, s: u32, n: u32) -> u64 {
+    unsafe { merkazobi_held(plan.as_ptr(), plan.len(), p, s, n) as u64 }
 }
 
 pub fn build(parts: &[u16], out: &mut [u16]) -> Answer {
@@ -58,6 +75,29 @@ pub fn verdict(plan: &[u16], parts: &[u16], tasks: &[u16], place: usize) -> Answ
             tasks.as_ptr(),
             tasks.len(),
             place,
+        )
+    }
+}
+
+pub fn counts_held_many(
+    plan: &[u16],
+    parts: &[u16],
+    list: &[u16],
+    questions: &[u16],
+    answers: &mut [u16],
+) -> Answer {
+    unsafe {
+        merkazobi_counts_held_many(
+            plan.as_ptr(),
+            plan.len(),
+            parts.as_ptr(),
+            parts.len(),
+            list.as_ptr(),
+            list.len(),
+            questions.as_ptr(),
+            questions.len(),
+            answers.as_mut_ptr(),
+            answers.len(),
         )
     }
 }

@@ -1,9 +1,11 @@
 //! Times the library's entries beside the second program's:
-//! `NAME  library ns/call  second ns/call  ratio`, one line each.
+//! `NAME  library ns/call  second ns/call  ratio`, one line each; of `counts` the name says what
+//! stands in the second program's place.
 //! The entries are named as arguments; all, where none is named.
 
 mod build;
 mod check;
+mod counts;
 mod desk;
 mod library;
 mod list;
@@ -18,6 +20,7 @@ const ENTRIES: &[(&str, fn())] = &[
     ("verdict", verdict::run),
     ("list", list::run),
     ("desk", desk::run),
+    ("counts", counts::run),
 ];
 
 fn main() -> ExitCode {

@@ -15,7 +15,8 @@ pub fn line<O: PartialEq + std::fmt::Debug>(
     let library = nanoseconds(library);
     let second = nanoseconds(second);
     let ratio = library / second;
-    println!("{name:<24}  {library:>14.0}  {second:>14.0}  {ratio:>8.2}");
+    let digits = if ratio < 0.1 { 4 } else { 2 };
+    println!("{name:<24}  {library:>14.0}  {second:>14.0}  {ratio:>8.digits$}");
 }
 
 /// Nanoseconds a call, over as many calls as take long enough to be measured.

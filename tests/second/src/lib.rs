@@ -1,8 +1,9 @@
-//! The rules of document 01 once more, with ask 1 of document 02, and of the share table, by plain
-//! counting and trying, to compare the library and the planner against.
+//! The rules of document 01 once more, with asks 1 and 2 of document 02, and of the share table, by
+//! plain counting and trying, to compare the library and the planner against.
 
 pub mod answer;
 pub mod builder;
+pub mod counts;
 pub mod desk;
 pub mod file;
 pub mod inputs;

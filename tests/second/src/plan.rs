@@ -65,11 +65,17 @@ pub fn check(plan: &[u16], parts: &[u16]) -> Answer {
 }
 
 fn checked(plan: &[u16], parts: &[u16]) -> Result<(), Answer> {
+    let partitions = by_the_rules(plan, parts)?;
+    serves(plan, &partitions)
+}
+
+/// The partitions of a plan that comes in, whether it serves or not: 3, 6, 8.
+pub(crate) fn by_the_rules(plan: &[u16], parts: &[u16]) -> Result<Vec<Partition>, Answer> {
     let partitions = records::partitions(parts)?;
     records::frame(plan.len() as u64)?;
     records::partition_rules(&partitions, plan.len())?;
     records::tick_rules(plan, partitions.len())?;
-    serves(plan, &partitions)
+    Ok(partitions)
 }
 
 /// "every stretch of m consecutive ticks of the repeated plan, from any start and across the

@@ -35,6 +35,14 @@ pub struct Run {
     pub length: u64,
 }
 
+/// A stretch asked for: how many of the `length` ticks from `start` on are the partition's.
+#[derive(Clone, Copy, Debug)]
+pub struct Question {
+    pub partition: usize,
+    pub start: usize,
+    pub length: usize,
+}
+
 /// The records of a flat table. One that is no whole number of records has no count: 3.
 fn whole<const N: usize>(numbers: &[u16]) -> Result<Vec<[u16; N]>, Answer> {
     let mut records = Vec::new();
@@ -82,6 +90,19 @@ pub fn runs(numbers: &[u16]) -> Result<Vec<Run>, Answer> {
         length: u64::from(length),
     };
     Ok(records.into_iter().map(run).collect())
+}
+
+/// As many as are asked, or none.
+pub fn questions(numbers: &[u16]) -> Result<Vec<Question>, Answer> {
+    let question = |record: [u16; 3]| {
+        let [partition, start, length] = record.map(usize::from);
+        Question {
+            partition,
+            start,
+            length,
+        }
+    };
+    Ok(whole(numbers)?.into_iter().map(question).collect())
 }
 
 /// "frame 1 to 4,096 ticks".

@@ -1,5 +1,6 @@
 //! Seeded inputs for the comparisons.
 
+pub mod counts;
 pub mod faults;
 pub mod files;
 pub mod jobs;

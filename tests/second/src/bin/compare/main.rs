@@ -3,6 +3,7 @@
 
 mod batch;
 mod build;
+mod counts;
 mod desk;
 mod file;
 mod library;
@@ -30,8 +31,10 @@ use settings::Settings;
 use show::Tally;
 use trial::{Named, Passed, Trial};
 
+/// What a trial doesn't need of its time falls to the later ones: the short ones come first.
 fn trials() -> Vec<Named> {
     [
+        counts::TRIALS,
         wants::TRIALS,
         service::TRIALS,
         build::TRIALS,

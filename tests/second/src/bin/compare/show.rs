@@ -15,13 +15,29 @@ type Names = (
 const TEXT: &str = "text";
 const LINE: &str = "plan file or line";
 
-const ENTRIES: [Names; 13] = [
+const ENTRIES: [Names; 17] = [
     ("wants", &["m", "num", "den"], &[]),
     ("held", &["p", "s", "n"], &["plan"]),
     ("least", &["p", "t"], &["plan"]),
     ("check", &[], &["plan", "parts"]),
     ("build", &[], &["parts", "out"]),
     ("verdict", &["place"], &["plan", "parts", "tasks"]),
+    ("counts_fill", &[], &["plan", "parts", "list"]),
+    (
+        "counts_held",
+        &["partition", "start", "length"],
+        &["plan", "parts", "list"],
+    ),
+    (
+        "counts_held_many",
+        &[],
+        &["plan", "parts", "list", "questions", "answers"],
+    ),
+    (
+        "counts_change",
+        &["tick", "owner"],
+        &["plan", "parts", "list"],
+    ),
     ("read", &[], &["file"]),
     ("section", &["which"], &["file"]),
     ("write", &["frame"], &["parts", "tasks", "runs", "out"]),
