@@ -12,10 +12,11 @@
 
    Cost: `merkazobi_read` and `merkazobi_section` take up to MERKAZOBI_READ_STACK bytes of stack, `merkazobi_list` up
    to MERKAZOBI_LIST_STACK, every other call up to MERKAZOBI_STACK. At the limits a build, read or write takes well
-   under a millisecond; a check up to some 0.3 s (16 partitions whose cycle is a frame of 4,096); a verdict for D
-   4,096 in that frame 0.2 s with a few higher tasks, but half a minute where nearly every tick is a scheduling point;
-   a listing checks its plan and judges every task, so that one of 128 such tasks takes about an hour. A call of the
-   desk goes through its 64 places a few times: microseconds, whatever is asked. */
+   under a millisecond; a call over running counts walks plan, list (65,552 numbers at most) and questions; a check up to
+   some 0.3 s (16 partitions whose cycle is a frame of 4,096); a verdict for D 4,096 in that frame 0.2 s with a few higher tasks,
+   but half a minute where nearly every tick is a scheduling point; a listing checks its plan and judges every task, so
+   that one of 128 such tasks takes about an hour. A call of the desk goes through its 64 places a few times:
+   microseconds, whatever is asked. */
 #ifndef MERKAZOBI_H
 #define MERKAZOBI_H
 
@@ -27,7 +28,8 @@ extern "C" {
 #endif
 
 /* Limits: "Partitions 1 to 16, tasks 0 to 128, frame 1 to 4,096 ticks, runs 1 to 4,096. Cycle 1 to 4,096. Share num/den
-   with 1 <= num <= den <= 1,000. A task has 1 <= C <= D <= T <= 4,096". */
+   with 1 <= num <= den <= 1,000. A task has 1 <= C <= D <= T <= 4,096". "Wherever a plan comes in, a partition whose
+   cycle is longer than F is a bad record (6)." */
 #define MERKAZOBI_PARTITIONS 16
 #define MERKAZOBI_TASKS 128
 #define MERKAZOBI_FRAME 4096
@@ -52,6 +54,7 @@ extern "C" {
 #define MERKAZOBI_PART_NUMBERS 3
 #define MERKAZOBI_TASK_NUMBERS 4
 #define MERKAZOBI_RUN_NUMBERS 2
+#define MERKAZOBI_QUESTION_NUMBERS 3
 
 /* An output of so many bytes is long enough for any plan file, and for any listing: a line for the frame, each partition
    and each task, of at most 128 bytes each. */
@@ -60,11 +63,15 @@ extern "C" {
                MERKAZOBI_RUN_NUMBERS * MERKAZOBI_RUNS))
 #define MERKAZOBI_LISTING_BYTES (128 * (1 + MERKAZOBI_PARTITIONS + MERKAZOBI_TASKS))
 
+/* A list of so many numbers is long enough for the running counts of any plan. */
+#define MERKAZOBI_COUNT_NUMBERS (MERKAZOBI_PARTITIONS * (MERKAZOBI_FRAME + 1))
+
 #define MERKAZOBI_STACK 1024
 #define MERKAZOBI_READ_STACK 20480
 #define MERKAZOBI_LIST_STACK 49152
 
-/* The refusal numbers. Where several rules are broken the lowest number is told, then the lowest place. */
+/* The refusal numbers. Where several rules are broken the lowest number is told, then the lowest place; place 0, which is
+   of no record, comes after all others of its number. */
 enum {
     MERKAZOBI_GOOD = 0,
     MERKAZOBI_FILE_SHORT = 1, /* file under 16 bytes */
@@ -74,18 +81,22 @@ enum {
     MERKAZOBI_LENGTH = 5,     /* length differs from the contents */
     MERKAZOBI_PARTITION = 6,  /* bad partition; first: its place from 1 */
     MERKAZOBI_TASK = 7,       /* bad task; first: its place from 1, or 0 where the place asked for is not in the table */
-    MERKAZOBI_RUN = 8,        /* bad run or tick; first: its place from 1 */
+    MERKAZOBI_RUN = 8,        /* bad run or tick; first: its place from 1 (a bad plan[k] is k + 1), or 0 where a partition asked for, or a new
+                                 owner, is not in the table; then second: of many questions the place from 1 */
     MERKAZOBI_SERVICE = 9,    /* plan doesn't serve; partition, start, held, wanted */
     MERKAZOBI_HARMONIC = 10,  /* cycles not harmonic */
     MERKAZOBI_TICKS = 11,     /* want of ticks */
-    MERKAZOBI_OUTPUT = 12,    /* output shorter than needed */
+    MERKAZOBI_OUTPUT = 12,    /* output, or a list of running counts, shorter than needed */
     MERKAZOBI_TABLE = 13,     /* job table, clock or count breaks the rules */
     MERKAZOBI_NUMBER = 14,    /* C zero, or C, d or t above 1,000,000 */
     MERKAZOBI_PAST = 15,      /* t before the clock */
     MERKAZOBI_BUSY = 16,      /* busy: ask again when the running job ends */
     MERKAZOBI_FULL = 17,      /* 64 jobs left after dropping */
     MERKAZOBI_NO_PLACE = 18,  /* no place keeps every deadline */
-    MERKAZOBI_TOO_FAR = 19    /* a move would exceed a job's x: proved never to happen */
+    MERKAZOBI_TOO_FAR = 19,   /* a move would exceed a job's x: proved never to happen */
+    MERKAZOBI_COUNTS = 20,    /* the running counts disagree with the plan */
+    MERKAZOBI_STRETCH = 26    /* a tick outside the plan, a start not below the frame, or a stretch longer than it;
+                                 second: of many questions the place from 1 */
 };
 
 /* What a call answers. number is 0 where the call is not refused, else the refusal's number; first to fourth hold what is
@@ -126,6 +137,48 @@ merkazobi_answer merkazobi_check(const uint16_t *plan, size_t ticks, const uint1
    place 0, after the other 7s". */
 merkazobi_answer merkazobi_verdict(const uint16_t *plan, size_t ticks, const uint16_t *parts, size_t part_numbers,
                                    const uint16_t *tasks, size_t task_numbers, size_t place);
+
+/* ---- Running counts kept beside the plan: "for each partition the count of own ticks before each tick from 0 to F, in a
+   list the caller lends", partition by partition. Partition p's count before tick k stands at (p - 1) * (F + 1) + k, so
+   the list has partitions * (F + 1) numbers. What stands behind them in a longer list is neither read nor written. A plan
+   need not serve its table here (there is no 9), so half-done ones are counted too.
+
+   Of each call ticks is the frame F and part_numbers is 3 for each partition. Refusals come in the order 3, 6, 8, 8 with
+   first 0, 12, 20, 26. "None of them changes anything." A list that was filled and then changed only by
+   merkazobi_counts_change is never refused with 20, as long as the plan is changed in no other way. 20 tells that it was,
+   or that the list is another plan's: then fill it again, nothing else mends it. (Cycles and shares don't matter to it.)
+
+   20 is judged at each call, for all of the list, so that one question, and one change, costs more than a fill, and more
+   than merkazobi_held takes to walk a stretch. It is merkazobi_counts_held_many that makes questions cheap, from some
+   dozens of them on. */
+
+/* Fills the list from the plan, whatever it held. first: how many numbers it has. Refusals 3, 6, 8, 12. */
+merkazobi_answer merkazobi_counts_fill(const uint16_t *plan, size_t ticks, const uint16_t *parts, size_t part_numbers,
+                                       uint16_t *list, size_t list_numbers);
+
+/* How many of the length ticks from tick start on are partition's, across the frame's end too. first: the count, which is
+   that of merkazobi_held (which takes any start and length, and 0 for idle). start is 0 to F - 1, length 0 to F. Refusals
+   3, 6, 8 (first 0: no such partition; partition 0 is none), 12 (the list), 20, 26. */
+merkazobi_answer merkazobi_counts_held(const uint16_t *plan, size_t ticks, const uint16_t *parts, size_t part_numbers,
+                                       const uint16_t *list, size_t list_numbers, size_t partition, size_t start,
+                                       size_t length);
+
+/* The same of many stretches in one call, as many as you like: the list is held against the plan once, then each answer
+   is two or three numbers of it. questions has 3 numbers for each question (partition, start, length), answers gets a
+   number for each, in their order; a longer one keeps its tail. first: how many. Refusals 3, 6, 8, 12, 20, 26 in the
+   same order; 3 also where question_numbers is no multiple of 3, 12 also where answers has fewer numbers than there are
+   questions. 8 with first 0, and 26, have as second the lowest place, from 1, among the questions that break that rule.
+   A refused call answers no question. No questions at all is good, but plan and list are judged then too. */
+merkazobi_answer merkazobi_counts_held_many(const uint16_t *plan, size_t ticks, const uint16_t *parts,
+                                            size_t part_numbers, const uint16_t *list, size_t list_numbers,
+                                            const uint16_t *questions, size_t question_numbers, uint16_t *answers,
+                                            size_t answer_numbers);
+
+/* Gives tick (0 to F - 1) to owner, in plan and list: "changes that tick and only the later counts of the old and the new
+   owner". Owner 0 makes it idle; where nothing is refused, the owner that it has already changes nothing. first to fourth
+   are 0. Refusals 3, 6, 8 (first 0: no such owner), 12 (the list), 20, 26. */
+merkazobi_answer merkazobi_counts_change(uint16_t *plan, size_t ticks, const uint16_t *parts, size_t part_numbers,
+                                         uint16_t *list, size_t list_numbers, size_t tick, size_t owner);
 
 /* ---- The plan file (docs/FORMAT.md). */
 
