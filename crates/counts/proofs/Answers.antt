@@ -37,8 +37,8 @@ pub list-is : ListIs
 list-is plan ps = (
   listed-length (countAt plan) (needed plan ps),
   λ p k h.
-      let l : p * rowWidth plan ≤ needed plan ps = mul-le-mul-right (rowWidth plan) (h .1) in
-      listed-at (countAt plan) (needed plan ps) (rowOf plan p + k) (omega (arith, row-end (rowWidth plan) p (h .0), h .2)) ∙ count-row plan p (h .0) k (h .2),
+      let l : p * rowWidth plan ≤ needed plan ps = mul-le-mul-right (rowWidth plan) (h .named .1) in
+      listed-at (countAt plan) (needed plan ps) (rowOf plan p + k) (omega (arith, row-end (rowWidth plan) p (h .named .0), h .upto)) ∙ count-row plan p (h .named .0) k (h .upto),
 )
 
 -- what begins with the list is the plan's

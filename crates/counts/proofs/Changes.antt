@@ -1,5 +1,5 @@
 -- What a change means, and every statement with its proof. Assumes nothing.
-use Prim.Native.Nat.{ℕ, _+_, _-_, _≤_, _<_}
+use Prim.Native.Nat.{ℕ, _+_, _≤_, _<_}
 use mathlib.Core.Path.{_≡_, refl, sym, ap, _∙_}
 use mathlib.Core.Logic.{inl, inr}
 use mathlib.Core.Bool.{true, false, true≢false, _&&_}
@@ -70,17 +70,17 @@ module _ (plan ps list plan′ o : List ℕ) (tick owner : ℕ) (c : Changes pla
   -- the numbers of both lists
   module _ (p k : ℕ) (h : HasNumber plan ps p k) where
     number-old : getD list (numberOf plan p k) 0 ≡ held own plan p k 0
-    number-old = kept-row plan ps list p (may .list-is) (h .0) (h .1) .counts k (h .2)
+    number-old = kept-row plan ps list p (may .list-is) (h .named .0) (h .named .1) .counts k (h .upto)
 
     number-new : getD o (numberOf plan p k) 0 ≡ held own (set plan tick owner) p k 0
     number-new =
         let n : held own plan′ p k 0 ≡ held own (set plan tick owner) p k 0 = ap (λ (l : List ℕ). held own l p k 0) (c .1) in
-        let i : getD o (numberOf plan′ p k) 0 ≡ held own plan′ p k 0 = kept-row plan′ ps o p (counted .1) (h .0) (h .1) .counts k (omega (arith, h .2, as-long)) in
+        let i : getD o (numberOf plan′ p k) 0 ≡ held own plan′ p k 0 = kept-row plan′ ps o p (counted .1) (h .named .0) (h .named .1) .counts k (omega (arith, h .upto, as-long)) in
         let i′ : getD o (numberOf plan p k) 0 ≡ held own plan′ p k 0 = rw as-long at i in
         i′ ∙ n
 
     shift : getD o (numberOf plan p k) 0 + only (ltb tick k && eqb (getD plan tick 0) p) 1 ≡ getD list (numberOf plan p k) 0 + only (ltb tick k && eqb owner p) 1
-    shift = rw (number-old, number-new) (moved plan tick owner (may .inside) p k (h .2))
+    shift = rw (number-old, number-new) (moved plan tick owner (may .inside) p k (h .upto))
 
   -- ---- the list as a whole
 

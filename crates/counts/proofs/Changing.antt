@@ -1,5 +1,5 @@
 -- One tick's owner changed: which counts that moves, and the list that is left. Assumes nothing.
-use Prim.Native.Nat.{ℕ, zero, suc, _+_, _-_, _*_, _/_, _%_, _≤_, _<_}
+use Prim.Native.Nat.{ℕ, zero, suc, _+_, _*_, _/_, _%_, _≤_, _<_}
 use mathlib.Core.Path.{_≡_, refl, sym, ap, _∙_}
 use mathlib.Core.Logic.{_⊎_, inl, inr}
 use mathlib.Core.Bool.{true, false, _&&_}
@@ -38,9 +38,6 @@ module _ (plan : List ℕ) (tick new : ℕ) (inside : tick < length plan) where
   more : (l : List ℕ) (p k : ℕ) → k < length l → held own l p (suc k) 0 ≡ held own l p k 0 + only (eqb (getD l k 0) p) 1
   more l p k h = ap (λ (x : ℕ). held own l p x 0) (sym (add-one k)) ∙ sym (count-turn l p k (held own l p k 0) (only (eqb (getD l k 0) p) 1) h refl refl)
 
-  more-old : (p k : ℕ) → k < length plan → held own plan p (suc k) 0 ≡ held own plan p k 0 + only (eqb (getD plan k 0) p) 1
-  more-old p k h = more plan p k h
-
   more-new : (p k : ℕ) → k < length plan → held own plan′ p (suc k) 0 ≡ held own plan′ p k 0 + only (eqb (getD plan′ k 0) p) 1
   more-new p k h = more plan′ p k (omega (arith, length-set plan tick new))
 
@@ -55,13 +52,13 @@ module _ (plan : List ℕ) (tick new : ℕ) (inside : tick < length plan) where
           let ih′ : held own plan′ p k 0 + only (false && eqb old p) 1 ≡ held own plan p k 0 + only (false && eqb new p) 1 = rw (le-ltb tick k (omega arith)) at ih in
           let a : getD plan′ k 0 ≡ new = rw e (getD-set-same plan tick new 0 inside) in
           let b : getD plan k 0 ≡ old = rw e in
-          rw (lt-ltb tick (suc k) (omega arith), more-new p k (omega arith), more-old p k (omega arith), a, b) (omega (arith, ih′))
+          rw (lt-ltb tick (suc k) (omega arith), more-new p k (omega arith), more plan p k (omega arith), a, b) (omega (arith, ih′))
       go (inl m) (no e) ih =
           let ih′ : held own plan′ p k 0 + only (true && eqb old p) 1 ≡ held own plan p k 0 + only (true && eqb new p) 1 = rw (lt-ltb tick k (omega arith)) at ih in
-          rw (lt-ltb tick (suc k) (omega arith), more-new p k (omega arith), more-old p k (omega arith), getD-set-other plan tick k new 0 e) (omega (arith, ih′))
+          rw (lt-ltb tick (suc k) (omega arith), more-new p k (omega arith), more plan p k (omega arith), getD-set-other plan tick k new 0 e) (omega (arith, ih′))
       go (inr m) (no e) ih =
           let ih′ : held own plan′ p k 0 + only (false && eqb old p) 1 ≡ held own plan p k 0 + only (false && eqb new p) 1 = rw (le-ltb tick k (omega arith)) at ih in
-          rw (le-ltb tick (suc k) (omega arith), more-new p k (omega arith), more-old p k (omega arith), getD-set-other plan tick k new 0 e) (omega (arith, ih′))
+          rw (le-ltb tick (suc k) (omega arith), more-new p k (omega arith), more plan p k (omega arith), getD-set-other plan tick k new 0 e) (omega (arith, ih′))
 
   -- a row of neither owner stays
   same-row : (p k : ℕ) → k ≤ length plan → ¬ (old ≡ p) → ¬ (new ≡ p) → held own plan′ p k 0 ≡ held own plan p k 0

@@ -17,7 +17,7 @@ use Rattle.rules.specs.declared.Refusal.the-variants.{Limits, Partition, Tick, 
 use Rattle.rules.specs.declared.Finding.{Finding}
 use Rattle.rules.specs.declared.Finding.the-variants.{Good, Refused}
 use Rattle.rules.proofs.First.{first-every}
-use Rattle.rules.proofs.Tests.{and-parts, pick-first, pick-second}
+use Rattle.rules.proofs.Tests.{and-parts}
 use Rattle.tables.specs.Tables.{unless, tablesOf, ticksJudged}
 use Rattle.tables.specs.Contracts.{firstBadTick}
 use Rattle.tables.proofs.Chain.{not-good, lowest-good, good-lowest, within, good-exactly, unless-parts-hold}
@@ -122,14 +122,6 @@ module _ (plan ps list : List ℕ) (enough : Bool) (n : ℕ) (en : n ≡ partiti
       list-agrees e = rw (← en, le-leb (n * rowWidth plan) (length list) long, not-false enough full, e)
 
 module _ (plan ps list : List ℕ) (enough : Bool) where
-  pub listed-well : listJudged plan ps list enough ≡ Good → Counted plan ps list × (enough ≡ true)
-  unfolding listJudged
-  listed-well e =
-      let a = pick-first (leb (needed plan ps) (length list) && enough) _ _ Good (not-good Output) e in
-      let b = and-parts (leb (needed plan ps) (length list)) enough (a .0) in
-      let d = pick-second (some (fails (agreesAt plan list)) (needed plan ps)) _ _ Good (not-good Counts) (a .1) in
-      (record { long = leb-true _ _ (b .0); counts = first-every (agreesAt plan list) (needed plan ps) (ltb-false _ _ (d .0)) }, b .1)
-
   pub is-listed : Counted plan ps list → enough ≡ true → listJudged plan ps list enough ≡ Good
   is-listed g e = sym (list-agrees plan ps list enough (partitions ps) refl (g .long) (rw e) (all-agree plan list (needed plan ps) (g .counts)))
 
@@ -154,15 +146,6 @@ module _ (plan ps list : List ℕ) (named : Finding) (enough : Bool) (inside : F
   pub call-next : unless Refused (planJudged plan ps) named ≡ Good → unless Refused (listJudged plan ps list enough) inside ≡ countsJudged plan ps list named enough inside
   unfolding countsJudged
   call-next e = let a = both (planJudged plan ps) named e in rw (a .0, a .1)
-
-  pub called : countsJudged plan ps list named enough inside ≡ Good → Called plan ps list named enough inside
-  unfolding countsJudged
-  called e =
-      let a = both (planJudged plan ps) _ e in
-      let b = both named _ (a .1) in
-      let d = both (listJudged plan ps list enough) inside (b .1) in
-      let l = listed-well plan ps list enough (d .0) in
-      record { plans = planned plan ps (a .0); names = b .0; list-is = l .0; room = l .1; insides = d .1 }
 
   pub is-called : Called plan ps list named enough inside → countsJudged plan ps list named enough inside ≡ Good
   unfolding countsJudged
@@ -226,6 +209,17 @@ module _ (plan ps list : List ℕ) (named : Finding) (enough : Bool) (inside : F
           at-counts (planned plan ps ea) eb (leb-true _ _ el) em (λ g. true≢false (sym ed ∙ all-agree plan list (needed plan ps) (g .counts)))
       go Good ea Good eb true el true em false ed (Refused r) ei = at-stretch (planned plan ps ea) eb (counted (leb-true _ _ el) ed) em r ei
       go Good ea Good eb true el true em false ed Good ei = at-none (planned plan ps ea) eb (counted (leb-true _ _ el) ed) em ei
+
+  pub called : countsJudged plan ps list named enough inside ≡ Good → Called plan ps list named enough inside
+  called e = go _ judging e
+    where
+      go : (f : Finding) → Judging plan ps list named enough inside f → f ≡ Good → Called plan ps list named enough inside
+      go f (at-plan r h) e = absurd (not-good r e)
+      go f (at-name g r h) e = absurd (not-good r e)
+      go f (at-length g n l) e = absurd (not-good Output e)
+      go f (at-counts g n l m c) e = absurd (not-good Counts e)
+      go f (at-stretch g n c m r h) e = absurd (not-good r e)
+      go f (at-none g n c m h) e = record { plans = g; names = n; list-is = c; room = m; insides = h }
 
 -- a test failed: its refusal
 pub untested : (b : Bool) (q r : Refusal) → unlessGood b q ≡ Refused r → (b ≡ false) × (r ≡ q)

@@ -1,5 +1,5 @@
 -- What the answers mean. Assumes nothing.
-use Prim.Native.Nat.{ℕ, _+_, _-_, _*_, _%_, _≤_, _<_}
+use Prim.Native.Nat.{ℕ, _+_, _*_, _%_, _≤_, _<_}
 use mathlib.Core.Path.{_≡_}
 use mathlib.Core.Logic.{_↔_, _⊎_}
 use mathlib.Core.List.{List, [], _++_}
@@ -27,9 +27,14 @@ use Rattle.counts.specs.Counts.{rowWidth, rowOf, needed, runningCounts, 
 abbrev pub numberOf : List ℕ → ℕ → ℕ → ℕ
 numberOf plan p k = rowOf plan p + k
 
+-- p is a partition of the table
+abbrev pub Named : List ℕ → ℕ → Type 0
+Named ps p = (1 ≤ p) × (p ≤ partitions ps)
+
 -- a partition of the table, and a tick from 0 to F
-abbrev pub HasNumber : List ℕ → List ℕ → ℕ → ℕ → Type 0
-HasNumber plan ps p k = (1 ≤ p) × (p ≤ partitions ps) × (k ≤ length plan)
+pub record HasNumber (plan ps : List ℕ) (p k : ℕ) : Type 0 where
+  pub named : Named ps p
+  pub upto : k ≤ length plan
 
 -- "for each partition the count of own ticks before each tick from 0 to F": np·(F + 1) numbers, which are these
 abbrev pub ListIs : Type 0
@@ -76,10 +81,7 @@ pub data FilledBy (plan ps : List ℕ) (room : ℕ) : Filling → Type 0 where
 abbrev pub FillAnswers : Type 0
 FillAnswers = (plan ps : List ℕ) (room : ℕ) → FilledBy plan ps room (fillOf plan ps room)
 
--- a partition of the table is named; a stretch from a start in 0 .. F − 1 of a length 0 .. F
-abbrev pub Named : List ℕ → ℕ → Type 0
-Named ps p = (1 ≤ p) × (p ≤ partitions ps)
-
+-- a stretch from a start in 0 .. F − 1 of a length 0 .. F
 abbrev pub Within : List ℕ → ℕ → ℕ → Type 0
 Within plan s n = (s < length plan) × (n ≤ length plan)
 
