@@ -1,5 +1,5 @@
 -- What the answers mean: the list, the plan's refusals, filling and asking. Assumes nothing.
-use Prim.Native.Nat.{ℕ, _+_, _-_, _*_, _≤_}
+use Prim.Native.Nat.{ℕ, _+_, _*_, _≤_}
 use mathlib.Core.Path.{_≡_, refl, sym, ap, _∙_}
 use mathlib.Core.Logic.{_⊎_, inl, inr}
 use mathlib.Core.Bool.{Bool, true, false, true≢false}
@@ -7,7 +7,6 @@ use mathlib.Core.List.{List, [], _++_}
 use native.Mathlib.Nat.{mul-le-mul-right}
 use native.Mathlib.Omega.{arith}
 use lib.ListN.{length, getD, drop, length-append, length-drop, List·getD-append}
-use lib.Seq.{getD-drop, getD-append-add}
 use borrow.Author.Tests.{leb-true, leb-false, eqb-true, eq-eqb}
 use Rattle.rules.specs.Walk.{pick}
 use Rattle.rules.specs.Table.{partitions, goodPart, goodTask, goodTick}
@@ -19,7 +18,7 @@ use Rattle.rules.specs.declared.Finding.{Finding}
 use Rattle.rules.specs.declared.Finding.the-variants.{Good, Refused}
 use Rattle.rules.specs.declared.Filling.{Filling}
 use Rattle.rules.specs.declared.Filling.the-variants as filling
-use Rattle.rules.proofs.Named.{listed-length, listed-at, named-list}
+use Rattle.rules.proofs.Named.{listed-length, listed-at, behind-new, named-list}
 use Rattle.tables.specs.Tables.{withinLimits, lowest, unless, tablesOf, ticksJudged}
 use Rattle.tables.proofs.Chain.{lowest-at}
 use Rattle.plan_check.specs.Check.{scanOf, planCheckOf, checkOf}
@@ -109,16 +108,10 @@ fill-counted plan ps list o n f = (filled plan ps (length list) n (sym (f .0)) .
 
 -- what new numbers leave of an output behind them
 pub new-tail : (new old o : List ℕ) (n : ℕ) → o ≡ new ++ drop n old → length new ≡ n → n ≤ length old → (length o ≡ length old) × ((i : ℕ) → n ≤ i → getD o i 0 ≡ getD old i 0)
-new-tail new old o n e m l = (long, behind)
+new-tail new old o n e m l = (long, λ i h. ap (λ (x : List ℕ). getD x i 0) e ∙ behind-new new old n i m h)
   where
     long : length o ≡ length old
     long = let z : length o ≡ length new + length (drop n old) = ap length e ∙ length-append new (drop n old) in omega (arith, z, length-drop n old)
-
-    behind : (i : ℕ) → n ≤ i → getD o i 0 ≡ getD old i 0
-    behind i h =
-        let q : i ≡ length new + (i - n) = omega arith in
-        let s : n + (i - n) ≡ i = omega arith in
-        ap (λ (x : List ℕ). getD x i 0) e ∙ ap (λ (x : ℕ). getD (new ++ drop n old) x 0) q ∙ getD-append-add new (drop n old) (i - n) 0 ∙ getD-drop n old (i - n) 0 ∙ ap (λ (x : ℕ). getD old x 0) s
 
 pub fill-keeps : FillKeeps
 fill-keeps plan ps list o r f = go r (f .0) (f .1)

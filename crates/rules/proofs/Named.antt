@@ -62,6 +62,13 @@ named-then o o′ h before cur after v w = record { as-long = w .as-long ∙ v .
 pub named-self : (o : ℕ → ℕ) (h : ℕ) (before after : List ℕ) → AsNamed o h before after → AsNamed o h after after
 named-self o h before after w = record { as-long = refl; done = w .done; rest = λ t l. refl }
 
+-- new numbers in front leave what stands behind them
+pub behind-new : (new old : List ℕ) (n t : ℕ) → length new ≡ n → n ≤ t → getD (new ++ drop n old) t 0 ≡ getD old t 0
+behind-new new old n t m l =
+    let e : t ≡ length new + (t - n) = omega arith in
+    let s : n + (t - n) ≡ t = omega arith in
+    ap (λ (x : ℕ). getD (new ++ drop n old) x 0) e ∙ getD-append-add new (drop n old) (t - n) 0 ∙ getD-drop n old (t - n) 0 ∙ ap (λ (x : ℕ). getD old x 0) s
+
 -- all that is left is determined
 pub named-list : (o : ℕ → ℕ) (h : ℕ) (before after : List ℕ) → h ≤ length before → AsNamed o h before after → after ≡ listed o h ++ drop h before
 named-list o h before after l w =
@@ -72,7 +79,4 @@ named-list o h before after l w =
   where
     at : (t : ℕ) → (h ≤ t) ⊎ (t < h) → getD after t 0 ≡ getD (listed o h ++ drop h before) t 0
     at t (inr g) = w .done t g ∙ sym (List·getD-append (listed o h) (drop h before) 0 t (omega (arith, listed-length o h)) ∙ listed-at o h t g)
-    at t (inl g) =
-        let e : t ≡ length (listed o h) + (t - h) = omega (arith, listed-length o h) in
-        let s : h + (t - h) ≡ t = omega arith in
-        w .rest t g ∙ sym (ap (λ (x : ℕ). getD (listed o h ++ drop h before) x 0) e ∙ getD-append-add (listed o h) (drop h before) (t - h) 0 ∙ getD-drop h before (t - h) 0 ∙ ap (λ (x : ℕ). getD before x 0) s)
+    at t (inl g) = w .rest t g ∙ sym (behind-new (listed o h) before h t (listed-length o h) g)
