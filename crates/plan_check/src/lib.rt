@@ -14,11 +14,12 @@ pub fn scan(plan: &[u16], parts: &[u16]) -> Finding
     let mut found = Finding::Good;
     let mut k = 0;
     'scan: while k < n {
-        let m = rules::records::cycle(parts, k);
+        let m = rules::numbers::wide(rules::records::cycle(parts, k));
         let q = rules::records::wanted(parts, k);
+        let over = plan_service::over_frames(plan, m);
         let mut s = 0;
+        let mut h = plan_service::held_from(plan, k + 1, m, s);
         while s < f {
-            let h = plan_service::held_from(plan, k + 1, rules::numbers::wide(m), s);
             if h < q {
                 found = Finding::Refused(Refusal::Shortfall {
                     partition: k + 1,
@@ -29,6 +30,7 @@ pub fn scan(plan: &[u16], parts: &[u16]) -> Finding
                 break 'scan;
             }
             s += 1;
+            h = plan_service::next_held(plan, k + 1, m, over, s, h);
         }
         k += 1;
     }

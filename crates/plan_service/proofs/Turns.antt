@@ -1,8 +1,8 @@
 -- What the count of a stretch does at each turn. Assumes nothing.
-use Prim.Native.Nat.{ℕ, zero, suc, _+_, _%_}
-use mathlib.Core.Path.{_≡_, sym, _∙_}
+use Prim.Native.Nat.{ℕ, zero, suc, _+_, _-_, _*_, _/_, _%_, _≤_, _<_}
+use mathlib.Core.Path.{_≡_, sym, ap, _∙_}
 use mathlib.Core.List.{List}
-use native.Mathlib.Nat.{mod-add-mod}
+use native.Mathlib.Nat.{mod-add-mod, add-mod-mod, add-mod-right, mod-lt, mod-eq-of-lt, add-zero, suc-mul, div-add-mod'}
 use native.Mathlib.Numerals.{add-one}
 use native.Mathlib.Omega.{arith}
 use lib.Dec.{eqb}
@@ -10,7 +10,8 @@ use lib.ListN.{length, getD, List·getD-eq-default}
 use Rattle.rules.specs.Walk.{only, sum, count}
 use Rattle.rules.proofs.Sum.{only-add, only-eq, only-ne, only-self}
 use Rattle.theory.specs.Plan.{own, owner, owned, held}
-use Rattle.theory.proofs.Plan.{held-zero, held-more}
+use Rattle.theory.proofs.Plan.{held-zero, held-more, held-around}
+use Rattle.theory.proofs.Need.{owned-split}
 
 pub held-none : (plan : List ℕ) (p s : ℕ) → 0 ≡ held own plan p 0 s
 held-none plan p s = sym (held-zero (owner plan) p s)
@@ -38,3 +39,44 @@ empty-idle plan p s n e h = sym (held-empty plan p s n e ∙ only-eq 0 p n (sym 
 
 pub empty-other : (plan : List ℕ) (p s n : ℕ) → length plan ≡ 0 → ¬ (p ≡ 0) → 0 ≡ held own plan p n s
 empty-other plan p s n e h = sym (held-empty plan p s n e ∙ only-ne 0 p n (λ q. h (sym q)))
+
+-- ---- whole frames
+
+module _ (plan : List ℕ) (p : ℕ) where
+  -- a start in the frame, with so many ticks on from there
+  start-around : (n s k : ℕ) → held own plan p n (s % length plan + k) ≡ held own plan p n (s + k)
+  start-around n s k = sym (held-around own plan p n (s % length plan + k)) ∙ ap (held own plan p n) (mod-add-mod s (length plan) k) ∙ held-around own plan p n (s + k)
+
+  -- the same a frame later
+  frame-later : (n s : ℕ) → held own plan p n (s + length plan) ≡ held own plan p n s
+  frame-later n s = sym (held-around own plan p n (s + length plan)) ∙ ap (held own plan p n) (add-mod-right s (length plan)) ∙ held-around own plan p n s
+
+  held-frames : (w r s : ℕ) → held own plan p (w * length plan + r) s ≡ w * held own plan p (length plan) s + held own plan p r s
+  held-frames zero r s =
+      let e : 0 * length plan + r ≡ r = omega arith in
+      rw e (omega arith)
+  held-frames (suc w) r s =
+      let e : suc w * length plan + r ≡ length plan + (w * length plan + r) = omega (arith, suc-mul w (length plan)) in
+      rw e (omega (arith, owned-split (owner plan) p s (length plan) (w * length plan + r), frame-later (w * length plan + r) s, held-frames w r s, suc-mul w (held own plan p (length plan) s)))
+
+  -- whole frames as often as they go into n, and what is over
+  pub held-whole : (n s h b : ℕ) → 0 < length plan → h ≡ held own plan p (n % length plan) s → b ≡ held own plan p (length plan - n % length plan) (s % length plan + n % length plan) → n / length plan * (h + b) + h ≡ held own plan p n s
+  held-whole n s h b pos eh eb =
+      let e : n % length plan + (length plan - n % length plan) ≡ length plan = omega (arith, mod-lt n pos) in
+      let f : h + b ≡ held own plan p (length plan) s = rw (← e) (sym (owned-split (owner plan) p s (n % length plan) (length plan - n % length plan) ∙ rw (eh, eb, start-around))) in
+      rw (f, eh) (sym (held-frames (n / length plan) (n % length plan) s) ∙ ap (λ (x : ℕ). held own plan p x s) (div-add-mod' n (length plan)))
+
+-- ---- from one start to the next
+
+-- the tick that enters is added, the tick that leaves is taken off
+pub held-next : (plan : List ℕ) (p n over s enters h b c : ℕ) → 0 < s → s ≤ length plan → over ≡ n % length plan → enters ≡ (s - 1 + over) % length plan
+    → h ≡ held own plan p n (s - 1) → b ≡ only (eqb (getD plan enters 0) p) 1 → c ≡ only (eqb (getD plan (s - 1) 0) p) 1 → h + b ≡ c + held own plan p n s
+held-next plan p n over s enters h b c pos l eo ee eh eb ec =
+    let at : s - 1 ≡ (s - 1 + 0) % length plan = rw (add-zero (s - 1)) (sym (mod-eq-of-lt (omega arith))) in
+    let in-place : enters ≡ (s - 1 + n) % length plan = ee ∙ rw eo (add-mod-mod (s - 1) n (length plan)) in
+    let one : 0 + c ≡ held own plan p 1 (s - 1) = held-turn plan p (s - 1) 0 (s - 1) 0 c at (held-none plan p (s - 1)) ec in
+    let more : h + b ≡ held own plan p (n + 1) (s - 1) = held-turn plan p (s - 1) n enters h b in-place eh eb in
+    let e : n + 1 ≡ 1 + n = omega arith in
+    let f : s - 1 + 1 ≡ s = omega arith in
+    let split : held own plan p (1 + n) (s - 1) ≡ held own plan p 1 (s - 1) + held own plan p n s = rw f at (owned-split (owner plan) p (s - 1) 1 n) in
+    omega (arith, rw e at more)

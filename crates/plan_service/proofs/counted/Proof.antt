@@ -1,72 +1,67 @@
-use Prim.Native.Nat.{_+_, _-_, _%_, _≤_, _<_}
-use mathlib.Core.Path.{_≡_}
-use native.Mathlib.Nat.{mod-lt, add-zero}
+use Prim.Native.Nat.{_<_, _%_}
+use native.Mathlib.Nat.{mod-lt}
 use native.Mathlib.Omega.{arith}
-use Rattle.theory.specs.Plan.{own, held}
-use Rattle.plan_service.proofs.Turns.{held-none, held-turn, place-turn}
+use lib.ListN.{length}
+use Rattle.theory.specs.Plan.{owner}
+use Rattle.theory.proofs.Plan.{held-le}
+use Rattle.plan_service.proofs.Turns.{held-whole}
 use borrow.Author.Needs.{needs}
 use Rattle.plan_service.proofs.counted.Statement.{statement}
 use Rattle.plan_service.proofs.counted.Tie as tie
 
-abbrev Inv-loop : tie.InvT-loop
-Inv-loop plan p n s f at₀ h₀ k₀ at h k = (k ≤ n) × (h ≤ k) × (at < f) × (at ≡ (s + k) % f) × (h ≡ held own plan p k s)
+walked-requires : tie.Need-walked-requires
+walked-requires c κs = search needs
 
-abbrev μ-loop : tie.MeasureT-loop
-μ-loop plan p n s f at₀ h₀ k₀ at h k = n - k
+returns : tie.Need-returns
+returns c = c .walked .ensures .1
 
-rem-at : tie.Need-rem-at Inv-loop μ-loop
-rem-at c = search needs
+rem-over : tie.Need-rem-over
+rem-over c = search needs
 
-loop-holds : tie.Need-loop-holds Inv-loop μ-loop
-loop-holds c = (search needs, search needs, mod-lt (c .before .args .s) (search needs), rw (add-zero (c .before .args .s)), held-none _ _ _)
+walked-requires-2 : tie.Need-walked-requires-2
+walked-requires-2 c κs = search needs
 
-mul-wide : tie.Need-mul-wide Inv-loop μ-loop
-mul-wide c = search needs
+sub-walked : tie.Need-sub-walked
+sub-walked c = omega (arith, mod-lt (c .before .before .before .args .n) {m = length (c .before .before .before .args .plan .now)} (omega arith))
 
-shared-slice-read-wide : tie.Need-shared-slice-read-wide Inv-loop μ-loop
-shared-slice-read-wide c = search needs
+rem-walked : tie.Need-rem-walked
+rem-walked c = search needs
 
-wide-requires : tie.Need-wide-requires Inv-loop μ-loop
-wide-requires c κs = search needs
+add-walked : tie.Need-add-walked
+add-walked c = omega (arith, mod-lt (c .before .before .before .args .n) {m = length (c .before .before .before .args .plan .now)} (omega arith), mod-lt (c .before .before .before .args .s) {m = length (c .before .before .before .args .plan .now)} (omega arith))
 
-one-if-requires : tie.Need-one-if-requires Inv-loop μ-loop
-one-if-requires c κs = search needs
+walked-requires-3 : tie.Need-walked-requires-3
+walked-requires-3 c κs = search needs
 
-add-h : tie.Need-add-h Inv-loop μ-loop
-add-h c = search needs
+add-frame : tie.Need-add-frame
+add-frame c = search needs
 
-after-requires : tie.Need-after-requires Inv-loop μ-loop
-after-requires c κs = search needs
+div-result : tie.Need-div-result
+div-result c = search needs
 
-add-k : tie.Need-add-k Inv-loop μ-loop
-add-k c = search needs
+mul-result : tie.Need-mul-result
+mul-result c = omega (arith, held-whole _ _ _ _ _ _ (omega arith) (c .before .walked2 .ensures .1) (c .walked3 .ensures .1), held-le (owner (c .before .before .before .before .args .plan .now)) (c .before .before .before .before .args .p) (c .before .before .before .before .args .n) (c .before .before .before .before .args .s))
 
-loop-less : tie.Need-loop-less Inv-loop μ-loop
-loop-less c = search needs
+add-result : tie.Need-add-result
+add-result c = omega (arith, held-whole _ _ _ _ _ _ (omega arith) (c .before .walked2 .ensures .1) (c .walked3 .ensures .1), held-le (owner (c .before .before .before .before .args .plan .now)) (c .before .before .before .before .args .p) (c .before .before .before .before .args .n) (c .before .before .before .before .args .s))
 
-loop-again : tie.Need-loop-again Inv-loop μ-loop
-loop-again c =
-    let l = c .before .before .before .before .before .loop in
-    (search needs, search needs, c .after .ensures .0, place-turn _ _ _ _ _ (l .inv .3) (c .after .ensures .1), held-turn _ _ _ _ _ _ _ (l .inv .3) (l .inv .4) (rw (c .before .before .wide .ensures) at (c .before .one-if .ensures .1)))
-
-returns : tie.Need-returns Inv-loop μ-loop
-returns c = let e : c .before .loop .k ≡ c .before .before .before .args .n = omega arith in rw e at (c .before .loop .inv .4)
+returns-2 : tie.Need-returns-2
+returns-2 c = held-whole _ _ _ _ _ _ (omega arith) (c .before .walked2 .ensures .1) (c .walked3 .ensures .1)
 
 pub counted-spec : {M : Type 1} → statement M
 counted-spec =
     tie.close
     (tie.spec
-    Inv-loop
-    μ-loop
-    rem-at
-    loop-holds
-    mul-wide
-    shared-slice-read-wide
-    wide-requires
-    one-if-requires
-    add-h
-    after-requires
-    add-k
-    loop-less
-    loop-again
-    returns)
+    walked-requires
+    returns
+    rem-over
+    walked-requires-2
+    sub-walked
+    rem-walked
+    add-walked
+    walked-requires-3
+    add-frame
+    div-result
+    mul-result
+    add-result
+    returns-2)
