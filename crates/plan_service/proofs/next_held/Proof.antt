@@ -1,4 +1,5 @@
-use Prim.Native.Nat.{_-_}
+use Prim.Native.Nat.{_+_, _-_, _%_}
+use mathlib.Core.Path.{_≡_}
 use native.Mathlib.Nat.{mod-lt}
 use native.Mathlib.Omega.{arith}
 use lib.ListN.{length}
@@ -28,10 +29,14 @@ own-at-requires-2 : tie.Need-own-at-requires-2
 own-at-requires-2 c κs = search needs
 
 sub-result : tie.Need-sub-result
-sub-result c = omega (arith, held-next _ _ _ _ _ _ _ _ _ (omega arith) (omega arith) (c .before .before .before .before .pre .3) (c .before .before .place-in .ensures .1) (c .before .before .before .before .pre .4) (c .before .own-at .ensures .1) (c .own-at2 .ensures .1))
+sub-result c =
+    let e : c .before .before .place-in .result ≡ (c .before .before .before .before .args .s - 1 + c .before .before .before .before .args .over) % length (c .before .before .before .before .args .plan .now) = c .before .before .place-in .ensures .1 in
+    omega (arith, held-next _ _ _ _ _ _ _ _ _ (omega arith) (omega arith) (c .before .before .before .before .pre .3) e (c .before .before .before .before .pre .4) (c .before .own-at .ensures .1) (c .own-at2 .ensures .1))
 
 returns : tie.Need-returns
-returns c = omega (arith, held-next _ _ _ _ _ _ _ _ _ (omega arith) (omega arith) (c .before .before .before .before .pre .3) (c .before .before .place-in .ensures .1) (c .before .before .before .before .pre .4) (c .before .own-at .ensures .1) (c .own-at2 .ensures .1))
+returns c =
+    let e : c .before .before .place-in .result ≡ (c .before .before .before .before .args .s - 1 + c .before .before .before .before .args .over) % length (c .before .before .before .before .args .plan .now) = c .before .before .place-in .ensures .1 in
+    omega (arith, held-next _ _ _ _ _ _ _ _ _ (omega arith) (omega arith) (c .before .before .before .before .pre .3) e (c .before .before .before .before .pre .4) (c .before .own-at .ensures .1) (c .own-at2 .ensures .1))
 
 pub next-held-spec : {M : Type 1} → statement M
 next-held-spec =
