@@ -16,21 +16,18 @@ pub fn scan(plan: &[u16], parts: &[u16]) -> Finding
     'scan: while k < n {
         let m = rules::numbers::wide(rules::records::cycle(parts, k));
         let q = rules::records::wanted(parts, k);
-        let over = plan_service::over_frames(plan, m);
-        let mut s = 0;
-        let mut h = plan_service::held_from(plan, k + 1, m, s);
-        while s < f {
-            if h < q {
+        let mut x = plan_service::stretch_from(plan, k + 1, m, 0);
+        while x.start < f {
+            if x.held < q {
                 found = Finding::Refused(Refusal::Shortfall {
                     partition: k + 1,
-                    start: s,
-                    held: h,
+                    start: x.start,
+                    held: x.held,
                     wanted: q,
                 });
                 break 'scan;
             }
-            s += 1;
-            h = plan_service::next_held(plan, k + 1, m, over, s, h);
+            x = plan_service::next_stretch(plan, k + 1, x);
         }
         k += 1;
     }

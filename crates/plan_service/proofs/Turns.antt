@@ -2,7 +2,7 @@
 use Prim.Native.Nat.{ℕ, zero, suc, _+_, _-_, _*_, _/_, _%_, _≤_, _<_}
 use mathlib.Core.Path.{_≡_, sym, ap, _∙_}
 use mathlib.Core.List.{List}
-use native.Mathlib.Nat.{mod-add-mod, add-mod-mod, add-mod-right, mod-lt, mod-eq-of-lt, add-zero, suc-mul, div-add-mod'}
+use native.Mathlib.Nat.{mod-add-mod, add-mod-right, mod-lt, mod-eq-of-lt, add-zero, suc-mul, div-add-mod'}
 use native.Mathlib.Numerals.{add-one}
 use native.Mathlib.Omega.{arith}
 use lib.Dec.{eqb}
@@ -20,6 +20,10 @@ held-none plan p s = sym (held-zero (owner plan) p s)
 pub held-turn : (plan : List ℕ) (p s k at h b : ℕ) → at ≡ (s + k) % length plan → h ≡ held own plan p k s → b ≡ only (eqb (getD plan at 0) p) 1 → h + b ≡ held own plan p (k + 1) s
 unfolding owner
 held-turn plan p s k at h b ea eh eb = rw (held-more (owner plan) p k s, eb, eh, ea)
+
+-- the same up to the frame's end
+pub held-within : (plan : List ℕ) (p a k h b : ℕ) → a + k < length plan → h ≡ held own plan p k a → b ≡ only (eqb (getD plan (a + k) 0) p) 1 → h + b ≡ held own plan p (k + 1) a
+held-within plan p a k h b l eh eb = held-turn plan p a k (a + k) h b (sym (mod-eq-of-lt l)) eh eb
 
 -- the place in the frame one tick later
 pub place-turn : (f s k at r : ℕ) → at ≡ (s + k) % f → r ≡ (at + 1) % f → r ≡ (s + (k + 1)) % f
@@ -51,6 +55,14 @@ module _ (plan : List ℕ) (p : ℕ) where
   frame-later : (n s : ℕ) → held own plan p n (s + length plan) ≡ held own plan p n s
   frame-later n s = sym (held-around own plan p n (s + length plan)) ∙ ap (held own plan p n) (add-mod-right s (length plan)) ∙ held-around own plan p n s
 
+  -- up to the frame's end, and on from its start
+  pub held-joined : (n s left b c : ℕ) → 0 < length plan → left ≡ length plan - s % length plan → left ≤ n → b ≡ held own plan p left (s % length plan) → c ≡ held own plan p (n - left) 0 → b + c ≡ held own plan p n s
+  held-joined n s left b c pos el l eb ec =
+      let e : left + (n - left) ≡ n = omega arith in
+      let f : s % length plan + left ≡ 0 + length plan = omega (arith, mod-lt s pos) in
+      let split = owned-split (owner plan) p (s % length plan) left (n - left) in
+      rw (eb, ec, ← frame-later (n - left) 0, ← f, ← split, e) (held-around own plan p n s)
+
   held-frames : (w r s : ℕ) → held own plan p (w * length plan + r) s ≡ w * held own plan p (length plan) s + held own plan p r s
   held-frames zero r s =
       let e : 0 * length plan + r ≡ r = omega arith in
@@ -69,14 +81,15 @@ module _ (plan : List ℕ) (p : ℕ) where
 -- ---- from one start to the next
 
 -- the tick that enters is added, the tick that leaves is taken off
-pub held-next : (plan : List ℕ) (p n over s enters h b c : ℕ) → 0 < s → s ≤ length plan → over ≡ n % length plan → enters ≡ (s - 1 + over) % length plan
-    → h ≡ held own plan p n (s - 1) → b ≡ only (eqb (getD plan enters 0) p) 1 → c ≡ only (eqb (getD plan (s - 1) 0) p) 1 → h + b ≡ c + held own plan p n s
-held-next plan p n over s enters h b c pos l eo ee eh eb ec =
-    let at : s - 1 ≡ (s - 1 + 0) % length plan = rw (add-zero (s - 1)) (sym (mod-eq-of-lt (omega arith))) in
-    let in-place : enters ≡ (s - 1 + n) % length plan = ee ∙ rw eo (add-mod-mod (s - 1) n (length plan)) in
-    let one : 0 + c ≡ held own plan p 1 (s - 1) = held-turn plan p (s - 1) 0 (s - 1) 0 c at (held-none plan p (s - 1)) ec in
-    let more : h + b ≡ held own plan p (n + 1) (s - 1) = held-turn plan p (s - 1) n enters h b in-place eh eb in
+pub held-next : (plan : List ℕ) (p n s enters h b c : ℕ) → s < length plan → enters ≡ (s + n) % length plan → h ≡ held own plan p n s
+    → b ≡ only (eqb (getD plan enters 0) p) 1 → c ≡ only (eqb (getD plan s 0) p) 1 → h + b ≡ c + held own plan p n (s + 1)
+held-next plan p n s enters h b c l ee eh eb ec =
+    let at : s ≡ (s + 0) % length plan = rw (add-zero s) (sym (mod-eq-of-lt l)) in
+    let one : 0 + c ≡ held own plan p 1 s = held-turn plan p s 0 s 0 c at (held-none plan p s) ec in
+    let more : h + b ≡ held own plan p (n + 1) s = held-turn plan p s n enters h b ee eh eb in
     let e : n + 1 ≡ 1 + n = omega arith in
-    let f : s - 1 + 1 ≡ s = omega arith in
-    let split : held own plan p (1 + n) (s - 1) ≡ held own plan p 1 (s - 1) + held own plan p n s = rw f at (owned-split (owner plan) p (s - 1) 1 n) in
-    omega (arith, rw e at more)
+    omega (arith, rw e at more, owned-split (owner plan) p s 1 n)
+
+-- the place behind the stretch, a tick later
+pub place-next : (f s n at r : ℕ) → at ≡ (s + n) % f → r ≡ (at + 1) % f → r ≡ (s + 1 + n) % f
+place-next f s n at r ea er = let e : s + (n + 1) ≡ s + 1 + n = omega arith in rw (← e) (place-turn f s n at r ea er)

@@ -14,35 +14,45 @@ fn own_at(plan: &[u16], p: usize, at: usize) -> usize
     rules::numbers::one_if(rules::numbers::wide(plan[at]) == p)
 }
 
-// How many of the n ticks from tick s on are p's, in a plan that has ticks: one by one.
-fn walked(plan: &[u16], p: usize, n: usize, s: usize) -> usize
-    requires { ⌜ 0 < length (now plan) ⌝ }
-    ensures { λ r. ⌜ (r ≤ n) × (r ≡ held own (now (plan .entry)) p n s) ⌝ }
+// How many of the n ticks from place a of the frame on are p's, up to the frame's end at most: one by one.
+fn walked(plan: &[u16], p: usize, n: usize, a: usize) -> usize
+    requires { ⌜ a + n ≤ length (now plan) ⌝ }
+    ensures { λ r. ⌜ (r ≤ n) × (r ≡ held own (now (plan .entry)) p n a) ⌝ }
 {
-    let f = plan.len();
-    let mut at = s % f;
     let mut h = 0;
     let mut k = 0;
     while k < n {
-        h = h + own_at(plan, p, at);
-        at = rules::numbers::after(at, f);
+        h = h + own_at(plan, p, a + k);
         k += 1;
     }
     h
 }
 
-// The same with whole frames counted once, in at most F steps.
+// The same from tick s on, across the frame's end too: at most a frame of ticks.
+fn joined(plan: &[u16], p: usize, n: usize, s: usize) -> usize
+    requires { ⌜ (0 < length (now plan)) × (n ≤ length (now plan)) ⌝ }
+    ensures { λ r. ⌜ (r ≤ n) × (r ≡ held own (now (plan .entry)) p n s) ⌝ }
+{
+    let a = s % plan.len();
+    let left = plan.len() - a;
+    if n <= left {
+        return walked(plan, p, n, a);
+    }
+    walked(plan, p, left, a) + walked(plan, p, n - left, 0)
+}
+
+// The same of any number of ticks, in a plan that has some: whole frames are counted once.
 fn counted(plan: &[u16], p: usize, n: usize, s: usize) -> usize
     requires { ⌜ 0 < length (now plan) ⌝ }
     ensures { λ r. ⌜ r ≡ held own (now (plan .entry)) p n s ⌝ }
 {
     let f = plan.len();
     if n < f {
-        return walked(plan, p, n, s);
+        return joined(plan, p, n, s);
     }
     let over = n % f;
-    let h = walked(plan, p, over, s);
-    let frame = h + walked(plan, p, f - over, s % f + over);
+    let h = joined(plan, p, over, s);
+    let frame = h + joined(plan, p, f - over, s % f + over);
     n / f * frame + h
 }
 
@@ -63,34 +73,58 @@ pub fn held(plan: &[u16], p: u16, s: u32, n: u32) -> usize
     held_from(plan, p as usize, n as usize, s as usize)
 }
 
-// What a stretch of n ticks is longer than whole frames are.
-pub fn over_frames(plan: &[u16], n: usize) -> usize
-    ensures { λ r. ⌜ r ≡ n % length (now (plan .entry)) ⌝ }
+// A stretch on the walk over starts: what it holds of some partition's ticks, and the place in the frame of the tick
+// behind it, which enters next.
+pub struct Stretch {
+    pub start: usize,
+    pub length: usize,
+    pub held: usize,
+    pub enters: usize,
+}
+
+// The place of tick t in the frame (of an empty plan t itself).
+fn place(plan: &[u16], t: usize) -> usize
+    ensures { λ r. ⌜ r ≡ t % length (now (plan .entry)) ⌝ }
 {
     if plan.len() == 0 {
-        return n;
+        return t;
     }
-    n % plan.len()
+    t % plan.len()
 }
 
-// The place in a frame of f ticks, of one that lies in it or in the next.
-fn place_in(f: usize, at: usize) -> usize
-    requires { ⌜ at < f + f ⌝ }
-    ensures { λ r. ⌜ (r < f) × (r ≡ at % f) ⌝ }
+// The stretch of n ticks from tick s on, counted.
+pub fn stretch_from(plan: &[u16], p: usize, n: usize, s: usize) -> Stretch
+    requires { ⌜ (n < 2 ^ 32) × (s < 2 ^ 32) ⌝ }
+    ensures { λ r. ⌜ (r .start ≡ s) × (r .length ≡ n)
+        × (r .held ≡ held own (now (plan .entry)) p (r .length) (r .start))
+        × (r .enters ≡ (r .start + r .length) % length (now (plan .entry))) ⌝ }
 {
-    if at < f { at } else { at - f }
+    Stretch {
+        start: s,
+        length: n,
+        held: held_from(plan, p, n, s),
+        enters: place(plan, s + n),
+    }
 }
 
-// What the n ticks from tick s on hold, by what those from the tick before it on hold: the tick that enters is added,
-// the tick that leaves is taken off.
-pub fn next_held(plan: &[u16], p: usize, n: usize, over: usize, s: usize, h: usize) -> usize
-    requires { ⌜ (n < 2 ^ 32) × (0 < s) × (s ≤ length (now plan))
-        × (over ≡ n % length (now plan)) × (h ≡ held own (now plan) p n (s - 1)) ⌝ }
-    ensures { λ r. ⌜ r ≡ held own (now (plan .entry)) p n s ⌝ }
+// The stretch that starts a tick later: the tick that enters is added, the tick that leaves is taken off.
+pub fn next_stretch(plan: &[u16], p: usize, x: Stretch) -> Stretch
+    requires { ⌜ (x .length < 2 ^ 32) × (x .start < length (now plan))
+        × (x .held ≡ held own (now plan) p (x .length) (x .start))
+        × (x .enters ≡ (x .start + x .length) % length (now plan)) ⌝ }
+    ensures { λ r. ⌜ (r .start ≡ x .start + 1) × (r .length ≡ x .length)
+        × (r .held ≡ held own (now (plan .entry)) p (r .length) (r .start))
+        × (r .enters ≡ (r .start + r .length) % length (now (plan .entry))) ⌝ }
 {
-    let leaves = s - 1;
-    let enters = place_in(plan.len(), leaves + over);
-    h + own_at(plan, p, enters) - own_at(plan, p, leaves)
+    let leaves = x.start;
+    let enters = x.enters;
+    let next = rules::numbers::after(enters, plan.len());
+    Stretch {
+        start: leaves + 1,
+        length: x.length,
+        held: x.held + own_at(plan, p, enters) - own_at(plan, p, leaves),
+        enters: next,
+    }
 }
 
 // The smallest number of p's ticks in any t consecutive ticks: one stretch is counted, the others follow from it.
@@ -98,16 +132,12 @@ pub fn least(plan: &[u16], p: u16, t: u32) -> usize
     ensures { λ r. ⌜ LeastIs (now (plan .entry)) p t r ⌝ }
 {
     let owner = p as usize;
-    let n = t as usize;
     let f = plan.len();
-    let over = over_frames(plan, n);
-    let mut s = 0;
-    let mut h = held_from(plan, owner, n, s);
-    let mut best = h;
-    while s < f {
-        best = rules::numbers::smaller(best, h);
-        s += 1;
-        h = next_held(plan, owner, n, over, s, h);
+    let mut x = stretch_from(plan, owner, t as usize, 0);
+    let mut best = x.held;
+    while x.start < f {
+        best = rules::numbers::smaller(best, x.held);
+        x = next_stretch(plan, owner, x);
     }
     best
 }

@@ -1,6 +1,5 @@
-use Prim.Native.Nat.{_+_, _-_, _≤_}
+use Prim.Native.Nat.{_+_, _-_, _%_, _≤_}
 use mathlib.Core.Path.{_≡_, refl, _∙_}
-use native.Mathlib.Omega.{arith}
 use Rattle.rules.specs.Walk.{first}
 use Rattle.rules.proofs.First.{first-zero, first-more}
 use Rattle.theory.specs.Plan.{own, held}
@@ -12,10 +11,16 @@ use Rattle.plan_check.proofs.scan.Statement.{statement}
 use Rattle.plan_check.proofs.scan.Tie as tie
 
 abbrev Inv-loop : tie.InvT-loop
-Inv-loop plan parts f n found₀ k m q over s₀ h₀ found s h = (s ≤ f) × (found ≡ Good) × (h ≡ held own plan (k + 1) m s) × (first (shortAt plan parts k) s ≡ s)
+Inv-loop plan parts f n found₀ k m q x₀ found x =
+    (x .start ≤ f)
+    × (found ≡ Good)
+    × (x .length ≡ m)
+    × (x .held ≡ held own plan (k + 1) (x .length) (x .start))
+    × (x .enters ≡ (x .start + x .length) % f)
+    × (first (shortAt plan parts k) (x .start) ≡ x .start)
 
 abbrev μ-loop : tie.MeasureT-loop
-μ-loop plan parts f n found₀ k m q over s₀ h₀ found s h = f - s
+μ-loop plan parts f n found₀ k m q x₀ found x = f - x .start
 
 abbrev Inv-scan : tie.InvT-scan
 Inv-scan plan parts f n found₀ k₀ found k = (k ≤ n) × (found ≡ Good) × (first (shortIn plan parts) k ≡ k)
@@ -38,40 +43,34 @@ wide-requires c κs = search needs
 wanted-requires : tie.Need-wanted-requires Inv-loop μ-loop Inv-scan μ-scan
 wanted-requires c κs = search needs
 
-over-frames-requires : tie.Need-over-frames-requires Inv-loop μ-loop Inv-scan μ-scan
-over-frames-requires c κs = search needs
+add-stretch-from : tie.Need-add-stretch-from Inv-loop μ-loop Inv-scan μ-scan
+add-stretch-from c = search needs
 
-add-held-from : tie.Need-add-held-from Inv-loop μ-loop Inv-scan μ-scan
-add-held-from c = search needs
-
-held-from-requires : tie.Need-held-from-requires Inv-loop μ-loop Inv-scan μ-scan
-held-from-requires c κs = search needs
+stretch-from-requires : tie.Need-stretch-from-requires Inv-loop μ-loop Inv-scan μ-scan
+stretch-from-requires c κs = search needs
 
 loop-holds : tie.Need-loop-holds Inv-loop μ-loop Inv-scan μ-scan
-loop-holds c = (search needs, c .before .before .before .before .before .before .scan .inv .1, c .held-from .ensures, first-zero _)
+loop-holds c =
+    let e = c .stretch-from .ensures in
+    (search needs, c .before .before .before .before .before .scan .inv .1, e .1, e .2, e .3, rw (e .0) (first-zero _))
 
-add-t16 : tie.Need-add-t16 Inv-loop μ-loop Inv-scan μ-scan
-add-t16 c = search needs
+add-t14 : tie.Need-add-t14 Inv-loop μ-loop Inv-scan μ-scan
+add-t14 c = search needs
 
-add-s : tie.Need-add-s Inv-loop μ-loop Inv-scan μ-scan
-add-s c = search needs
+add-next-stretch : tie.Need-add-next-stretch Inv-loop μ-loop Inv-scan μ-scan
+add-next-stretch c = search needs
 
-add-next-held : tie.Need-add-next-held Inv-loop μ-loop Inv-scan μ-scan
-add-next-held c = search needs
-
-next-held-requires : tie.Need-next-held-requires Inv-loop μ-loop Inv-scan μ-scan
-next-held-requires c κs =
-    let l = c .before .before .loop in
-    let e : l .s + 1 - 1 ≡ l .s = omega arith in
-    (search needs, search needs, search needs, c .before .before .before .before .over-frames .ensures, rw e (l .inv .2))
+next-stretch-requires : tie.Need-next-stretch-requires Inv-loop μ-loop Inv-scan μ-scan
+next-stretch-requires c κs = search needs
 
 loop-less : tie.Need-loop-less Inv-loop μ-loop Inv-scan μ-scan
 loop-less c = search needs
 
 loop-again : tie.Need-loop-again Inv-loop μ-loop Inv-scan μ-scan
 loop-again c =
-    let l = c .before .before .before .loop in
-    (search needs, l .inv .1, c .next-held .ensures, first-more _ _ (l .inv .3) (short-no _ _ _ _ _ _ _ (c .before .before .before .before .before .before .before .wide .ensures ∙ c .before .before .before .before .before .before .before .before .cycle .ensures) (c .before .before .before .before .before .before .wanted .ensures) (c .before .before .before .loop .inv .2) (c .before .if1 .left)))
+    let l = c .before .before .before .before .before .loop in
+    let e = c .next-stretch .ensures in
+    (search needs, l .inv .1, e .1 ∙ l .inv .2, e .2, e .3, rw (e .0) (first-more _ _ (l .inv .5) (short-no _ _ _ _ _ _ _ (l .inv .2 ∙ c .before .before .before .before .before .before .before .before .wide .ensures ∙ c .before .before .before .before .before .before .before .before .before .cycle .ensures) (c .before .before .before .before .before .before .before .wanted .ensures) (l .inv .3) (c .before .if2 .left))))
 
 add-k : tie.Need-add-k Inv-loop μ-loop Inv-scan μ-scan
 add-k c = search needs
@@ -80,15 +79,17 @@ scan-less : tie.Need-scan-less Inv-loop μ-loop Inv-scan μ-scan
 scan-less c = search needs
 
 scan-again : tie.Need-scan-again Inv-loop μ-loop Inv-scan μ-scan
-scan-again c = (search needs, c .before .loop .inv .1, first-more _ _ (c .before .before .before .before .before .before .before .before .scan .inv .2) (whole _ _ _ _ (c .before .loop .inv .0) (search needs) (c .before .loop .inv .3)))
+scan-again c =
+    let l = c .before .before .loop in
+    (search needs, l .inv .1, first-more _ _ (c .before .before .before .before .before .before .before .before .scan .inv .2) (whole _ _ _ _ (l .inv .0) (search needs) (l .inv .5)))
 
 returns : tie.Need-returns Inv-loop μ-loop Inv-scan μ-scan
 returns c = c .before .scan .inv .1 ∙ served _ _ _ (search needs) (search needs) (c .before .scan .inv .2)
 
 returns-2 : tie.Need-returns-2 Inv-loop μ-loop Inv-scan μ-scan
 returns-2 c =
-    let l = c .before .before .loop in
-    stopped _ _ _ _ _ _ _ (search needs) (c .before .before .before .before .before .before .before .before .before .scan .inv .2) (search needs) (l .inv .3) (c .before .before .before .before .before .before .wide .ensures ∙ c .before .before .before .before .before .before .before .cycle .ensures) (c .before .before .before .before .before .wanted .ensures) (c .before .before .loop .inv .2) (c .if1 .taken)
+    let l = c .before .before .before .before .loop in
+    stopped _ _ _ _ _ _ _ (search needs) (c .before .before .before .before .before .before .before .before .before .before .scan .inv .2) (search needs) (l .inv .5) (l .inv .2 ∙ c .before .before .before .before .before .before .before .wide .ensures ∙ c .before .before .before .before .before .before .before .before .cycle .ensures) (c .before .before .before .before .before .before .wanted .ensures) (l .inv .3) (c .if2 .taken)
 
 pub scan-spec : {M : Type 1} → statement M
 scan-spec =
@@ -103,14 +104,12 @@ scan-spec =
     cycle-requires
     wide-requires
     wanted-requires
-    over-frames-requires
-    add-held-from
-    held-from-requires
+    add-stretch-from
+    stretch-from-requires
     loop-holds
-    add-t16
-    add-s
-    add-next-held
-    next-held-requires
+    add-t14
+    add-next-stretch
+    next-stretch-requires
     loop-less
     loop-again
     add-k

@@ -9,29 +9,29 @@ use borrow.Author.Needs.{needs}
 use Rattle.plan_service.proofs.counted.Statement.{statement}
 use Rattle.plan_service.proofs.counted.Tie as tie
 
-walked-requires : tie.Need-walked-requires
-walked-requires c κs = search needs
+joined-requires : tie.Need-joined-requires
+joined-requires c κs = search needs
 
 returns : tie.Need-returns
-returns c = c .walked .ensures .1
+returns c = c .joined .ensures .1
 
 rem-over : tie.Need-rem-over
 rem-over c = search needs
 
-walked-requires-2 : tie.Need-walked-requires-2
-walked-requires-2 c κs = search needs
+joined-requires-2 : tie.Need-joined-requires-2
+joined-requires-2 c κs = omega (arith, mod-lt (c .before .before .args .n) {m = length (c .before .before .args .plan .now)} (omega arith))
 
-sub-walked : tie.Need-sub-walked
-sub-walked c = omega (arith, mod-lt (c .before .before .before .args .n) {m = length (c .before .before .before .args .plan .now)} (omega arith))
+sub-joined : tie.Need-sub-joined
+sub-joined c = omega (arith, mod-lt (c .before .before .before .args .n) {m = length (c .before .before .before .args .plan .now)} (omega arith))
 
-rem-walked : tie.Need-rem-walked
-rem-walked c = search needs
+rem-joined : tie.Need-rem-joined
+rem-joined c = search needs
 
-add-walked : tie.Need-add-walked
-add-walked c = omega (arith, mod-lt (c .before .before .before .args .n) {m = length (c .before .before .before .args .plan .now)} (omega arith), mod-lt (c .before .before .before .args .s) {m = length (c .before .before .before .args .plan .now)} (omega arith))
+add-joined : tie.Need-add-joined
+add-joined c = omega (arith, mod-lt (c .before .before .before .args .n) {m = length (c .before .before .before .args .plan .now)} (omega arith), mod-lt (c .before .before .before .args .s) {m = length (c .before .before .before .args .plan .now)} (omega arith))
 
-walked-requires-3 : tie.Need-walked-requires-3
-walked-requires-3 c κs = search needs
+joined-requires-3 : tie.Need-joined-requires-3
+joined-requires-3 c κs = search needs
 
 add-frame : tie.Need-add-frame
 add-frame c = search needs
@@ -40,26 +40,26 @@ div-result : tie.Need-div-result
 div-result c = search needs
 
 mul-result : tie.Need-mul-result
-mul-result c = omega (arith, held-whole _ _ _ _ _ _ (omega arith) (c .before .walked2 .ensures .1) (c .walked3 .ensures .1), held-le (owner (c .before .before .before .before .args .plan .now)) (c .before .before .before .before .args .p) (c .before .before .before .before .args .n) (c .before .before .before .before .args .s))
+mul-result c = omega (arith, held-whole _ _ _ _ _ _ (omega arith) (c .before .joined2 .ensures .1) (c .joined3 .ensures .1), held-le (owner (c .before .before .before .before .args .plan .now)) (c .before .before .before .before .args .p) (c .before .before .before .before .args .n) (c .before .before .before .before .args .s))
 
 add-result : tie.Need-add-result
-add-result c = omega (arith, held-whole _ _ _ _ _ _ (omega arith) (c .before .walked2 .ensures .1) (c .walked3 .ensures .1), held-le (owner (c .before .before .before .before .args .plan .now)) (c .before .before .before .before .args .p) (c .before .before .before .before .args .n) (c .before .before .before .before .args .s))
+add-result c = omega (arith, held-whole _ _ _ _ _ _ (omega arith) (c .before .joined2 .ensures .1) (c .joined3 .ensures .1), held-le (owner (c .before .before .before .before .args .plan .now)) (c .before .before .before .before .args .p) (c .before .before .before .before .args .n) (c .before .before .before .before .args .s))
 
 returns-2 : tie.Need-returns-2
-returns-2 c = held-whole _ _ _ _ _ _ (omega arith) (c .before .walked2 .ensures .1) (c .walked3 .ensures .1)
+returns-2 c = held-whole _ _ _ _ _ _ (omega arith) (c .before .joined2 .ensures .1) (c .joined3 .ensures .1)
 
 pub counted-spec : {M : Type 1} → statement M
 counted-spec =
     tie.close
     (tie.spec
-    walked-requires
+    joined-requires
     returns
     rem-over
-    walked-requires-2
-    sub-walked
-    rem-walked
-    add-walked
-    walked-requires-3
+    joined-requires-2
+    sub-joined
+    rem-joined
+    add-joined
+    joined-requires-3
     add-frame
     div-result
     mul-result

@@ -1,8 +1,8 @@
 use mathlib.Core.Path.{sym}
 use native.Mathlib.Nat.{mod-zero}
 use borrow.Author.Needs.{needs}
-use Rattle.plan_service.proofs.over_frames.Statement.{statement}
-use Rattle.plan_service.proofs.over_frames.Tie as tie
+use Rattle.plan_service.proofs.place.Statement.{statement}
+use Rattle.plan_service.proofs.place.Tie as tie
 
 returns : tie.Need-returns
 returns c = rw (c .if1 .taken) (sym (mod-zero _))
@@ -13,5 +13,5 @@ rem-result c = search needs
 returns-2 : tie.Need-returns-2
 returns-2 c = search needs
 
-pub over-frames-spec : {M : Type 1} → statement M
-over-frames-spec = tie.close (tie.spec returns rem-result returns-2)
+pub place-spec : {M : Type 1} → statement M
+place-spec = tie.close (tie.spec returns rem-result returns-2)
