@@ -2,7 +2,7 @@
 use Prim.Native.Nat.{ℕ, zero, suc, _+_, _-_, _*_, _/_, _%_, _≤_, _<_}
 use mathlib.Core.Path.{_≡_, sym, ap, _∙_}
 use mathlib.Core.List.{List}
-use native.Mathlib.Nat.{mod-add-mod, add-mod-right, mod-lt, mod-eq-of-lt, add-zero, suc-mul, div-add-mod'}
+use native.Mathlib.Nat.{mod-add-mod, add-mod-right, zero-mod, mod-self, mod-lt, mod-eq-of-lt, add-zero, suc-mul, div-add-mod'}
 use native.Mathlib.Numerals.{add-one}
 use native.Mathlib.Omega.{arith}
 use lib.Dec.{eqb}
@@ -21,14 +21,6 @@ pub held-turn : (plan : List ℕ) (p s k at h b : ℕ) → at ≡ (s + k) % leng
 unfolding owner
 held-turn plan p s k at h b ea eh eb = rw (held-more (owner plan) p k s, eb, eh, ea)
 
--- the same up to the frame's end
-pub held-within : (plan : List ℕ) (p a k h b : ℕ) → a + k < length plan → h ≡ held own plan p k a → b ≡ only (eqb (getD plan (a + k) 0) p) 1 → h + b ≡ held own plan p (k + 1) a
-held-within plan p a k h b l eh eb = held-turn plan p a k (a + k) h b (sym (mod-eq-of-lt l)) eh eb
-
--- the place in the frame one tick later
-pub place-turn : (f s k at r : ℕ) → at ≡ (s + k) % f → r ≡ (at + 1) % f → r ≡ (s + (k + 1)) % f
-place-turn f s k at r ea er = let e : s + k + 1 ≡ s + (k + 1) = omega arith in rw (← e, er, ea) (mod-add-mod (s + k) f 1)
-
 -- of an empty plan every tick is idle
 held-empty : (plan : List ℕ) (p s n : ℕ) → length plan ≡ 0 → held own plan p n s ≡ only (eqb 0 p) n
 unfolding owned owner count sum only
@@ -44,39 +36,40 @@ empty-idle plan p s n e h = sym (held-empty plan p s n e ∙ only-eq 0 p n (sym 
 pub empty-other : (plan : List ℕ) (p s n : ℕ) → length plan ≡ 0 → ¬ (p ≡ 0) → 0 ≡ held own plan p n s
 empty-other plan p s n e h = sym (held-empty plan p s n e ∙ only-ne 0 p n (λ q. h (sym q)))
 
--- ---- whole frames
+-- ---- across the frame's end, and whole frames
 
 module _ (plan : List ℕ) (p : ℕ) where
-  -- a start in the frame, with so many ticks on from there
-  start-around : (n s k : ℕ) → held own plan p n (s % length plan + k) ≡ held own plan p n (s + k)
-  start-around n s k = sym (held-around own plan p n (s % length plan + k)) ∙ ap (held own plan p n) (mod-add-mod s (length plan) k) ∙ held-around own plan p n (s + k)
-
-  -- the same a frame later
-  frame-later : (n s : ℕ) → held own plan p n (s + length plan) ≡ held own plan p n s
-  frame-later n s = sym (held-around own plan p n (s + length plan)) ∙ ap (held own plan p n) (add-mod-right s (length plan)) ∙ held-around own plan p n s
+  -- only a start's place in the frame matters
+  same-place : (n a b : ℕ) → a % length plan ≡ b % length plan → held own plan p n a ≡ held own plan p n b
+  same-place n a b e = sym (held-around own plan p n a) ∙ ap (held own plan p n) e ∙ held-around own plan p n b
 
   -- up to the frame's end, and on from its start
   pub held-joined : (n s left b c : ℕ) → 0 < length plan → left ≡ length plan - s % length plan → left ≤ n → b ≡ held own plan p left (s % length plan) → c ≡ held own plan p (n - left) 0 → b + c ≡ held own plan p n s
   held-joined n s left b c pos el l eb ec =
       let e : left + (n - left) ≡ n = omega arith in
-      let f : s % length plan + left ≡ 0 + length plan = omega (arith, mod-lt s pos) in
-      let split = owned-split (owner plan) p (s % length plan) left (n - left) in
-      rw (eb, ec, ← frame-later (n - left) 0, ← f, ← split, e) (held-around own plan p n s)
+      let f : s % length plan + left ≡ length plan = omega (arith, mod-lt s pos) in
+      let start = same-place (n - left) 0 (s % length plan + left) (rw f (zero-mod (length plan) ∙ sym (mod-self (length plan)))) in
+      rw (eb, ec, start, ← owned-split (owner plan) p (s % length plan) left (n - left), e) (held-around own plan p n s)
 
   held-frames : (w r s : ℕ) → held own plan p (w * length plan + r) s ≡ w * held own plan p (length plan) s + held own plan p r s
   held-frames zero r s =
       let e : 0 * length plan + r ≡ r = omega arith in
       rw e (omega arith)
   held-frames (suc w) r s =
-      let e : suc w * length plan + r ≡ length plan + (w * length plan + r) = omega (arith, suc-mul w (length plan)) in
-      rw e (omega (arith, owned-split (owner plan) p s (length plan) (w * length plan + r), frame-later (w * length plan + r) s, held-frames w r s, suc-mul w (held own plan p (length plan) s)))
+      let n = w * length plan + r in
+      let e : suc w * length plan + r ≡ length plan + n = omega (arith, suc-mul w (length plan)) in
+      let later = same-place n (s + length plan) s (add-mod-right s (length plan)) in
+      rw e (omega (arith, owned-split (owner plan) p s (length plan) n, later, held-frames w r s, suc-mul w (held own plan p (length plan) s)))
 
   -- whole frames as often as they go into n, and what is over
   pub held-whole : (n s h b : ℕ) → 0 < length plan → h ≡ held own plan p (n % length plan) s → b ≡ held own plan p (length plan - n % length plan) (s % length plan + n % length plan) → n / length plan * (h + b) + h ≡ held own plan p n s
   held-whole n s h b pos eh eb =
-      let e : n % length plan + (length plan - n % length plan) ≡ length plan = omega (arith, mod-lt n pos) in
-      let f : h + b ≡ held own plan p (length plan) s = rw (← e) (sym (owned-split (owner plan) p s (n % length plan) (length plan - n % length plan) ∙ rw (eh, eb, start-around))) in
-      rw (f, eh) (sym (held-frames (n / length plan) (n % length plan) s) ∙ ap (λ (x : ℕ). held own plan p x s) (div-add-mod' n (length plan)))
+      let over = n % length plan in
+      let rest = length plan - over in
+      let e : over + rest ≡ length plan = omega (arith, mod-lt n pos) in
+      let frame : h + b ≡ held own plan p (length plan) s =
+      rw (eh, eb, same-place rest (s % length plan + over) (s + over) (mod-add-mod s (length plan) over), ← owned-split (owner plan) p s over rest, e) in
+      rw (frame, eh) (sym (held-frames (n / length plan) over s) ∙ ap (λ (x : ℕ). held own plan p x s) (div-add-mod' n (length plan)))
 
 -- ---- from one start to the next
 
@@ -92,4 +85,4 @@ held-next plan p n s enters h b c l ee eh eb ec =
 
 -- the place behind the stretch, a tick later
 pub place-next : (f s n at r : ℕ) → at ≡ (s + n) % f → r ≡ (at + 1) % f → r ≡ (s + 1 + n) % f
-place-next f s n at r ea er = let e : s + (n + 1) ≡ s + 1 + n = omega arith in rw (← e) (place-turn f s n at r ea er)
+place-next f s n at r ea er = let e : s + n + 1 ≡ s + 1 + n = omega arith in rw (← e, er, ea) (mod-add-mod (s + n) f 1)

@@ -4,6 +4,7 @@ use second::{builder, plan};
 
 use crate::library;
 use crate::timing::line;
+use crate::walk;
 
 pub fn run() {
     for cycle in [64, 512, 4096] {
@@ -11,10 +12,15 @@ pub fn run() {
         let mut short = vec![0; cycle.into()];
         builder::build(&parts, &mut short);
         let ticks = short.repeat(4096 / usize::from(cycle));
+        let library = || library::check(&ticks, &parts);
+        line(&format!("check 16 x 4096, m {cycle}"), library, || {
+            plan::check(&ticks, &parts)
+        });
+        let library = || Ok(library::check(&ticks, &parts));
         line(
-            &format!("check 16 x 4096, m {cycle}"),
-            || library::check(&ticks, &parts),
-            || plan::check(&ticks, &parts),
+            &format!("check 16 x 4096, m {cycle}, walk"),
+            library,
+            || walk::check(&ticks, &parts),
         );
     }
 }

@@ -9,6 +9,7 @@ compile_error!("the archive is for x86-64, and a time under an emulator means no
 #[link(name = "api", kind = "static")]
 extern "C" {
     fn merkazobi_held(plan: *const u16, ticks: usize, p: u16, s: u32, n: u32) -> usize;
+    fn merkazobi_least(plan: *const u16, ticks: usize, p: u16, t: u32) -> usize;
     fn merkazobi_build(
         parts: *const u16,
         part_numbers: usize,
@@ -55,6 +56,10 @@ extern "C" {
 
 pub fn held(plan: &[u16], p: u16, s: u32, n: u32) -> u64 {
     unsafe { merkazobi_held(plan.as_ptr(), plan.len(), p, s, n) as u64 }
+}
+
+pub fn least(plan: &[u16], p: u16, t: u32) -> u64 {
+    unsafe { merkazobi_least(plan.as_ptr(), plan.len(), p, t) as u64 }
 }
 
 pub fn build(parts: &[u16], out: &mut [u16]) -> Answer {

@@ -1,13 +1,14 @@
-//! The listing: sixteen partitions, 128 tasks, the longest frame.
+//! The listing: of sixteen partitions and 128 tasks in the longest frame, and the slowest there is.
 
 use second::inputs::files::Tables;
 use second::inputs::{plans, tables};
 use second::listing;
 use second::rng::Rng;
-use second::ticks;
+use second::{ticks, Answer};
 
 use crate::library;
 use crate::timing::line;
+use crate::walk;
 
 fn largest() -> Vec<u8> {
     let mut rng = Rng::new(1);
@@ -25,12 +26,31 @@ fn largest() -> Vec<u8> {
     tables.bytes()
 }
 
+/// A file of 1,050 bytes: every task but the first tries every tick of the frame, and fails.
+fn slowest() -> Vec<u8> {
+    let first = [1, 1, 1, 1];
+    let tables = Tables {
+        frame: 4096,
+        parts: vec![1, 1, 1],
+        tasks: [&first[..], &[1, 1, 4096, 4096].repeat(127)].concat(),
+        runs: vec![1, 4096],
+    };
+    tables.bytes()
+}
+
+fn listed(file: &[u8]) -> Result<String, Answer> {
+    let mut text = vec![0; 8192];
+    let answer = library::list(file, &mut text);
+    text.truncate(answer.first as usize);
+    String::from_utf8(text).map_err(|_| answer)
+}
+
 pub fn run() {
-    let file = largest();
-    let [mut ours, mut theirs] = [vec![0; 8192], vec![0; 8192]];
-    line(
-        "list 16, 128, 4096",
-        || (library::list(&file, &mut ours), ours.clone()),
-        || (listing::list(&file, &mut theirs), theirs.clone()),
-    );
+    for (name, file) in [("16, 128, 4096", largest()), ("1050 bytes", slowest())] {
+        let library = || listed(&file);
+        line(&format!("list {name}"), library, || {
+            Ok(listing::text(&file))
+        });
+        line(&format!("list {name}, walk"), library, || walk::list(&file));
+    }
 }

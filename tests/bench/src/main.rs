@@ -1,21 +1,24 @@
 //! Times the library's entries beside the second program's:
-//! `NAME  library ns/call  second ns/call  ratio`, one line each; of `counts` the name says what
-//! stands in the second program's place.
+//! `NAME  library ns/call  second ns/call  ratio`, one line each; where the name ends in `walk`, the
+//! library's own method in Rust stands in the second program's place, of `counts` what it says.
 //! The entries are named as arguments; all, where none is named.
 
 mod build;
 mod check;
 mod counts;
 mod desk;
+mod least;
 mod library;
 mod list;
 mod timing;
 mod verdict;
+mod walk;
 
 use std::process::ExitCode;
 
 const ENTRIES: &[(&str, fn())] = &[
     ("build", build::run),
+    ("least", least::run),
     ("check", check::run),
     ("verdict", verdict::run),
     ("list", list::run),

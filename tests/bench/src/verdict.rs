@@ -1,9 +1,11 @@
-//! The verdict: a failing task of deadline 4,096, so that every scheduling point is tried.
+//! The verdict: a failing task of deadline 4,096, so that every scheduling point is tried; of the
+//! last one every tick is a point.
 
 use second::verdict;
 
 use crate::library;
 use crate::timing::line;
+use crate::walk;
 
 pub fn run() {
     let often = [
@@ -12,13 +14,25 @@ pub fn run() {
     let seldom = [
         1, 80, 500, 500, 1, 90, 700, 700, 1, 99, 900, 900, 1, 4000, 4096, 4096,
     ];
-    for (ticks, tasks) in [(16, &often), (256, &often), (4096, &seldom)] {
+    let always = [
+        1, 1, 1, 1, 1, 90, 700, 700, 1, 99, 900, 900, 1, 4000, 4096, 4096,
+    ];
+    let parts = [4, 3, 4];
+    let cases = [
+        ("F 16", 16, &often),
+        ("F 256", 256, &often),
+        ("F 4096", 4096, &seldom),
+        ("F 4096, all", 4096, &always),
+    ];
+    for (name, ticks, tasks) in cases {
         let plan = [1, 1, 0, 1].repeat(ticks / 4);
-        let parts = [4, 3, 4];
-        line(
-            &format!("verdict D 4096, F {ticks}"),
-            || library::verdict(&plan, &parts, tasks, 4),
-            || verdict::verdict(&plan, &parts, tasks, 4),
-        );
+        let library = || library::verdict(&plan, &parts, tasks, 4);
+        line(&format!("verdict {name}"), library, || {
+            verdict::verdict(&plan, &parts, tasks, 4)
+        });
+        let library = || Ok(library::verdict(&plan, &parts, tasks, 4));
+        line(&format!("verdict {name}, walk"), library, || {
+            walk::verdict(&plan, &parts, tasks, 4)
+        });
     }
 }

@@ -1,8 +1,9 @@
 use Prim.Native.Nat.{_-_, _≤_}
-use mathlib.Core.Path.{_≡_}
+use mathlib.Core.Path.{_≡_, sym}
+use native.Mathlib.Nat.{mod-eq-of-lt}
 use native.Mathlib.Omega.{arith}
 use Rattle.theory.specs.Plan.{own, held}
-use Rattle.plan_service.proofs.Turns.{held-none, held-within}
+use Rattle.plan_service.proofs.Turns.{held-none, held-turn}
 use borrow.Author.Needs.{needs}
 use Rattle.plan_service.proofs.walked.Statement.{statement}
 use Rattle.plan_service.proofs.walked.Tie as tie
@@ -34,7 +35,7 @@ loop-less c = search needs
 loop-again : tie.Need-loop-again Inv-loop μ-loop
 loop-again c =
     let l = c .before .before .loop in
-    (search needs, search needs, held-within _ _ _ _ _ _ (search needs) (l .inv .2) (c .own-at .ensures .1))
+    (search needs, search needs, held-turn _ _ _ _ _ _ _ (sym (mod-eq-of-lt (search needs))) (l .inv .2) (c .own-at .ensures .1))
 
 returns : tie.Need-returns Inv-loop μ-loop
 returns c =
