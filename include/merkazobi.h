@@ -11,11 +11,11 @@
    where the length is 0. What is lent for writing must not overlap anything else of the same call.
 
    Cost: `merkazobi_read` and `merkazobi_section` take up to MERKAZOBI_READ_STACK bytes of stack, `merkazobi_list` up
-   to MERKAZOBI_LIST_STACK, every other call up to MERKAZOBI_STACK. At the limits a build, read or write takes well
-   under a millisecond; a call over running counts walks plan, list (65,552 numbers at most) and questions; a check up to
-   some 0.3 s (16 partitions whose cycle is a frame of 4,096); a verdict for D 4,096 in that frame 0.2 s with a few higher tasks,
-   but half a minute where nearly every tick is a scheduling point; a listing checks its plan and judges every task, so
-   that one of 128 such tasks takes about an hour. A call of the desk goes through its 64 places a few times:
+   to MERKAZOBI_LIST_STACK, every other call up to MERKAZOBI_STACK. At the limits a build, check, read or write takes
+   under a millisecond; a call over running counts walks plan, list (65,552 numbers at most) and questions; a verdict for
+   D 4,096 in a frame of 4,096 takes under a millisecond with a few higher tasks, but some 50 where nearly every tick is
+   a scheduling point; a listing checks its plan and judges every task, so that one of 128 such tasks takes some seconds.
+   merkazobi_held walks at most a frame, merkazobi_least two. A call of the desk goes through its 64 places a few times:
    microseconds, whatever is asked. */
 #ifndef MERKAZOBI_H
 #define MERKAZOBI_H

@@ -88,6 +88,10 @@ static void service(void)
     const size_t least[] = {0, 0, 3, 3, 4};
     for (size_t i = 0; i < 5; i++)
         expect("S1", merkazobi_least(lent.plan, TICKS, 2, times[i]), least[i]);
+    /* As long as can be asked for: whole frames, and seven ticks. */
+    const size_t whole = 3 * (size_t)(UINT32_MAX / TICKS);
+    expect("held of the longest", merkazobi_held(lent.plan, TICKS, 2, 4, UINT32_MAX), whole + 2);
+    expect("least of the longest", merkazobi_least(lent.plan, TICKS, 2, UINT32_MAX), whole + 2);
     ends("held and least", told(0, 0), told(0, 0));
 }
 

@@ -216,10 +216,10 @@ static void count_nulls(void)
 enum {
     WANTS_STACK = 64,
     HELD_STACK = 64,
-    LEAST_STACK = 64,
+    LEAST_STACK = 128,
     BUILD_STACK = 256,
     CHECK_STACK = 320,
-    VERDICT_STACK = 448,
+    VERDICT_STACK = 576,
     COUNTS_FILL_STACK = 256,
     COUNTS_HELD_STACK = 704,
     COUNTS_HELD_MANY_STACK = 704,
@@ -227,7 +227,7 @@ enum {
     READ_STACK = 18112,
     SECTION_STACK = 18112,
     WRITE_STACK = 448,
-    LIST_STACK = 45056,
+    LIST_STACK = 45120,
     OPEN_STACK = 256,
     REQUEST_STACK = 320,
 };
@@ -281,8 +281,8 @@ static void count_stack(void)
 static void stack(void)
 {
     STACK(WANTS_STACK, MERKAZOBI_STACK, merkazobi_wants(4096, 999, 1000));
-    STACK(HELD_STACK, MERKAZOBI_STACK, merkazobi_held(plan, FRAME, 1, 7, FRAME));
-    STACK(LEAST_STACK, MERKAZOBI_STACK, merkazobi_least(plan, FRAME, 1, 64));
+    STACK(HELD_STACK, MERKAZOBI_STACK, merkazobi_held(plan, FRAME, 1, 7, UINT32_MAX));
+    STACK(LEAST_STACK, MERKAZOBI_STACK, merkazobi_least(plan, FRAME, 1, UINT32_MAX));
     STACK(BUILD_STACK, MERKAZOBI_STACK, merkazobi_build(parts, PARTS, plan, FRAME));
     STACK(CHECK_STACK, MERKAZOBI_STACK, merkazobi_check(plan, FRAME, parts, PARTS));
     STACK(VERDICT_STACK, MERKAZOBI_STACK, merkazobi_verdict(plan, FRAME, parts, PARTS, tasks, TASKS, MERKAZOBI_TASKS));

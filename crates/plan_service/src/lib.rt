@@ -57,7 +57,7 @@ fn counted(plan: &[u16], p: usize, n: usize, s: usize) -> usize
 }
 
 // The same of any plan: of an empty one every tick is idle.
-pub fn held_from(plan: &[u16], p: usize, n: usize, s: usize) -> usize
+fn held_from(plan: &[u16], p: usize, n: usize, s: usize) -> usize
     ensures { λ r. ⌜ r ≡ held own (now (plan .entry)) p n s ⌝ }
 {
     if plan.len() == 0 {

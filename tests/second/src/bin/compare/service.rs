@@ -89,9 +89,11 @@ fn least_at_the_limits(trial: &mut Trial) {
         let t = trial.rng.between(0, longest) as u32;
         compare_least(trial, &plan, 1, t);
     }
-    for t in trial.each([4095, 4096, 4097]) {
-        let plan = plans::in_runs(&mut trial.rng, 4096, 2);
-        compare_least(trial, &plan, 1, t);
+    for t in trial.each([4095, 4096, 4097, 8191, 8192, 8193, 12_288]) {
+        for ticks in [4095, 4096] {
+            let plan = plans::in_runs(&mut trial.rng, ticks, 2);
+            compare_least(trial, &plan, 1, t);
+        }
     }
 }
 
@@ -167,12 +169,15 @@ fn long_frames(trial: &mut Trial) {
     }
 }
 
+/// As much as any stretch holds, or a thousandth more.
 fn long_cycles(trial: &mut Trial) {
-    for case in trial.cases(8) {
+    for case in trial.cases(60) {
         let rng = &mut trial.rng;
         let plan = plans::in_runs(rng, 4096, 1);
-        let own = plan::held(&plan, 1, 0, 4096);
-        let num = (own * 1000 / 4096) as u16 + (case % 2) as u16;
-        compare_check(trial, &plan, &[4096, num, 1000]);
+        let cycle = [4096, 4095, rng.between(1, 4095)][case as usize % 3];
+        let least = plan::least(&plan, 1, cycle as u32) as usize;
+        let num = least * 1000 / cycle + rng.between(0, 1);
+        let num = num.clamp(1, 1000) as u16;
+        compare_check(trial, &plan, &[cycle as u16, num, 1000]);
     }
 }
