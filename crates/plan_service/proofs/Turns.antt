@@ -1,4 +1,4 @@
--- What the count of a stretch does at each turn. Assumes nothing.
+-- Laws of the count of a stretch: a tick more, across the frame's end, whole frames, and from one start to the next. Assumes nothing.
 use Prim.Native.Nat.{ℕ, zero, suc, _+_, _-_, _*_, _/_, _%_, _≤_, _<_}
 use mathlib.Core.Path.{_≡_, sym, ap, _∙_}
 use mathlib.Core.List.{List}

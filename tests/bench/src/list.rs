@@ -1,4 +1,5 @@
-//! The listing: of sixteen partitions and 128 tasks in the longest frame, and the slowest there is.
+//! The listing: of sixteen partitions and 128 tasks in the longest frame, and of tasks that try every
+//! tick of it.
 
 use second::inputs::files::Tables;
 use second::inputs::{plans, tables};
@@ -27,7 +28,7 @@ fn largest() -> Vec<u8> {
 }
 
 /// A file of 1,050 bytes: every task but the first tries every tick of the frame, and fails.
-fn slowest() -> Vec<u8> {
+fn every_tick() -> Vec<u8> {
     let first = [1, 1, 1, 1];
     let tables = Tables {
         frame: 4096,
@@ -46,7 +47,7 @@ fn listed(file: &[u8]) -> Result<String, Answer> {
 }
 
 pub fn run() {
-    for (name, file) in [("16, 128, 4096", largest()), ("1050 bytes", slowest())] {
+    for (name, file) in [("16, 128, 4096", largest()), ("1050 bytes", every_tick())] {
         let library = || listed(&file);
         line(&format!("list {name}"), library, || {
             Ok(listing::text(&file))
