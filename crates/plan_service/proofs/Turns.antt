@@ -73,6 +73,9 @@ module _ (plan : List ℕ) (p : ℕ) where
 
 -- ---- from one start to the next
 
+pub in-frame : (f t at : ℕ) → 0 < f → at ≡ t % f → at < f
+in-frame f t at pos e = rw e (mod-lt t pos)
+
 -- the tick that enters is added, the tick that leaves is taken off
 pub held-next : (plan : List ℕ) (p n s enters h b c : ℕ) → s < length plan → enters ≡ (s + n) % length plan → h ≡ held own plan p n s
     → b ≡ only (eqb (getD plan enters 0) p) 1 → c ≡ only (eqb (getD plan s 0) p) 1 → h + b ≡ c + held own plan p n (s + 1)

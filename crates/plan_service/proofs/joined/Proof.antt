@@ -1,4 +1,3 @@
-use Prim.Native.Nat.{_<_, _%_}
 use mathlib.Core.Path.{refl, _∙_}
 use native.Mathlib.Nat.{mod-lt}
 use native.Mathlib.Omega.{arith}

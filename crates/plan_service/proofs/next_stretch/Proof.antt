@@ -1,23 +1,20 @@
-use Prim.Native.Nat.{_+_, _%_, _<_}
-use mathlib.Core.Path.{_≡_, refl}
-use native.Mathlib.Nat.{mod-lt}
+use mathlib.Core.Path.{refl}
 use native.Mathlib.Omega.{arith}
-use lib.ListN.{length}
 use Rattle.theory.specs.Plan.{owner}
 use Rattle.theory.proofs.Plan.{held-le}
-use Rattle.plan_service.proofs.Turns.{held-next, place-next}
+use Rattle.plan_service.proofs.Turns.{in-frame, held-next, place-next}
 use borrow.Author.Needs.{needs}
 use Rattle.plan_service.proofs.next_stretch.Statement.{statement}
 use Rattle.plan_service.proofs.next_stretch.Tie as tie
 
 after-requires : tie.Need-after-requires
-after-requires c κs = omega (arith, c .before .pre .3, mod-lt (c .before .args .x .start + c .before .args .x .length) {m = length (c .before .args .plan .now)} (omega arith))
+after-requires c κs = in-frame _ _ _ (omega arith) (c .before .pre .3)
 
 add-t7 : tie.Need-add-t7
 add-t7 c = search needs
 
 own-at-requires : tie.Need-own-at-requires
-own-at-requires c κs = omega (arith, c .before .before .pre .3, mod-lt (c .before .before .args .x .start + c .before .before .args .x .length) {m = length (c .before .before .args .plan .now)} (omega arith))
+own-at-requires c κs = in-frame _ _ _ (omega arith) (c .before .before .pre .3)
 
 add-t9 : tie.Need-add-t9
 add-t9 c = omega (arith, c .before .before .before .before .pre .2, held-le (owner (c .before .before .before .before .args .plan .now)) (c .before .before .before .before .args .p) (c .before .before .before .before .args .x .length) (c .before .before .before .before .args .x .start))
