@@ -12,10 +12,10 @@
 
    Cost: `merkazobi_read` and `merkazobi_section` take up to MERKAZOBI_READ_STACK bytes of stack, `merkazobi_list` up
    to MERKAZOBI_LIST_STACK, every other call up to MERKAZOBI_STACK. At the limits a build, check, read or write takes
-   under a millisecond; a call over running counts walks plan, list (65,552 numbers at most) and questions; a verdict for
-   D 4,096 in a frame of 4,096 takes under a millisecond with a few higher tasks, but some 50 where nearly every tick is
-   a scheduling point; a listing checks its plan and judges every task, so that one of 128 such tasks takes some seconds.
-   merkazobi_held walks at most a frame, merkazobi_least two. A call of the desk goes through its 64 places a few times:
+   under a millisecond; a call over running counts walks plan, list (65,552 numbers at most) and questions;
+   merkazobi_held walks at most a frame, merkazobi_least two. A verdict walks as much for each scheduling point: some ten
+   to twenty microseconds in a frame of 4,096, and of D 4,096 nearly every tick may be a point. A listing judges every
+   task: with 128 such tasks it takes some seconds. A call of the desk goes through its 64 places a few times:
    microseconds, whatever is asked. */
 #ifndef MERKAZOBI_H
 #define MERKAZOBI_H

@@ -16,18 +16,18 @@ pub fn scan(plan: &[u16], parts: &[u16]) -> Finding
     'scan: while k < n {
         let m = rules::numbers::wide(rules::records::cycle(parts, k));
         let q = rules::records::wanted(parts, k);
-        let mut x = plan_service::stretch_from(plan, k + 1, m, 0);
-        while x.start < f {
-            if x.held < q {
+        let mut stretch = plan_service::stretch_from(plan, k + 1, m, 0);
+        while stretch.start < f {
+            if stretch.held < q {
                 found = Finding::Refused(Refusal::Shortfall {
                     partition: k + 1,
-                    start: x.start,
-                    held: x.held,
+                    start: stretch.start,
+                    held: stretch.held,
                     wanted: q,
                 });
                 break 'scan;
             }
-            x = plan_service::next_stretch(plan, k + 1, x);
+            stretch = plan_service::next_stretch(plan, k + 1, stretch);
         }
         k += 1;
     }

@@ -14,7 +14,7 @@ fn own_at(plan: &[u16], p: usize, at: usize) -> usize
     rules::numbers::one_if(rules::numbers::wide(plan[at]) == p)
 }
 
-// How many of the n ticks from place a of the frame on are p's, up to the frame's end at most: one by one.
+// How many of the n ticks from place a of the frame on are p's, up to the frame's end at most, in a row.
 fn walked(plan: &[u16], p: usize, n: usize, a: usize) -> usize
     requires { ⌜ a + n ≤ length (now plan) ⌝ }
     ensures { λ r. ⌜ (r ≤ n) × (r ≡ held own (now (plan .entry)) p n a) ⌝ }
@@ -108,21 +108,21 @@ pub fn stretch_from(plan: &[u16], p: usize, n: usize, s: usize) -> Stretch
 }
 
 // The stretch that starts a tick later: the tick that enters is added, the tick that leaves is taken off.
-pub fn next_stretch(plan: &[u16], p: usize, x: Stretch) -> Stretch
-    requires { ⌜ (x .length < 2 ^ 32) × (x .start < length (now plan))
-        × (x .held ≡ held own (now plan) p (x .length) (x .start))
-        × (x .enters ≡ (x .start + x .length) % length (now plan)) ⌝ }
-    ensures { λ r. ⌜ (r .start ≡ x .start + 1) × (r .length ≡ x .length)
+pub fn next_stretch(plan: &[u16], p: usize, stretch: Stretch) -> Stretch
+    requires { ⌜ (stretch .length < 2 ^ 32) × (stretch .start < length (now plan))
+        × (stretch .held ≡ held own (now plan) p (stretch .length) (stretch .start))
+        × (stretch .enters ≡ (stretch .start + stretch .length) % length (now plan)) ⌝ }
+    ensures { λ r. ⌜ (r .start ≡ stretch .start + 1) × (r .length ≡ stretch .length)
         × (r .held ≡ held own (now (plan .entry)) p (r .length) (r .start))
         × (r .enters ≡ (r .start + r .length) % length (now (plan .entry))) ⌝ }
 {
-    let leaves = x.start;
-    let enters = x.enters;
+    let leaves = stretch.start;
+    let enters = stretch.enters;
     let next = rules::numbers::after(enters, plan.len());
     Stretch {
         start: leaves + 1,
-        length: x.length,
-        held: x.held + own_at(plan, p, enters) - own_at(plan, p, leaves),
+        length: stretch.length,
+        held: stretch.held + own_at(plan, p, enters) - own_at(plan, p, leaves),
         enters: next,
     }
 }
@@ -133,11 +133,11 @@ pub fn least(plan: &[u16], p: u16, t: u32) -> usize
 {
     let owner = p as usize;
     let f = plan.len();
-    let mut x = stretch_from(plan, owner, t as usize, 0);
-    let mut best = x.held;
-    while x.start < f {
-        best = rules::numbers::smaller(best, x.held);
-        x = next_stretch(plan, owner, x);
+    let mut stretch = stretch_from(plan, owner, t as usize, 0);
+    let mut best = stretch.held;
+    while stretch.start < f {
+        best = rules::numbers::smaller(best, stretch.held);
+        stretch = next_stretch(plan, owner, stretch);
     }
     best
 }

@@ -16,7 +16,6 @@ pub fn run() {
         line(&format!("check 16 x 4096, m {cycle}"), library, || {
             plan::check(&ticks, &parts)
         });
-        let library = || Ok(library::check(&ticks, &parts));
         line(
             &format!("check 16 x 4096, m {cycle}, walk"),
             library,

@@ -47,7 +47,7 @@ fn listed(file: &[u8]) -> Result<String, Answer> {
 }
 
 pub fn run() {
-    for (name, file) in [("16, 128, 4096", largest()), ("1050 bytes", every_tick())] {
+    for (name, file) in [("16, 128, 4096", largest()), ("every tick", every_tick())] {
         let library = || listed(&file);
         line(&format!("list {name}"), library, || {
             Ok(listing::text(&file))

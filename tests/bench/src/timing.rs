@@ -16,7 +16,7 @@ pub fn line<O: PartialEq + std::fmt::Debug>(
     let second = nanoseconds(second);
     let ratio = library / second;
     let digits = if ratio < 0.1 { 4 } else { 2 };
-    println!("{name:<28}  {library:>14.0}  {second:>14.0}  {ratio:>8.digits$}");
+    println!("{name:<32}  {library:>14.0}  {second:>14.0}  {ratio:>8.digits$}");
 }
 
 /// Nanoseconds a call, over as many calls as take long enough to be measured.

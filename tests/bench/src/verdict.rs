@@ -30,7 +30,6 @@ pub fn run() {
         line(&format!("verdict {name}"), library, || {
             verdict::verdict(&plan, &parts, tasks, 4)
         });
-        let library = || Ok(library::verdict(&plan, &parts, tasks, 4));
         line(&format!("verdict {name}, walk"), library, || {
             walk::verdict(&plan, &parts, tasks, 4)
         });

@@ -1,6 +1,6 @@
 //! The library's own method once more, in Rust: of all stretches of one length the first is counted,
-//! and from start to start the tick that enters is added and the tick that leaves is taken off. For
-//! good tables and plans: no other refusal than 9 is looked for.
+//! and from start to start the tick that enters is added and the tick that leaves is taken off. It is
+//! given good tables: of what tells against a plan only 9 is looked for.
 
 use second::records::{self, Partition, Task};
 use second::{file, ticks, Answer};
@@ -58,9 +58,9 @@ fn serves(plan: &[u16], partitions: &[Partition]) -> Result<(), Answer> {
     Ok(())
 }
 
-pub fn check(plan: &[u16], parts: &[u16]) -> Result<Answer, Answer> {
-    serves(plan, &records::partitions(parts)?)?;
-    Ok(Answer::good([0; 4]))
+pub fn check(plan: &[u16], parts: &[u16]) -> Answer {
+    let served = records::partitions(parts).and_then(|partitions| serves(plan, &partitions));
+    served.map_or_else(|refusal| refusal, |()| Answer::good([0; 4]))
 }
 
 /// The smallest scheduling point that holds, or 0.
@@ -81,10 +81,13 @@ fn point(plan: &[u16], tasks: &[Task], place: usize) -> u64 {
     (1..=task.d).find(holds).unwrap_or(0)
 }
 
-pub fn verdict(plan: &[u16], parts: &[u16], tasks: &[u16], place: usize) -> Result<Answer, Answer> {
-    check(plan, parts)?;
-    let point = point(plan, &records::tasks(tasks)?, place);
-    Ok(Answer::good([point, 0, 0, 0]))
+pub fn verdict(plan: &[u16], parts: &[u16], tasks: &[u16], place: usize) -> Answer {
+    let served = check(plan, parts);
+    match records::tasks(tasks) {
+        Ok(tasks) if served.number == 0 => Answer::good([point(plan, &tasks, place), 0, 0, 0]),
+        Ok(_) => served,
+        Err(refusal) => refusal,
+    }
 }
 
 pub fn list(bytes: &[u8]) -> Result<String, Answer> {

@@ -11,16 +11,16 @@ use Rattle.plan_check.proofs.scan.Statement.{statement}
 use Rattle.plan_check.proofs.scan.Tie as tie
 
 abbrev Inv-loop : tie.InvT-loop
-Inv-loop plan parts f n found₀ k m q x₀ found x =
-    (x .start ≤ f)
+Inv-loop plan parts f n found₀ k m q stretch₀ found stretch =
+    (stretch .start ≤ f)
     × (found ≡ Good)
-    × (x .length ≡ m)
-    × (x .held ≡ held own plan (k + 1) (x .length) (x .start))
-    × (x .enters ≡ (x .start + x .length) % f)
-    × (first (shortAt plan parts k) (x .start) ≡ x .start)
+    × (stretch .length ≡ m)
+    × (stretch .held ≡ held own plan (k + 1) (stretch .length) (stretch .start))
+    × (stretch .enters ≡ (stretch .start + stretch .length) % f)
+    × (first (shortAt plan parts k) (stretch .start) ≡ stretch .start)
 
 abbrev μ-loop : tie.MeasureT-loop
-μ-loop plan parts f n found₀ k m q x₀ found x = f - x .start
+μ-loop plan parts f n found₀ k m q stretch₀ found stretch = f - stretch .start
 
 abbrev Inv-scan : tie.InvT-scan
 Inv-scan plan parts f n found₀ k₀ found k = (k ≤ n) × (found ≡ Good) × (first (shortIn plan parts) k ≡ k)

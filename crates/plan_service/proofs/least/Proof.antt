@@ -10,15 +10,15 @@ use Rattle.plan_service.proofs.least.Statement.{statement}
 use Rattle.plan_service.proofs.least.Tie as tie
 
 abbrev Inv-loop : tie.InvT-loop
-Inv-loop plan p t owner f x₀ best₀ x best =
-    (x .start ≤ f)
-    × (x .length ≡ t)
-    × (x .held ≡ held own plan p (x .length) (x .start))
-    × (x .enters ≡ (x .start + x .length) % f)
-    × (best ≡ smallest (held own plan p t) (x .start))
+Inv-loop plan p t owner f stretch₀ best₀ stretch best =
+    (stretch .start ≤ f)
+    × (stretch .length ≡ t)
+    × (stretch .held ≡ held own plan p (stretch .length) (stretch .start))
+    × (stretch .enters ≡ (stretch .start + stretch .length) % f)
+    × (best ≡ smallest (held own plan p t) (stretch .start))
 
 abbrev μ-loop : tie.MeasureT-loop
-μ-loop plan p t owner f x₀ best₀ x best = f - x .start
+μ-loop plan p t owner f stretch₀ best₀ stretch best = f - stretch .start
 
 stretch-from-requires : tie.Need-stretch-from-requires Inv-loop μ-loop
 stretch-from-requires c κs = search needs
@@ -47,7 +47,7 @@ returns : tie.Need-returns Inv-loop μ-loop
 unfolding least
 returns c =
     let l = c .before .before .loop in
-    let e : l .x .start ≡ length (c .before .before .before .before .before .args .plan .now) = omega arith in
+    let e : l .stretch .start ≡ length (c .before .before .before .before .before .args .plan .now) = omega arith in
     rw e at (l .inv .4)
 
 pub least-spec : {M : Type 1} → statement M

@@ -14,10 +14,10 @@ add-t7 : tie.Need-add-t7
 add-t7 c = search needs
 
 own-at-requires : tie.Need-own-at-requires
-own-at-requires c κs = in-frame _ _ _ (omega arith) (c .before .before .pre .3)
+own-at-requires c κs = omega (arith, in-frame _ _ _ (omega arith) (c .before .before .pre .3))
 
 add-t9 : tie.Need-add-t9
-add-t9 c = omega (arith, c .before .before .before .before .pre .2, held-le (owner (c .before .before .before .before .args .plan .now)) (c .before .before .before .before .args .p) (c .before .before .before .before .args .x .length) (c .before .before .before .before .args .x .start))
+add-t9 c = omega (arith, c .before .before .before .before .pre .2, held-le (owner (c .before .before .before .before .args .plan .now)) (c .before .before .before .before .args .p) (c .before .before .before .before .args .stretch .length) (c .before .before .before .before .args .stretch .start))
 
 own-at-requires-2 : tie.Need-own-at-requires-2
 own-at-requires-2 c κs = search needs

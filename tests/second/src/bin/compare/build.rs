@@ -135,7 +135,7 @@ fn at_the_limits(trial: &mut Trial) {
             1 => tables::full(&mut trial.rng, count, 4096, false),
             _ => tables::full(&mut trial.rng, count, 4096, true),
         };
-        // The checker is tried on these elsewhere: it costs a frame times a cycle.
+        // The checker is tried on these elsewhere: the second program's costs a frame times a cycle.
         compare(trial, &parts, 4096);
         compare_lengths(trial, &parts);
     }

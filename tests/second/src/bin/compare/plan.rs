@@ -103,7 +103,7 @@ fn good_tables(trial: &mut Trial) {
         let text = texts::laid_out(&mut trial.rng, &table);
         let answer = compare(trial, &text);
         seen.note(&answer);
-        // The checker costs a frame times a cycle.
+        // The second program's checker costs a frame times a cycle.
         if longest <= 200 {
             serves(trial, &table, &answer);
         }

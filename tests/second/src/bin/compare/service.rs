@@ -155,7 +155,7 @@ fn each_limit(trial: &mut Trial) {
     }
 }
 
-/// Whether a long plan is accepted costs a frame times a cycle for each partition.
+/// Whether a long plan is accepted costs the second program a frame times a cycle for each partition.
 fn long_frames(trial: &mut Trial) {
     for case in trial.cases(120) {
         let rng = &mut trial.rng;
@@ -169,7 +169,7 @@ fn long_frames(trial: &mut Trial) {
     }
 }
 
-/// As much as any stretch holds, or a thousandth more.
+/// What every stretch holds at least, or a thousandth more.
 fn long_cycles(trial: &mut Trial) {
     for case in trial.cases(60) {
         let rng = &mut trial.rng;

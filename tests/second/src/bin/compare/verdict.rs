@@ -155,7 +155,7 @@ fn many_tasks(trial: &mut Trial) {
 
 /// Sixteen partitions in the longest frame, up to the longest deadline.
 fn long_frames(trial: &mut Trial) {
-    for _ in trial.cases(12) {
+    for _ in trial.cases(60) {
         let parts = tables::sixteen(&mut trial.rng);
         let short = plans::serving(&mut trial.rng, &parts, 128).unwrap_or_default();
         let d = trial.rng.between(2000, 4096) as u16;
