@@ -74,7 +74,7 @@ pub fn held(plan: &[u16], p: u16, s: u32, n: u32) -> usize
 }
 
 // A stretch on the walk over starts: what it holds of some partition's ticks, and the place in the frame of the tick
-// behind it, which enters next.
+// behind it, which enters next. Its length stands there for the contracts alone.
 pub struct Stretch {
     pub start: usize,
     pub length: usize,
@@ -92,7 +92,7 @@ fn place(plan: &[u16], t: usize) -> usize
     t % plan.len()
 }
 
-// The stretch of n ticks from tick s on, counted.
+// The stretch of n ticks from tick s on, counted; both are of 32 bits, as callers have them, so that no sum can wrap.
 pub fn stretch_from(plan: &[u16], p: usize, n: usize, s: usize) -> Stretch
     requires { ⌜ (n < 2 ^ 32) × (s < 2 ^ 32) ⌝ }
     ensures { λ r. ⌜ (r .start ≡ s) × (r .length ≡ n)
