@@ -15,7 +15,8 @@
    under a millisecond; a call over running counts walks plan, list (65,552 numbers at most) and questions;
    merkazobi_held walks at most a frame, merkazobi_least two. A verdict walks as much for each scheduling point: some ten
    to twenty microseconds in a frame of 4,096, and of D 4,096 nearly every tick may be a point. A listing judges every
-   task: with 128 such tasks it takes some seconds. A call of the desk goes through its 64 places a few times:
+   task: with 128 such tasks it takes some seconds. (What is said of check, verdict and listing is reckoned from counted
+   instructions, not timed.) A call of the desk goes through its 64 places a few times:
    microseconds, whatever is asked. */
 #ifndef MERKAZOBI_H
 #define MERKAZOBI_H
