@@ -1,38 +1,71 @@
--- What the verdict's answers mean. Assumes nothing.
+-- What the answers of both engines mean, and that they are alike. Assumes nothing.
 use Prim.Native.Nat.{ℕ, _+_, _-_, _≤_, _<_}
 use mathlib.Core.Path.{_≡_, refl, sym, ap, _∙_}
+use mathlib.Core.Logic.{_↔_}
 use mathlib.Core.Bool.{Bool, true, false, true≢false, _&&_}
-use mathlib.Core.List.{List, []}
+use mathlib.Core.List.{List}
 use native.Mathlib.Omega.{arith}
 use lib.Dec.{leb, ltb}
 use lib.ListN.{length}
 use borrow.Author.Tests.{le-leb, lt-leb, leb-true, leb-false}
-use Rattle.rules.specs.Walk.{pick}
-use Rattle.rules.specs.Table.{partitions, tasks, deadline}
+use Rattle.rules.specs.Walk.{pick, Every}
+use Rattle.rules.specs.Table.{partitions, tasks, deadline, goodTask}
 use Rattle.tables.specs.Tables.{unless, GoodTables}
 use Rattle.rules.specs.declared.Refusal.{Refusal}
-use Rattle.rules.specs.declared.Refusal.the-variants.{Limits, Partition, Task, Tick, Shortfall}
+use Rattle.rules.specs.declared.Refusal.the-variants.{Task, Tick, Shortfall}
 use Rattle.rules.specs.declared.Told.{Told}
 use Rattle.rules.specs.Refusals.{placed}
 use Rattle.rules.proofs.Known.{named, by-told}
-use Rattle.tables.proofs.Chain.{without-tasks, unless-given, unless-good}
-use Rattle.rules.proofs.Tests.{pick-first, pick-second, and-parts}
+use Rattle.tables.proofs.Chain.{unless-given, unless-good}
+use Rattle.rules.proofs.Tests.{pick-first, pick-second}
 use Rattle.theory.specs.Plan.{own}
-use Rattle.theory.specs.Task.{taskLoad, TaskPasses, taskPoint}
-use Rattle.theory.proofs.Points.{point-smallest}
-use Rattle.theory.proofs.Tasks.{task-last, points-enough, run-theorem, endless-theorem}
+use Rattle.theory.specs.Task.{taskLoad, TaskPasses, taskPoint, taskTick}
+use Rattle.theory.proofs.Points.{point-smallest, tick-smallest, tick-below-point}
+use Rattle.theory.proofs.Tasks.{task-last, points-enough, ticks-exactly, run-theorem, endless-theorem}
 use Rattle.rules.specs.declared.Finding.{Finding}
 use Rattle.rules.specs.declared.Finding.the-variants as found
-use Rattle.plan_check.specs.Check.{scanOf, planCheckOf, checkOf}
+use Rattle.plan_check.specs.Check.{scanOf, planCheckOf}
 use Rattle.plan_check.proofs.Answers.{frame-some}
 use Rattle.plan_check.proofs.Orders.{shortPart}
 use Rattle.tables.specs.Contracts.{firstBadTick}
-use Rattle.task_points.specs.declared.Judged.{Judged}
-use Rattle.task_points.specs.declared.Judged.the-variants.{Pass, Fail, Refused}
-use Rattle.task_points.specs.Task.{taskOf, toldJudged}
-use Rattle.task_verdict.specs.Verdict.{placeOf, verdictOf}
-use Rattle.task_verdict.specs.Theorems.{Answered, AnsweredExactly, OutsideTable, PassExactly, FailExactly, PassPoint, EndsInTime, EndsInTimeForEver, VerdictOne, Proved}
+use Rattle.task_verdict.specs.declared.Judged.{Judged}
+use Rattle.task_verdict.specs.declared.Judged.the-variants.{Pass, Fail, Refused}
+use Rattle.task_verdict.specs.Verdict.{placeOf, answerableOf, passAt, judgedBy, verdictOf, plainOf, toldJudged}
+use Rattle.task_verdict.specs.Theorems.{Answered, AnsweredExactly, OutsideTable, PassExactly, FailExactly, EndsInTime, EndsInTimeForEver, Engine, PassPoint, SmallestTick, PassTick, withoutTick, EnginesAlike, TickAtMostPoint, Proved}
+use Rattle.task_verdict.proofs.Orders.{answerable, is-answerable}
 use Rattle.theory.specs.Contracts.{leastFor}
+
+-- ---- a pass at t, unless that is past d
+
+module _ (d t : ℕ) where
+  pass-at : (u : ℕ) → passAt d t ≡ Pass u → (u ≡ t) × (t ≤ d)
+  unfolding passAt
+  pass-at u e =
+      let a = pick-first (leb t d) (Pass t) Fail (Pass u) (λ q. let z : _≡_ {A = ℕ} 0 1 = cc in absurd (omega arith)) e in
+      let f : u ≡ t = cc (a .1) in
+      (f, leb-true t d (a .0))
+
+  is-pass : t ≤ d → passAt d t ≡ Pass t
+  unfolding passAt
+  is-pass h = rw (le-leb t d h)
+
+  fail-at : passAt d t ≡ Fail → d < t
+  unfolding passAt
+  fail-at e =
+      let a = pick-second (leb t d) (Pass t) Fail Fail (λ q. let z : _≡_ {A = ℕ} 0 1 = cc in absurd (omega arith)) e in
+      leb-false t d (a .0)
+
+  is-fail : d < t → passAt d t ≡ Fail
+  unfolding passAt
+  is-fail h = rw (lt-leb t d h)
+
+  not-refused : (r : Refusal) → ¬ (passAt d t ≡ Refused r)
+  unfolding passAt
+  not-refused r = at (leb t d)
+    where
+      at : (b : Bool) → ¬ (pick b (Pass t) Fail ≡ Refused r)
+      at true e = let z : _≡_ {A = ℕ} 0 1 = cc in absurd (omega arith)
+      at false e = let z : _≡_ {A = ℕ} 0 1 = cc in absurd (omega arith)
 
 -- no refusal
 abbrev Given : Judged → Type 0
@@ -48,186 +81,219 @@ after-given : (c : Finding) (j z : Judged) → Given z → unless Refused c j �
 after-given found.Good j z g e = (refl, e)
 after-given (found.Refused r) j z g e = absurd (g r e)
 
-module _ (plan ps ts : List ℕ) (place : ℕ) where
-  -- of good tables the checker has 8 and 9 to answer
-  checked-plan : GoodTables (length plan) ps ts → checkOf plan ps ≡ planCheckOf plan ps
-  unfolding checkOf
-  checked-plan g = unless-good (length plan) ps [] found.Refused (planCheckOf plan ps) (without-tasks (length plan) ps ts g)
-
-  -- what a verdict that is given says of the input
-  given : (z : Judged) → Given z → verdictOf plan ps ts place ≡ z → Answered plan ps ts place × (taskOf plan ts (place - 1) ≡ z)
-  unfolding verdictOf placeOf
-  given z g e =
-      let a = unless-given (length plan) ps ts Refused (placeOf plan ps ts place) z (g Limits) (λ k. g (Partition k)) (λ j. g (Task (j + 1))) e in
-      let p = pick-first (leb 1 place && leb place (tasks ts)) _ _ z (g _) (a .1) in
-      let i = and-parts (leb 1 place) (leb place (tasks ts)) (p .0) in
-      let s = after-given (planCheckOf plan ps) (taskOf plan ts (place - 1)) z g (p .1) in (
-        record {
-          accepted = checked-plan (a .0) ∙ s .0;
-          good = a .0;
-          from-1 = leb-true 1 place (i .0);
-          listed = leb-true place (tasks ts) (i .1);
-        },
-        s .1,
-      )
-
-  -- and from there the task's own answer is given
-  pub answer : Answered plan ps ts place → verdictOf plan ps ts place ≡ taskOf plan ts (place - 1)
-  unfolding verdictOf placeOf
-  answer a =
-      unless-good (length plan) ps ts Refused (placeOf plan ps ts place) (a .good)
-      ∙ rw (le-leb 1 place (a .from-1), le-leb place (tasks ts) (a .listed), sym (checked-plan (a .good)) ∙ a .accepted)
-
--- ---- the task's own answer
-
-module _ (plan ts : List ℕ) (i : ℕ) where
-  pass-at : (t : ℕ) → taskOf plan ts i ≡ Pass t → (t ≡ taskPoint own plan ts i) × (taskPoint own plan ts i ≤ deadline ts i)
-  unfolding taskOf
-  pass-at t e =
-      let a = pick-first (leb (taskPoint own plan ts i) (deadline ts i)) _ _ (Pass t) (λ q. let z : _≡_ {A = ℕ} 0 1 = cc in absurd (omega arith)) e in
-      let f : t ≡ taskPoint own plan ts i = cc (a .1) in
-      (f, leb-true _ _ (a .0))
-
-  is-pass : taskPoint own plan ts i ≤ deadline ts i → taskOf plan ts i ≡ Pass (taskPoint own plan ts i)
-  unfolding taskOf
-  is-pass h = rw (le-leb _ _ h)
-
-  fail-at : taskOf plan ts i ≡ Fail → deadline ts i < taskPoint own plan ts i
-  unfolding taskOf
-  fail-at e =
-      let a = pick-second (leb (taskPoint own plan ts i) (deadline ts i)) _ _ Fail (λ q. let z : _≡_ {A = ℕ} 0 1 = cc in absurd (omega arith)) e in
-      leb-false _ _ (a .0)
-
-  is-fail : deadline ts i < taskPoint own plan ts i → taskOf plan ts i ≡ Fail
-  unfolding taskOf
-  is-fail h = rw (lt-leb _ _ h)
-
 -- ---- 7 with place 0
 
-judged-refused : (j : Judged) (t : Told) → 1 ≤ t .number → ¬ (t .number ≡ 8) → toldJudged j ≡ t → j ≡ Refused (named (t .number) (t .first) (t .second) (t .third) (t .fourth))
-judged-refused (Pass n) t h g e = let z : 0 ≡ t .number = ap (λ (u : Told). u .number) e in absurd (omega arith)
-judged-refused Fail t h g e = let z : 0 ≡ t .number = ap (λ (u : Told). u .number) e in absurd (omega arith)
-judged-refused (Refused r) t h g e = ap Refused (by-told r t g e)
+seven-refused : (j : Judged) (t : Told) → 1 ≤ t .number → ¬ (t .number ≡ 8) → toldJudged j ≡ t → j ≡ Refused (named (t .number) (t .first) (t .second) (t .third) (t .fourth))
+seven-refused (Pass n) t h g e = let z : 0 ≡ t .number = ap (λ (u : Told). u .number) e in absurd (omega arith)
+seven-refused Fail t h g e = let z : 0 ≡ t .number = ap (λ (u : Told). u .number) e in absurd (omega arith)
+seven-refused (Refused r) t h g e = ap Refused (by-told r t g e)
 
--- neither 8 nor 9 nor a task's own answer is a 7
-no-seven : (c d b : Bool) (t p s h w u : ℕ)
-    → ¬ (unless Refused (unless found.Refused (pick c (found.Refused (Tick t)) found.Good) (pick d (found.Refused (Shortfall p s h w)) found.Good)) (pick b (Pass u) Fail) ≡ Refused (Task 0))
-no-seven true d b t p s h w u e = let z : _≡_ {A = ℕ} 0 1 = cc in absurd (omega arith)
-no-seven false true b t p s h w u e = let z : _≡_ {A = ℕ} 0 1 = cc in absurd (omega arith)
-no-seven false false true t p s h w u e = let z : _≡_ {A = ℕ} 0 1 = cc in absurd (omega arith)
-no-seven false false false t p s h w u e = let z : _≡_ {A = ℕ} 0 1 = cc in absurd (omega arith)
+-- neither 8 nor 9 is a 7
+no-seven : (c d : Bool) (t p s h w : ℕ)
+    → ¬ (unless found.Refused (pick c (found.Refused (Tick t)) found.Good) (pick d (found.Refused (Shortfall p s h w)) found.Good) ≡ found.Refused (Task 0))
+no-seven true d t p s h w e = let z : _≡_ {A = ℕ} 0 1 = cc in absurd (omega arith)
+no-seven false true t p s h w e = let z : _≡_ {A = ℕ} 0 1 = cc in absurd (omega arith)
+no-seven false false t p s h w e = let z : _≡_ {A = ℕ} 0 1 = cc in absurd (omega arith)
+
+plan-no-seven : (plan ps : List ℕ) → ¬ (planCheckOf plan ps ≡ found.Refused (Task 0))
+unfolding planCheckOf scanOf
+plan-no-seven plan ps = no-seven (ltb (firstBadTick (partitions ps) plan) (length plan)) (ltb (shortPart plan ps) (partitions ps)) _ _ _ _ _
 
 module _ (plan ps ts : List ℕ) (place : ℕ) where
-  behind : Judged
-  behind = unless Refused (planCheckOf plan ps) (taskOf plan ts (place - 1))
-
-  behind-no-seven : ¬ (behind ≡ Refused (Task 0))
-  unfolding behind planCheckOf scanOf taskOf
-  behind-no-seven =
-      no-seven (ltb (firstBadTick (partitions ps) plan) (length plan)) (ltb (shortPart plan ps) (partitions ps))
-      (leb (taskPoint own plan ts (place - 1)) (deadline ts (place - 1))) _ _ _ _ _ _
-
-  outside : verdictOf plan ps ts place ≡ Refused (Task 0) → GoodTables (length plan) ps ts × (leb 1 place && leb place (tasks ts) ≡ false)
-  unfolding verdictOf placeOf behind
+  outside : answerableOf plan ps ts place ≡ found.Refused (Task 0) → GoodTables (length plan) ps ts × (leb 1 place && leb place (tasks ts) ≡ false)
+  unfolding answerableOf placeOf
   outside e =
-      let a = unless-given (length plan) ps ts Refused (placeOf plan ps ts place) (Refused (Task 0))
+      let a = unless-given (length plan) ps ts found.Refused (placeOf plan ps ts place) (found.Refused (Task 0))
       (λ q. let z : _≡_ {A = ℕ} 0 1 = cc in absurd (omega arith))
       (λ k q. let z : _≡_ {A = ℕ} 0 1 = cc in absurd (omega arith))
       (λ j q. let z : j + 1 ≡ 0 = cc in absurd (omega arith))
       e in
-      (a .0, pick-second (leb 1 place && leb place (tasks ts)) behind (Refused (Task 0)) (Refused (Task 0)) behind-no-seven (a .1) .0)
+      (a .0, pick-second (leb 1 place && leb place (tasks ts)) (planCheckOf plan ps) _ (found.Refused (Task 0)) (plan-no-seven plan ps) (a .1) .0)
 
-  is-outside : GoodTables (length plan) ps ts → leb 1 place && leb place (tasks ts) ≡ false → verdictOf plan ps ts place ≡ Refused (Task 0)
-  unfolding verdictOf placeOf
-  is-outside g e = unless-good (length plan) ps ts Refused (placeOf plan ps ts place) g ∙ rw e
+  is-outside : GoodTables (length plan) ps ts → leb 1 place && leb place (tasks ts) ≡ false → answerableOf plan ps ts place ≡ found.Refused (Task 0)
+  unfolding answerableOf placeOf
+  is-outside g e = unless-good (length plan) ps ts found.Refused (placeOf plan ps ts place) g ∙ rw e
 
--- ---- the statements
-
-module _ (plan ps ts : List ℕ) (place : ℕ) where
   within : Answered plan ps ts place → place - 1 < tasks ts
   within a = omega (arith, a .from-1, a .listed)
 
-  not-task-refused : (r : Refusal) → ¬ (taskOf plan ts (place - 1) ≡ Refused r)
-  unfolding taskOf
-  not-task-refused r = at (leb (taskPoint own plan ts (place - 1)) (deadline ts (place - 1)))
+-- ---- of an engine whose t is at most D exactly where the task passes
+
+abbrev Enough : (List ℕ → List ℕ → ℕ → ℕ) → Type 0
+Enough engine =
+    (plan ts : List ℕ) (parts : ℕ) → Every (goodTask parts ts) (tasks ts) → (i : ℕ) → i < tasks ts
+    → TaskPasses own plan ts i ↔ (engine plan ts i ≤ deadline ts i)
+
+module _ (engine : List ℕ → List ℕ → ℕ → ℕ) (enough : Enough engine) where
+  abbrev judge : List ℕ → List ℕ → List ℕ → ℕ → Judged
+  judge = judgedBy engine
+
+  module _ (plan ps ts : List ℕ) (place : ℕ) where
+    abbrev d : ℕ
+    d = deadline ts (place - 1)
+
+    abbrev t : ℕ
+    t = engine plan ts (place - 1)
+
+    -- what a verdict that is given says of the input
+    given : (z : Judged) → Given z → judge plan ps ts place ≡ z → Answered plan ps ts place × (passAt d t ≡ z)
+    unfolding judgedBy
+    given z g e = let s = after-given (answerableOf plan ps ts place) (passAt d t) z g e in (answerable plan ps ts place (s .0), s .1)
+
+    -- and from there the task's own answer is given
+    answer : Answered plan ps ts place → judge plan ps ts place ≡ passAt d t
+    unfolding judgedBy
+    answer a = rw (is-answerable plan ps ts place a)
+
+    refused : (r : Refusal) → judge plan ps ts place ≡ Refused r → answerableOf plan ps ts place ≡ found.Refused r
+    unfolding judgedBy
+    refused r = at (answerableOf plan ps ts place)
+      where
+        at : (c : Finding) → unless Refused c (passAt d t) ≡ Refused r → c ≡ found.Refused r
+        at found.Good e = absurd (not-refused d t r e)
+        at (found.Refused q) e = let f : q ≡ r = cc e in ap found.Refused f
+
+    is-refused : (r : Refusal) → answerableOf plan ps ts place ≡ found.Refused r → judge plan ps ts place ≡ Refused r
+    unfolding judgedBy
+    is-refused r e = rw e
+
+    reached : Answered plan ps ts place → TaskPasses own plan ts (place - 1) ↔ (t ≤ d)
+    reached a = enough plan ts (partitions ps) (a .good .tasks) (place - 1) (within plan ps ts place a)
+
+    passed : (u : ℕ) → judge plan ps ts place ≡ Pass u → Answered plan ps ts place × TaskPasses own plan ts (place - 1)
+    passed u e = let w = given (Pass u) (pass-given u) e in (w .0, reached (w .0) .1 (pass-at d t u (w .1) .1))
+
+    passes : Answered plan ps ts place × TaskPasses own plan ts (place - 1) → (u : ℕ) × (judge plan ps ts place ≡ Pass u)
+    passes (a, p) = (t, answer a ∙ is-pass d t (reached a .0 p))
+
+    failed : judge plan ps ts place ≡ Fail → Answered plan ps ts place × ¬ TaskPasses own plan ts (place - 1)
+    failed e =
+        let w = given Fail fail-given e in
+        (w .0, λ p. absurd (omega (arith, reached (w .0) .0 p, fail-at d t (w .1))))
+
+    fails : Answered plan ps ts place × ¬ TaskPasses own plan ts (place - 1) → judge plan ps ts place ≡ Fail
+    fails (a, n) = answer a ∙ at (leb t d) refl
+      where
+        at : (b : Bool) → leb t d ≡ b → passAt d t ≡ Fail
+        at true e = absurd (n (reached a .1 (leb-true t d e)))
+        at false e = is-fail d t (leb-false t d e)
+
+  answered-exactly : AnsweredExactly judge
+  answered-exactly plan ps ts place = (
+    λ h. given plan ps ts place (judge plan ps ts place) (λ r e. h r (sym e)) refl .0,
+    λ a r e. not-refused (d plan ps ts place) (t plan ps ts place) r (sym (answer plan ps ts place a) ∙ e),
+  )
+
+  outside-table : OutsideTable judge
+  outside-table plan ps ts place = (
+    λ e. let q = seven-refused (judge plan ps ts place) (placed 7 0) (omega arith) (λ q. absurd (omega arith)) e in
+        let a = outside plan ps ts place (refused plan ps ts place (Task 0) q) in
+        (a .0, λ i. absurd (true≢false (sym (rw (le-leb 1 place (i .0), le-leb place (tasks ts) (i .1))) ∙ a .1))),
+    λ a. rw (is-refused plan ps ts place (Task 0) (is-outside plan ps ts place (a .0) (none (leb 1 place) (leb place (tasks ts)) refl refl (a .1)))),
+  )
     where
-      at : (b : Bool) → ¬ (pick b (Pass (taskPoint own plan ts (place - 1))) Fail ≡ Refused r)
-      at true e = let z : _≡_ {A = ℕ} 0 1 = cc in absurd (omega arith)
-      at false e = let z : _≡_ {A = ℕ} 0 1 = cc in absurd (omega arith)
+      none : (b c : Bool) → leb 1 place ≡ b → leb place (tasks ts) ≡ c → ¬ ((1 ≤ place) × (place ≤ tasks ts)) → b && c ≡ false
+      none true true e f n = absurd (n (leb-true 1 place e, leb-true place (tasks ts) f))
+      none true false e f n = refl
+      none false c e f n = refl
 
-  passed : (t : ℕ) → verdictOf plan ps ts place ≡ Pass t → Answered plan ps ts place × TaskPasses own plan ts (place - 1)
-  passed t e =
-      let w = given plan ps ts place (Pass t) (pass-given t) e in
-      (w .0, points-enough own plan ts (partitions ps) (w .0 .good .tasks) (place - 1) (within (w .0)) .1 (pass-at plan ts (place - 1) t (w .1) .1))
+  pass-exactly : PassExactly judge
+  pass-exactly plan ps ts place = (λ w. passed plan ps ts place (w .0) (w .1), passes plan ps ts place)
 
-  passes : Answered plan ps ts place × TaskPasses own plan ts (place - 1) → (t : ℕ) × (verdictOf plan ps ts place ≡ Pass t)
-  passes (a, p) =
-      let h = points-enough own plan ts (partitions ps) (a .good .tasks) (place - 1) (within a) .0 p in
-      (taskPoint own plan ts (place - 1), answer plan ps ts place a ∙ is-pass plan ts (place - 1) h)
+  fail-exactly : FailExactly judge
+  fail-exactly plan ps ts place = (failed plan ps ts place, fails plan ps ts place)
 
-  failed : verdictOf plan ps ts place ≡ Fail → Answered plan ps ts place × ¬ TaskPasses own plan ts (place - 1)
-  failed e =
-      let w = given plan ps ts place Fail fail-given e in
-      (w .0, λ p. let h = points-enough own plan ts (partitions ps) (w .0 .good .tasks) (place - 1) (within (w .0)) .0 p in absurd (omega (arith, h, fail-at plan ts (place - 1) (w .1))))
+  ends-in-time : EndsInTime judge
+  ends-in-time plan ps ts place u c v N start work ran legal r h =
+      let w = passed plan ps ts place u v in
+      run-theorem own plan ts (partitions ps) (frame-some ps ts (w .0 .good)) (w .0 .good .tasks) (place - 1) (within plan ps ts place (w .0)) (w .1) N start work ran legal r h
 
-  fails : Answered plan ps ts place × ¬ TaskPasses own plan ts (place - 1) → verdictOf plan ps ts place ≡ Fail
-  fails (a, n) = answer plan ps ts place a ∙ at (leb (taskPoint own plan ts (place - 1)) (deadline ts (place - 1))) refl
-    where
-      at : (b : Bool) → leb (taskPoint own plan ts (place - 1)) (deadline ts (place - 1)) ≡ b → taskOf plan ts (place - 1) ≡ Fail
-      at true e = absurd (n (points-enough own plan ts (partitions ps) (a .good .tasks) (place - 1) (within a) .1 (leb-true _ _ e)))
-      at false e = is-fail plan ts (place - 1) (leb-false _ _ e)
+  ends-in-time-for-ever : EndsInTimeForEver judge
+  ends-in-time-for-ever plan ps ts place u c v start work ran legal r =
+      let w = passed plan ps ts place u v in
+      endless-theorem own plan ts (partitions ps) (frame-some ps ts (w .0 .good)) (w .0 .good .tasks) (place - 1) (within plan ps ts place (w .0)) (w .1) start work ran legal r
 
-pub answered-exactly : AnsweredExactly
-answered-exactly plan ps ts place = (
-  λ h. given plan ps ts place (verdictOf plan ps ts place) (λ r e. h r (sym e)) refl .0,
-  λ a r e. not-task-refused plan ps ts place r (sym (answer plan ps ts place a) ∙ e),
-)
+  engine-proved : Engine judge
+  engine-proved = record {
+    answered-exactly = answered-exactly;
+    outside-table = outside-table;
+    pass-exactly = pass-exactly;
+    fail-exactly = fail-exactly;
+    ends-in-time = ends-in-time;
+    ends-in-time-for-ever = ends-in-time-for-ever;
+  }
 
-pub outside-table : OutsideTable
-outside-table plan ps ts place = (
-  λ e. let a = outside plan ps ts place (judged-refused (verdictOf plan ps ts place) (placed 7 0) (omega arith) (λ q. absurd (omega arith)) e) in
-      (a .0, λ i. absurd (true≢false (sym (rw (le-leb 1 place (i .0), le-leb place (tasks ts) (i .1))) ∙ a .1))),
-  λ a. rw (is-outside plan ps ts place (a .0) (none (leb 1 place) (leb place (tasks ts)) refl refl (a .1))),
-)
-  where
-    none : (b c : Bool) → leb 1 place ≡ b → leb place (tasks ts) ≡ c → ¬ ((1 ≤ place) × (place ≤ tasks ts)) → b && c ≡ false
-    none true true e f n = absurd (n (leb-true 1 place e, leb-true place (tasks ts) f))
-    none true false e f n = refl
-    none false c e f n = refl
+-- ---- the two engines
 
-pub pass-exactly : PassExactly
-pass-exactly plan ps ts place = (λ w. passed plan ps ts place (w .0) (w .1), passes plan ps ts place)
+points : Enough (taskPoint own)
+points plan ts parts good i h = points-enough own plan ts parts good i h
 
-pub fail-exactly : FailExactly
-fail-exactly plan ps ts place = (failed plan ps ts place, fails plan ps ts place)
+ticks : Enough (taskTick own)
+ticks plan ts parts good i h = ticks-exactly own plan ts i
 
 pub pass-point : PassPoint
-pass-point plan ps ts place t e =
-    let w = given plan ps ts place (Pass t) (pass-given t) e in
-    let p = pass-at plan ts (place - 1) t (w .1) in
+pass-point plan ps ts place u e =
+    let w = given (taskPoint own) points plan ps ts place (Pass u) (pass-given u) e in
+    let p = pass-at (deadline ts (place - 1)) (taskPoint own plan ts (place - 1)) u (w .1) in
     rw (p .0) (point-smallest (taskLoad ts) (leastFor own plan ts (place - 1)) (place - 1) (omega (arith, p .1, task-last ts (place - 1))))
 
-pub ends-in-time : EndsInTime
-ends-in-time plan ps ts place t c v N start work ran legal r h =
-    let w = passed plan ps ts place t v in
-    run-theorem own plan ts (partitions ps) (frame-some ps ts (w .0 .good)) (w .0 .good .tasks) (place - 1) (within plan ps ts place (w .0)) (w .1) N start work ran legal r h
+module _ (plan ps ts : List ℕ) (place : ℕ) where
+  passed-tick : (u : ℕ) → plainOf plan ps ts place ≡ Pass u → Answered plan ps ts place × SmallestTick plan ts (place - 1) u
+  passed-tick u e =
+      let w = given (taskTick own) ticks plan ps ts place (Pass u) (pass-given u) e in
+      let p = pass-at (deadline ts (place - 1)) (taskTick own plan ts (place - 1)) u (w .1) in
+      let s = tick-smallest (taskLoad ts) (leastFor own plan ts (place - 1)) (place - 1) (omega (arith, p .1, task-last ts (place - 1))) in
+      rw (p .0) (w .0, record { from-1 = s .0; to-deadline = p .1; holds = s .1; smallest = s .2 })
 
-pub ends-in-time-for-ever : EndsInTimeForEver
-ends-in-time-for-ever plan ps ts place t c v start work ran legal r =
-    let w = passed plan ps ts place t v in
-    endless-theorem own plan ts (partitions ps) (frame-some ps ts (w .0 .good)) (w .0 .good .tasks) (place - 1) (within plan ps ts place (w .0)) (w .1) start work ran legal r
+  tick-passed : (u : ℕ) → Answered plan ps ts place × SmallestTick plan ts (place - 1) u → plainOf plan ps ts place ≡ Pass u
+  tick-passed u (a, s) =
+      let w = passes (taskTick own) ticks plan ps ts place (a, (u, s .from-1, omega (arith, s .to-deadline, task-last ts (place - 1)), s .holds)) in
+      let q = passed-tick (w .0) (w .1) .1 in
+      let e : w .0 ≡ u = omega (arith, q .smallest u (s .from-1) (s .holds), s .smallest (w .0) (q .from-1) (q .holds)) in
+      w .1 ∙ ap Pass e
 
-pub verdict-one : VerdictOne
-verdict-one plan ps ts place r r′ e f = e ∙ sym f
+pub pass-tick : PassTick
+pass-tick plan ps ts place u = (passed-tick plan ps ts place u, tick-passed plan ps ts place u)
+
+-- two that are at most d alike are said alike
+said-alike : (d t u : ℕ) → (t ≤ d → u ≤ d) → (u ≤ d → t ≤ d) → withoutTick (passAt d u) ≡ withoutTick (passAt d t)
+unfolding passAt
+said-alike d t u f g = at (leb t d) (leb u d) refl refl
+  where
+    at : (b c : Bool) → leb t d ≡ b → leb u d ≡ c → withoutTick (pick c (Pass u) Fail) ≡ withoutTick (pick b (Pass t) Fail)
+    at true true e h = refl
+    at true false e h = absurd (omega (arith, f (leb-true t d e), leb-false u d h))
+    at false true e h = absurd (omega (arith, g (leb-true u d h), leb-false t d e))
+    at false false e h = refl
+
+pub engines-alike : EnginesAlike
+unfolding judgedBy
+engines-alike plan ps ts place = at (answerableOf plan ps ts place) refl
+  where
+    at : (c : Finding) → answerableOf plan ps ts place ≡ c
+        → withoutTick (unless Refused c (passAt (deadline ts (place - 1)) (taskTick own plan ts (place - 1))))
+        ≡ withoutTick (unless Refused c (passAt (deadline ts (place - 1)) (taskPoint own plan ts (place - 1))))
+    at found.Good e =
+        let a = answerable plan ps ts place e in
+        let p = reached (taskPoint own) points plan ps ts place a in
+        let q = reached (taskTick own) ticks plan ps ts place a in
+        said-alike _ _ _ (λ h. q .0 (p .1 h)) (λ h. p .0 (q .1 h))
+    at (found.Refused r) e = refl
+
+pub tick-at-most-point : TickAtMostPoint
+tick-at-most-point plan ps ts place u v e f =
+    let a = pass-at (deadline ts (place - 1)) (taskPoint own plan ts (place - 1)) u (given (taskPoint own) points plan ps ts place (Pass u) (pass-given u) e .1) in
+    let b = pass-at (deadline ts (place - 1)) (taskTick own plan ts (place - 1)) v (given (taskTick own) ticks plan ps ts place (Pass v) (pass-given v) f .1) in
+    omega (arith, a .0, b .0, tick-below-point (taskLoad ts) (leastFor own plan ts (place - 1)) (place - 1))
 
 pub proved : Proved
 proved = record {
-  answered-exactly = answered-exactly;
-  outside-table = outside-table;
-  pass-exactly = pass-exactly;
-  fail-exactly = fail-exactly;
+  by-points = engine-proved (taskPoint own) points;
+  by-ticks = engine-proved (taskTick own) ticks;
   pass-point = pass-point;
-  ends-in-time = ends-in-time;
-  ends-in-time-for-ever = ends-in-time-for-ever;
-  verdict-one = verdict-one;
+  pass-tick = pass-tick;
+  engines-alike = engines-alike;
+  tick-at-most-point = tick-at-most-point;
+  verdict-one = λ plan ps ts place r r′ e f. e ∙ sym f;
+  plain-one = λ plan ps ts place r r′ e f. e ∙ sym f;
 }

@@ -1,48 +1,91 @@
 -- The order of the verdict's refusals, at the numbers that the code holds. Assumes nothing.
 use Prim.Native.Nat.{ℕ, _-_, _≤_, _<_}
-use mathlib.Core.Path.{_≡_}
-use mathlib.Core.List.{List}
+use mathlib.Core.Path.{_≡_, sym, _∙_}
+use mathlib.Core.Bool.{_&&_}
+use mathlib.Core.List.{List, []}
+use native.Mathlib.Omega.{arith}
+use lib.Dec.{leb}
 use lib.ListN.{length}
-use borrow.Author.Tests.{lt-leb, le-leb}
+use borrow.Author.Tests.{lt-leb, le-leb, leb-true}
 use Rattle.rules.specs.Limits.{mostTasks}
-use Rattle.rules.specs.Table.{tasks}
-use Rattle.tables.specs.Tables.{tablesOf}
+use Rattle.rules.specs.Table.{tasks, deadline}
+use Rattle.rules.proofs.Tests.{pick-first, and-parts}
+use Rattle.tables.specs.Tables.{tablesOf, unless, GoodTables}
 use Rattle.rules.specs.declared.Refusal.{Refusal}
-use Rattle.rules.specs.declared.Refusal.the-variants.{Task}
-use Rattle.tables.proofs.Chain.{within, good-exactly}
+use Rattle.rules.specs.declared.Refusal.the-variants.{Limits, Partition, Task}
+use Rattle.tables.proofs.Chain.{within, not-good, without-tasks, unless-given, unless-good}
+use Rattle.rules.specs.declared.Finding.{Finding}
 use Rattle.rules.specs.declared.Finding.the-variants as found
-use Rattle.plan_check.specs.Check.{planCheckOf}
-use Rattle.task_points.specs.declared.Judged.{Judged}
-use Rattle.task_points.specs.declared.Judged.the-variants.{Refused}
-use Rattle.task_points.specs.Task.{taskOf}
-use Rattle.task_verdict.specs.Verdict.{placeOf, verdictOf}
-
-pub few-tasks : (frame : ℕ) (ps ts : List ℕ) → tablesOf frame ps ts ≡ found.Good → tasks ts ≤ mostTasks
-few-tasks frame ps ts e = within frame (length ps) (length ts) (good-exactly frame ps ts .0 e .limits) .few-tasks
+use Rattle.plan_check.specs.Check.{planCheckOf, checkOf}
+use Rattle.task_verdict.specs.declared.Judged.{Judged}
+use Rattle.task_verdict.specs.declared.Judged.the-variants.{Refused}
+use Rattle.task_verdict.specs.Verdict.{placeOf, answerableOf, passAt, judgedBy}
+use Rattle.task_verdict.specs.Theorems.{Answered}
 
 module _ (plan ps ts : List ℕ) (place : ℕ) where
-  pub place-none : place < 1 → Refused (Task 0) ≡ placeOf plan ps ts place
+  pub place-none : place < 1 → found.Refused (Task 0) ≡ placeOf plan ps ts place
   unfolding placeOf
   place-none l = rw (lt-leb 1 place l)
 
   module _ (l : 1 ≤ place) where
-    pub place-past : tasks ts < place → Refused (Task 0) ≡ placeOf plan ps ts place
+    pub place-past : tasks ts < place → found.Refused (Task 0) ≡ placeOf plan ps ts place
     unfolding placeOf
     place-past h = rw (le-leb 1 place l, lt-leb place (tasks ts) h)
 
-    module _ (h : place ≤ tasks ts) where
-      pub place-plan : (r : Refusal) → planCheckOf plan ps ≡ found.Refused r → Refused r ≡ placeOf plan ps ts place
-      unfolding placeOf
-      place-plan r e = rw (le-leb 1 place l, le-leb place (tasks ts) h, e)
+    pub place-plan : (f : Finding) → place ≤ tasks ts → f ≡ planCheckOf plan ps → f ≡ placeOf plan ps ts place
+    unfolding placeOf
+    place-plan f h e = rw (le-leb 1 place l, le-leb place (tasks ts) h) e
 
-      pub place-task : (j : Judged) → planCheckOf plan ps ≡ found.Good → j ≡ taskOf plan ts (place - 1) → j ≡ placeOf plan ps ts place
-      unfolding placeOf
-      place-task j e f = rw (le-leb 1 place l, le-leb place (tasks ts) h, e) f
+  pub tables-refused : (r : Refusal) → tablesOf (length plan) ps ts ≡ found.Refused r → found.Refused r ≡ answerableOf plan ps ts place
+  unfolding answerableOf
+  tables-refused r e = rw e
 
-  pub verdict-tables : (r : Refusal) → tablesOf (length plan) ps ts ≡ found.Refused r → Refused r ≡ verdictOf plan ps ts place
-  unfolding verdictOf
-  verdict-tables r e = rw e
+  pub tables-good : (f : Finding) → tablesOf (length plan) ps ts ≡ found.Good → f ≡ placeOf plan ps ts place → f ≡ answerableOf plan ps ts place
+  unfolding answerableOf
+  tables-good f e g = rw e g
 
-  pub verdict-place : tablesOf (length plan) ps ts ≡ found.Good → (j : Judged) → j ≡ placeOf plan ps ts place → j ≡ verdictOf plan ps ts place
-  unfolding verdictOf
-  verdict-place e j f = rw e f
+  -- of good tables the checker has 8 and 9 to answer
+  checked-plan : GoodTables (length plan) ps ts → checkOf plan ps ≡ planCheckOf plan ps
+  unfolding checkOf
+  checked-plan g = unless-good (length plan) ps [] found.Refused (planCheckOf plan ps) (without-tasks (length plan) ps ts g)
+
+  -- nothing is refused: then every rule holds
+  pub answerable : answerableOf plan ps ts place ≡ found.Good → Answered plan ps ts place
+  unfolding answerableOf placeOf
+  answerable e =
+      let a = unless-given (length plan) ps ts found.Refused (placeOf plan ps ts place) found.Good (not-good Limits) (λ k. not-good (Partition k)) (λ j. not-good _) e in
+      let p = pick-first (leb 1 place && leb place (tasks ts)) _ _ found.Good (not-good (Task 0)) (a .1) in
+      let i = and-parts (leb 1 place) (leb place (tasks ts)) (p .0) in
+      record {
+        accepted = checked-plan (a .0) ∙ p .1;
+        good = a .0;
+        from-1 = leb-true 1 place (i .0);
+        listed = leb-true place (tasks ts) (i .1);
+      }
+
+  -- and where they do, nothing is
+  pub is-answerable : Answered plan ps ts place → answerableOf plan ps ts place ≡ found.Good
+  unfolding answerableOf placeOf
+  is-answerable a =
+      unless-good (length plan) ps ts found.Refused (placeOf plan ps ts place) (a .good)
+      ∙ rw (le-leb 1 place (a .from-1), le-leb place (tasks ts) (a .listed)) (sym (checked-plan (a .good)) ∙ a .accepted)
+
+  pub place-from-1 : answerableOf plan ps ts place ≡ found.Good → 1 ≤ place
+  place-from-1 e = answerable e .from-1
+
+  pub few-places : answerableOf plan ps ts place ≡ found.Good → place - 1 ≤ mostTasks
+  few-places e =
+      let a = answerable e in
+      omega (arith, a .listed, within (length plan) (length ps) (length ts) (a .good .limits) .few-tasks)
+
+  -- either engine's answer
+  module _ (engine : List ℕ → List ℕ → ℕ → ℕ) where
+    pub judged-refused : (r : Refusal) → answerableOf plan ps ts place ≡ found.Refused r → Refused r ≡ judgedBy engine plan ps ts place
+    unfolding judgedBy
+    judged-refused r e = rw e
+
+    pub judged-task :
+        (j : Judged) (d t : ℕ) → answerableOf plan ps ts place ≡ found.Good → d ≡ deadline ts (place - 1) → t ≡ engine plan ts (place - 1)
+        → j ≡ passAt d t → j ≡ judgedBy engine plan ps ts place
+    unfolding judgedBy
+    judged-task j d t e ed et f = rw (e, ← ed, ← et) f

@@ -1,4 +1,4 @@
--- What the verdict's answers mean, and demand 3's first half over the two entries' answers. Assumes nothing.
+-- What the answers of both engines mean, that they are alike, and demand 3's first half over the checker's and either engine's. Assumes nothing.
 use Prim.Native.Nat.{ℕ, _+_, _-_, _≤_}
 use mathlib.Core.Path.{_≡_}
 use mathlib.Core.Logic.{_↔_}
@@ -14,10 +14,9 @@ use Rattle.theory.specs.Task.{taskLoad, TaskPasses}
 use Rattle.rules.specs.declared.Finding.the-variants as found
 use Rattle.plan_check.specs.Check.{checkOf}
 use Rattle.rules.specs.Refusals.{placed}
-use Rattle.task_points.specs.Task.{toldJudged}
-use Rattle.task_points.specs.declared.Judged.{Judged}
-use Rattle.task_points.specs.declared.Judged.the-variants.{Pass, Fail, Refused}
-use Rattle.task_verdict.specs.Verdict.{verdictOf, Judges}
+use Rattle.task_verdict.specs.declared.Judged.{Judged}
+use Rattle.task_verdict.specs.declared.Judged.the-variants.{Pass, Fail, Refused}
+use Rattle.task_verdict.specs.Verdict.{verdictOf, plainOf, Judges, JudgesPlainly, toldJudged}
 
 -- nothing is refused: the plan is accepted, the tables are good, and the place is in the table
 pub record Answered (plan ps ts : List ℕ) (place : ℕ) : Type 0 where
@@ -26,26 +25,53 @@ pub record Answered (plan ps ts : List ℕ) (place : ℕ) : Type 0 where
   pub from-1 : 1 ≤ place
   pub listed : place ≤ tasks ts
 
--- a verdict is given exactly then
-abbrev pub AnsweredExactly : Type 0
-AnsweredExactly = (plan ps ts : List ℕ) (place : ℕ) → ((r : _) → ¬ (verdictOf plan ps ts place ≡ Refused r)) ↔ Answered plan ps ts place
+-- ==== of either engine: `judge` is what its entry answers
 
--- "a place outside the table is 7 with place 0, after the other 7s", and before 8 and 9: whatever the plan
-abbrev pub OutsideTable : Type 0
-OutsideTable =
-    (plan ps ts : List ℕ) (place : ℕ)
-    → (toldJudged (verdictOf plan ps ts place) ≡ placed 7 0) ↔ (GoodTables (length plan) ps ts × ¬ ((1 ≤ place) × (place ≤ tasks ts)))
+module _ (judge : List ℕ → List ℕ → List ℕ → ℕ → Judged) where
+  -- a verdict is given exactly then
+  abbrev pub AnsweredExactly : Type 0
+  AnsweredExactly = (plan ps ts : List ℕ) (place : ℕ) → ((r : _) → ¬ (judge plan ps ts place ≡ Refused r)) ↔ Answered plan ps ts place
 
--- "Task i passes exactly when demand(t) ≤ least(t) for some t from 1 to D."
-abbrev pub PassExactly : Type 0
-PassExactly =
-    (plan ps ts : List ℕ) (place : ℕ)
-    → ((t : ℕ) × (verdictOf plan ps ts place ≡ Pass t)) ↔ (Answered plan ps ts place × TaskPasses own plan ts (place - 1))
+  -- "a place outside the table is 7 with place 0, after the other 7s", and before 8 and 9: whatever the plan
+  abbrev pub OutsideTable : Type 0
+  OutsideTable =
+      (plan ps ts : List ℕ) (place : ℕ)
+      → (toldJudged (judge plan ps ts place) ≡ placed 7 0) ↔ (GoodTables (length plan) ps ts × ¬ ((1 ≤ place) × (place ≤ tasks ts)))
 
-abbrev pub FailExactly : Type 0
-FailExactly =
-    (plan ps ts : List ℕ) (place : ℕ)
-    → (verdictOf plan ps ts place ≡ Fail) ↔ (Answered plan ps ts place × ¬ TaskPasses own plan ts (place - 1))
+  -- "Task i passes exactly when demand(t) ≤ least(t) for some t from 1 to D."
+  abbrev pub PassExactly : Type 0
+  PassExactly =
+      (plan ps ts : List ℕ) (place : ℕ)
+      → ((t : ℕ) × (judge plan ps ts place ≡ Pass t)) ↔ (Answered plan ps ts place × TaskPasses own plan ts (place - 1))
+
+  abbrev pub FailExactly : Type 0
+  FailExactly =
+      (plan ps ts : List ℕ) (place : ℕ)
+      → (judge plan ps ts place ≡ Fail) ↔ (Answered plan ps ts place × ¬ TaskPasses own plan ts (place - 1))
+
+  -- Demand 3, first half: "Plan accepted and task passes ⇒ every job of that task ends within D in every legal run, even if other tasks fail."
+  abbrev pub EndsInTime : Type 0
+  EndsInTime =
+      (plan ps ts : List ℕ) (place t : ℕ) → checkOf plan ps ≡ found.Good → judge plan ps ts place ≡ Pass t
+      → (N start : ℕ) (work : ℕ → ℕ → ℕ) (ran : ℕ → Ran) → LegalTo N own plan start ts work ran
+      → (r : ℕ) → r + deadline ts (place - 1) ≤ N → done ran (place - 1) r (r + deadline ts (place - 1)) ≡ work (place - 1) r
+
+  -- the same of runs without end
+  abbrev pub EndsInTimeForEver : Type 0
+  EndsInTimeForEver =
+      (plan ps ts : List ℕ) (place t : ℕ) → checkOf plan ps ≡ found.Good → judge plan ps ts place ≡ Pass t
+      → (start : ℕ) (work : ℕ → ℕ → ℕ) (ran : ℕ → Ran) → Legal own plan start ts work ran
+      → (r : ℕ) → done ran (place - 1) r (r + deadline ts (place - 1)) ≡ work (place - 1) r
+
+  pub record Engine : Type 0 where
+    pub answered-exactly : AnsweredExactly
+    pub outside-table : OutsideTable
+    pub pass-exactly : PassExactly
+    pub fail-exactly : FailExactly
+    pub ends-in-time : EndsInTime
+    pub ends-in-time-for-ever : EndsInTimeForEver
+
+-- ==== of each
 
 -- "A pass reports the smallest scheduling point that holds."
 abbrev pub PassPoint : Type 0
@@ -54,30 +80,47 @@ PassPoint =
     → (point (taskLoad ts) (place - 1) t ≡ true) × (demand (taskLoad ts) (place - 1) t ≤ least own plan (partition ts (place - 1)) t)
     × ((u : ℕ) → point (taskLoad ts) (place - 1) u ≡ true → demand (taskLoad ts) (place - 1) u ≤ least own plan (partition ts (place - 1)) u → t ≤ u)
 
--- Demand 3, first half: "Plan accepted and task passes ⇒ every job of that task ends within D in every legal run, even if other tasks fail."
-abbrev pub EndsInTime : Type 0
-EndsInTime =
-    (plan ps ts : List ℕ) (place t : ℕ) → checkOf plan ps ≡ found.Good → verdictOf plan ps ts place ≡ Pass t
-    → (N start : ℕ) (work : ℕ → ℕ → ℕ) (ran : ℕ → Ran) → LegalTo N own plan start ts work ran
-    → (r : ℕ) → r + deadline ts (place - 1) ≤ N → done ran (place - 1) r (r + deadline ts (place - 1)) ≡ work (place - 1) r
+-- document 02, ask 4: "every tick t from 1 to D .. It reports the smallest tick that holds"
+pub record SmallestTick (plan ts : List ℕ) (i t : ℕ) : Type 0 where
+  pub from-1 : 1 ≤ t
+  pub to-deadline : t ≤ deadline ts i
+  pub holds : demand (taskLoad ts) i t ≤ least own plan (partition ts i) t
+  pub smallest : (u : ℕ) → 1 ≤ u → demand (taskLoad ts) i u ≤ least own plan (partition ts i) u → t ≤ u
 
--- the same of runs without end
-abbrev pub EndsInTimeForEver : Type 0
-EndsInTimeForEver =
-    (plan ps ts : List ℕ) (place t : ℕ) → checkOf plan ps ≡ found.Good → verdictOf plan ps ts place ≡ Pass t
-    → (start : ℕ) (work : ℕ → ℕ → ℕ) (ran : ℕ → Ran) → Legal own plan start ts work ran
-    → (r : ℕ) → done ran (place - 1) r (r + deadline ts (place - 1)) ≡ work (place - 1) r
+abbrev pub PassTick : Type 0
+PassTick =
+    (plan ps ts : List ℕ) (place t : ℕ)
+    → (plainOf plan ps ts place ≡ Pass t) ↔ (Answered plan ps ts place × SmallestTick plan ts (place - 1) t)
+
+-- ==== of both
+
+-- an answer without its point or tick
+abbrev pub withoutTick : Judged → Judged
+withoutTick (Pass t) = Pass 0
+withoutTick Fail = Fail
+withoutTick (Refused r) = Refused r
+
+-- "both give pass or fail alike for every plan and task table", and refuse alike
+abbrev pub EnginesAlike : Type 0
+EnginesAlike = (plan ps ts : List ℕ) (place : ℕ) → withoutTick (plainOf plan ps ts place) ≡ withoutTick (verdictOf plan ps ts place)
+
+-- the tick "may be below the scheduling point", and is never above it
+abbrev pub TickAtMostPoint : Type 0
+TickAtMostPoint = (plan ps ts : List ℕ) (place t u : ℕ) → verdictOf plan ps ts place ≡ Pass t → plainOf plan ps ts place ≡ Pass u → u ≤ t
 
 -- "any two outcomes it permits are equal"
 abbrev pub VerdictOne : Type 0
 VerdictOne = (plan ps ts : List ℕ) (place : ℕ) (r r′ : Judged) → Judges plan ps ts place r → Judges plan ps ts place r′ → r ≡ r′
 
+abbrev pub PlainOne : Type 0
+PlainOne = (plan ps ts : List ℕ) (place : ℕ) (r r′ : Judged) → JudgesPlainly plan ps ts place r → JudgesPlainly plan ps ts place r′ → r ≡ r′
+
 pub record Proved : Type 0 where
-  pub answered-exactly : AnsweredExactly
-  pub outside-table : OutsideTable
-  pub pass-exactly : PassExactly
-  pub fail-exactly : FailExactly
+  pub by-points : Engine verdictOf
+  pub by-ticks : Engine plainOf
   pub pass-point : PassPoint
-  pub ends-in-time : EndsInTime
-  pub ends-in-time-for-ever : EndsInTimeForEver
+  pub pass-tick : PassTick
+  pub engines-alike : EnginesAlike
+  pub tick-at-most-point : TickAtMostPoint
   pub verdict-one : VerdictOne
+  pub plain-one : PlainOne

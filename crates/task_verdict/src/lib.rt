@@ -1,38 +1,74 @@
-// The verdict: whether a task meets its deadline in every legal run.
+// The verdict: whether a task meets its deadline in every legal run, by either engine.
 use rules::Finding;
 use rules::Refusal;
 ghost use mathlib.Core.Path.{_≡_};
-ghost use Prim.Native.Nat.{_≤_};
-ghost use Rattle.rules.specs.Limits.{mostTasks};
-ghost use Rattle.rules.specs.Table.{tasks};
-ghost use Rattle.task_verdict.specs.Verdict.{placeOf, Judges};
-use task_points::Judged;
+ghost use Rattle.task_verdict.specs.Verdict.{placeOf, answerableOf, passAt, Judges, JudgesPlainly};
 
-// The answer for a place counted from 1, in tables whose records are good.
-fn at_place(plan: &[u16], parts: &[u16], table: &[u16], place: usize) -> Judged
-    requires { ⌜ tasks (now table) ≤ mostTasks ⌝ }
+// What is said of a task: it passes at a point or a tick, fails, or why a verdict is refused.
+pub enum Judged {
+    Pass(usize),
+    Fail,
+    Refused(Refusal),
+}
+
+// What is found for a place counted from 1, in tables whose records are good.
+fn at_place(plan: &[u16], parts: &[u16], table: &[u16], place: usize) -> Finding
     ensures { λ r. ⌜ r ≡ placeOf (now (plan .entry)) (now (parts .entry)) (now (table .entry)) place ⌝ }
 {
     if place < 1 {
-        return Judged::Refused(Refusal::Task(0));
+        return Finding::Refused(Refusal::Task(0));
     }
     if rules::records::tasks(table) < place {
-        return Judged::Refused(Refusal::Task(0));
+        return Finding::Refused(Refusal::Task(0));
     }
-    let checked = plan_check::check_plan(plan, parts);
-    match checked {
-        Finding::Refused(r) => Judged::Refused(r),
-        Finding::Good => task_points::task(plan, table, place - 1),
-    }
+    plan_check::check_plan(plan, parts)
 }
 
-// Whether the task at a place, counted from 1, meets its deadline in every legal run.
-pub fn verdict(plan: &[u16], parts: &[u16], table: &[u16], place: usize) -> Judged
-    ensures { λ r. ⌜ Judges (now (plan .entry)) (now (parts .entry)) (now (table .entry)) place r ⌝ }
+// Whether a verdict is given for a place, or why it is refused.
+fn answerable(plan: &[u16], parts: &[u16], table: &[u16], place: usize) -> Finding
+    ensures { λ r. ⌜ r ≡ answerableOf (now (plan .entry)) (now (parts .entry)) (now (table .entry)) place ⌝ }
 {
     let tables = tables::judge_tables(plan.len(), parts, table);
     match tables {
-        Finding::Refused(r) => Judged::Refused(r),
+        Finding::Refused(r) => Finding::Refused(r),
         Finding::Good => at_place(plan, parts, table, place),
+    }
+}
+
+// What is said of a task with deadline d, the smallest that holds being t.
+fn pass_at(d: u16, t: usize) -> Judged
+    ensures { λ r. ⌜ r ≡ passAt d t ⌝ }
+{
+    if t <= rules::numbers::wide(d) {
+        return Judged::Pass(t);
+    }
+    Judged::Fail
+}
+
+// Whether the task at a place, counted from 1, meets its deadline in every legal run, by its scheduling points.
+pub fn verdict(plan: &[u16], parts: &[u16], table: &[u16], place: usize) -> Judged
+    ensures { λ r. ⌜ Judges (now (plan .entry)) (now (parts .entry)) (now (table .entry)) place r ⌝ }
+{
+    let given = answerable(plan, parts, table, place);
+    match given {
+        Finding::Refused(r) => Judged::Refused(r),
+        Finding::Good => {
+            let point = task_points::first_point(plan, table, place - 1);
+            pass_at(rules::records::deadline(table, place - 1), point)
+        }
+    }
+}
+
+// The same by the plain engine, tick by tick.
+pub fn plain(plan: &[u16], parts: &[u16], table: &[u16], place: usize) -> Judged
+    ensures { λ r. ⌜ JudgesPlainly (now (plan .entry)) (now (parts .entry)) (now (table .entry)) place r ⌝ }
+{
+    let given = answerable(plan, parts, table, place);
+    match given {
+        Finding::Refused(r) => Judged::Refused(r),
+        Finding::Good => {
+            let tick = task_plain::first_tick(plan, table, place - 1);
+            pass_at(rules::records::deadline(table, place - 1), tick)
+        }
     }
 }

@@ -1,19 +1,19 @@
--- It is enough to try the scheduling points, of any competitors, and the first one that holds is the smallest. Assumes nothing.
-use mathlib.Core.Path.{_≡_, sym, _∙_}
-use mathlib.Core.Logic.{_⊎_, inl, inr}
-use mathlib.Core.Bool.{true, false, true≢false, _&&_, _||_}
+-- It is enough to try the scheduling points, of any competitors, and the first one that holds is the smallest; so is the first tick. Assumes nothing.
+use mathlib.Core.Path.{_≡_, refl, sym, _∙_}
+use mathlib.Core.Logic.{_⊎_, inl, inr, _↔_}
+use mathlib.Core.Bool.{Bool, true, false, true≢false, _&&_, _||_}
 use Prim.Native.Nat.{ℕ, zero, suc, _+_, _-_, _%_, _≤_, _<_}
 use native.Mathlib.Nat.{mul-le-mul-left}
 use native.Mathlib.Omega.{arith}
 use lib.Dec.{T, eqb, leb}
-use borrow.Author.Tests.{leb-true, le-leb, eq-eqb}
+use borrow.Author.Tests.{leb-true, leb-false, le-leb, eq-eqb}
 use Rattle.rules.specs.Walk.{some}
-use Rattle.rules.proofs.First.{first-at, first-upto, some-at}
+use Rattle.rules.proofs.First.{first-le, first-at, first-upto, some-at}
 use Rattle.rules.proofs.Sum.{only-le, sum-le}
 use Rattle.rules.proofs.Round.{round-suc}
 use Rattle.rules.proofs.Tests.{of-T, and-parts, and-intro, or-left, or-right, any-or-none}
-use Rattle.theory.specs.Load.{Load, asked, demand, lastPoint, Passes, multiple, point, pointFits, firstPoint}
-use Rattle.theory.specs.Theorems.{PointSmallest}
+use Rattle.theory.specs.Load.{Load, asked, demand, lastPoint, Passes, multiple, point, holds, earliest, firstPoint, firstTick}
+use Rattle.theory.specs.Theorems.{PointSmallest, TickSmallest, TickBelowPoint}
 use Rattle.theory.specs.Generality.{LoadPoints}
 
 module _ (L : Load) (i : ℕ) where
@@ -37,36 +37,64 @@ module _ (L : Load) (i : ℕ) where
   point-multiple : (t j : ℕ) → 1 ≤ t → t ≤ end → j < i → multiple L i t j ≡ true → point L i t ≡ true
   point-multiple t j l u h e = point-in t l u (or-right (eqb t end) _ (some-at (multiple L i t) i j h e))
 
--- ---- the first point that holds
+-- ---- the earliest that is tried and holds
+
+module _ (tried : ℕ → Bool) (L : Load) (low : ℕ → ℕ) (i : ℕ) where
+  holds-parts : (t : ℕ) → holds tried L low i t ≡ true → (tried t ≡ true) × (demand L i t ≤ low t)
+  unfolding holds
+  holds-parts t e = let a = and-parts (tried t) (leb (demand L i t) (low t)) e in (a .0, leb-true (demand L i t) (low t) (a .1))
+
+  holds-is : (t : ℕ) → tried t ≡ true → demand L i t ≤ low t → holds tried L low i t ≡ true
+  unfolding holds
+  holds-is t e d = and-intro (tried t) (leb (demand L i t) (low t)) e (le-leb (demand L i t) (low t) d)
+
+  -- it is no later than any that is tried and holds
+  earliest-upto : (t : ℕ) → tried t ≡ true → demand L i t ≤ low t → earliest tried L low i ≤ t
+  unfolding earliest
+  earliest-upto t e d = first-upto (holds tried L low i) (suc (lastPoint L i)) t (holds-is t e d)
+
+  -- up to the last point it is tried, and holds
+  earliest-holds : earliest tried L low i ≤ lastPoint L i → (tried (earliest tried L low i) ≡ true) × (demand L i (earliest tried L low i) ≤ low (earliest tried L low i))
+  unfolding earliest
+  earliest-holds h = holds-parts (earliest tried L low i) (first-at (holds tried L low i) (suc (lastPoint L i)) (omega arith))
+
+  earliest-range : earliest tried L low i ≤ suc (lastPoint L i)
+  unfolding earliest
+  earliest-range = first-le (holds tried L low i) (suc (lastPoint L i))
 
 module _ (L : Load) (low : ℕ → ℕ) (i : ℕ) where
-  holds-parts : (t : ℕ) → pointFits L low i t ≡ true → (point L i t ≡ true) × (demand L i t ≤ low t)
-  unfolding pointFits
-  holds-parts t e = let a = and-parts (point L i t) (leb (demand L i t) (low t)) e in (a .0, leb-true (demand L i t) (low t) (a .1))
-
-  holds-is : (t : ℕ) → point L i t ≡ true → demand L i t ≤ low t → pointFits L low i t ≡ true
-  unfolding pointFits
-  holds-is t e d = and-intro (point L i t) (leb (demand L i t) (low t)) e (le-leb (demand L i t) (low t) d)
-
-  -- it is no later than any point that holds
-  first-earliest : (t : ℕ) → point L i t ≡ true → demand L i t ≤ low t → firstPoint L low i ≤ t
-  unfolding firstPoint
-  first-earliest t e d = first-upto (pointFits L low i) (suc (lastPoint L i)) t (holds-is t e d)
-
-  -- up to the last point it is a point, and holds
-  first-holds : firstPoint L low i ≤ lastPoint L i → (point L i (firstPoint L low i) ≡ true) × (demand L i (firstPoint L low i) ≤ low (firstPoint L low i))
-  unfolding firstPoint
-  first-holds h = holds-parts (firstPoint L low i) (first-at (pointFits L low i) (suc (lastPoint L i)) (omega arith))
-
   -- a point that holds is a pass
   pub point-passes : firstPoint L low i ≤ lastPoint L i → Passes L low i
   point-passes h =
-      let a = first-holds h in
+      let a = earliest-holds (point L i) L low i h in
       let b = point-range L i (firstPoint L low i) (a .0) in
       (firstPoint L low i, b .0, b .1, a .1)
 
+  -- no later than any tick that holds
+  tick-upto : (t : ℕ) → 1 ≤ t → demand L i t ≤ low t → firstTick L low i ≤ t
+  tick-upto t l d = earliest-upto (leb 1) L low i t (le-leb 1 t l) d
+
+  -- every tick is tried: a tick that holds is what passing is
+  pub load-ticks : Passes L low i ↔ (firstTick L low i ≤ lastPoint L i)
+  load-ticks = (
+    λ (t, l, u, d). omega (arith, tick-upto t l d),
+    λ h. let a = earliest-holds (leb 1) L low i h in (firstTick L low i, leb-true 1 (firstTick L low i) (a .0), h, a .1),
+  )
+
 pub point-smallest : PointSmallest
-point-smallest L low i h = let a = first-holds L low i h in (a .0, a .1, first-earliest L low i)
+point-smallest L low i h = let a = earliest-holds (point L i) L low i h in (a .0, a .1, earliest-upto (point L i) L low i)
+
+pub tick-smallest : TickSmallest
+tick-smallest L low i h = let a = earliest-holds (leb 1) L low i h in (leb-true 1 (firstTick L low i) (a .0), a .1, tick-upto L low i)
+
+pub tick-below-point : TickBelowPoint
+tick-below-point L low i = at (leb (firstPoint L low i) (lastPoint L i)) refl
+  where
+    at : (b : Bool) → leb (firstPoint L low i) (lastPoint L i) ≡ b → firstTick L low i ≤ firstPoint L low i
+    at true e =
+        let a = earliest-holds (point L i) L low i (leb-true _ _ e) in
+        tick-upto L low i (firstPoint L low i) (point-range L i (firstPoint L low i) (a .0) .0) (a .1)
+    at false e = omega (arith, leb-false (firstPoint L low i) (lastPoint L i) e, earliest-range (leb 1) L low i)
 
 -- ---- and a pass has one
 
@@ -92,11 +120,11 @@ module _ (L : Load) (low : ℕ → ℕ) (grows : (t : ℕ) → low t ≤ low (su
   up : (g t : ℕ) → t + g ≡ lastPoint L i → 1 ≤ t → demand L i t ≤ low t → firstPoint L low i ≤ lastPoint L i
   up zero t e l d =
       let f : t ≡ lastPoint L i = omega arith in
-      omega (arith, first-earliest L low i t (rw f (point-last L i (omega arith))) d)
+      omega (arith, earliest-upto (point L i) L low i t (rw f (point-last L i (omega arith))) d)
   up (suc g) t e l d = go (λ d′. up g (suc t) (omega arith) (omega arith) d′) (any-or-none (multiple L i t) i)
     where
       go : (demand L i (suc t) ≤ low (suc t) → firstPoint L low i ≤ lastPoint L i) → ((j : ℕ) × (j < i) × (multiple L i t j ≡ true)) ⊎ ((j : ℕ) → j < i → multiple L i t j ≡ false) → firstPoint L low i ≤ lastPoint L i
-      go ih (inl (j, h, m)) = omega (arith, first-earliest L low i t (point-multiple L i t j l (omega arith) h m) d)
+      go ih (inl (j, h, m)) = omega (arith, earliest-upto (point L i) L low i t (point-multiple L i t j l (omega arith) h m) d)
       go ih (inr none) = ih (omega (arith, demand-suc t none, grows t))
 
 pub load-points : LoadPoints

@@ -3,9 +3,9 @@ use mathlib.Core.Path.{sym, _∙_}
 use Rattle.theory.specs.Theorems.{Proved}
 use Rattle.theory.proofs.Wants.{wants-smallest, wants-range}
 use Rattle.theory.proofs.Plan.{least-is-least, least-attained, least-zero, least-bounds, least-grows, serves-in-frame}
-use Rattle.theory.proofs.Tasks.{points-enough, run-theorem, endless-theorem}
+use Rattle.theory.proofs.Tasks.{points-enough, ticks-exactly, run-theorem, endless-theorem}
 use Rattle.theory.proofs.Load.{load-theorem}
-use Rattle.theory.proofs.Points.{load-points, point-smallest}
+use Rattle.theory.proofs.Points.{load-points, point-smallest, tick-smallest, tick-below-point}
 use Rattle.theory.proofs.Exists.{legal-exists, legal-one}
 use Rattle.theory.proofs.Order.{pairs-divide, taken-once, taken-rises}
 use Rattle.theory.proofs.Built.{harmonic-serves, harmonic-refused, harmonic-plan-good}
@@ -26,6 +26,9 @@ proved = record {
   points-enough = points-enough;
   load-points = load-points;
   point-smallest = point-smallest;
+  ticks-exactly = ticks-exactly;
+  tick-smallest = tick-smallest;
+  tick-below-point = tick-below-point;
   run-theorem = run-theorem;
   endless-theorem = endless-theorem;
   load-theorem = load-theorem;

@@ -14,13 +14,13 @@ use Rattle.rules.proofs.Sum.{count-ext}
 use Rattle.rules.proofs.Tests.{good-times}
 use Rattle.theory.specs.Plan.{Rule, service, owned, held}
 use Rattle.theory.specs.Run.{Ran, nothing, job, Waiting, atArrival, Before, Runs, Releases, LegalTo}
-use Rattle.theory.specs.Load.{asked, demand, lastPoint, multiple, point, pointFits, firstPoint}
+use Rattle.theory.specs.Load.{asked, demand, lastPoint, multiple, point, holds, earliest}
 use Rattle.theory.specs.Competition.{LowerBound, Brings, Queue}
 use Rattle.theory.specs.Task.{rival, taskLoad}
-use Rattle.theory.specs.Theorems.{RunTheorem, EndlessTheorem, PointsEnough}
+use Rattle.theory.specs.Theorems.{RunTheorem, EndlessTheorem, PointsEnough, TicksExactly}
 use Rattle.theory.proofs.Plan.{least-is-least, least-grows}
 use Rattle.theory.proofs.Load.{load-theorem}
-use Rattle.theory.proofs.Points.{load-points}
+use Rattle.theory.proofs.Points.{load-points, load-ticks}
 use Rattle.theory.specs.Contracts.{leastFor}
 use Rattle.theory.proofs.Words.{ownsFrom}
 
@@ -47,9 +47,9 @@ module _ (ts : List ℕ) (i : ℕ) where
   unfolding point
   task-point t = ap (λ (x : ℕ). leb 1 t && leb t x && (eqb t x || some (multiple (taskLoad ts) i t) i)) task-last
 
-  pub task-first : (low : ℕ → ℕ) → firstPoint (taskLoad ts) low i ≡ first (pointFits (taskLoad ts) low i) (suc (deadline ts i))
-  unfolding firstPoint
-  task-first low = ap (λ (x : ℕ). first (pointFits (taskLoad ts) low i) (suc x)) task-last
+  pub task-earliest : (tried : ℕ → Bool) (low : ℕ → ℕ) → earliest tried (taskLoad ts) low i ≡ first (holds tried (taskLoad ts) low i) (suc (deadline ts i))
+  unfolding earliest
+  task-earliest tried low = ap (λ (x : ℕ). first (holds tried (taskLoad ts) low i) (suc x)) task-last
 
 -- ---- the run theorem
 
@@ -132,4 +132,11 @@ endless-theorem rule plan ts parts f good i inside pass start work ran R r =
 pub points-enough : PointsEnough
 points-enough rule plan ts parts good i inside =
     let e = load-points (taskLoad ts) (leastFor rule plan ts i) (least-grows rule plan (partition ts i)) i (periods ts parts good i inside) in
+    (λ pass. omega (arith, e .0 pass, task-last ts i), λ h. e .1 (omega (arith, task-last ts i)))
+
+-- ---- every tick
+
+pub ticks-exactly : TicksExactly
+ticks-exactly rule plan ts i =
+    let e = load-ticks (taskLoad ts) (leastFor rule plan ts i) i in
     (λ pass. omega (arith, e .0 pass, task-last ts i), λ h. e .1 (omega (arith, task-last ts i)))

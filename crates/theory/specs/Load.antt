@@ -37,10 +37,18 @@ multiple L i t j = L .rival i j && eqb ((t + L .jitter j) % L .period j) 0
 unfoldable pub point : Load → ℕ → ℕ → Bool
 point L i t = leb 1 t && leb t (lastPoint L i) && (eqb t (lastPoint L i) || some (multiple L i t) i)
 
--- a scheduling point "that holds"
-unfoldable pub pointFits : Load → (ℕ → ℕ) → ℕ → ℕ → Bool
-pointFits L low i t = point L i t && leb (demand L i t) (low t)
+-- t is tried, and "demand(t) ≤ least(t)" holds there
+unfoldable pub holds : (ℕ → Bool) → Load → (ℕ → ℕ) → ℕ → ℕ → Bool
+holds tried L low i t = tried t && leb (demand L i t) (low t)
 
--- "the smallest scheduling point that holds": past the last where none does
-unfoldable pub firstPoint : Load → (ℕ → ℕ) → ℕ → ℕ
-firstPoint L low i = first (pointFits L low i) (suc (lastPoint L i))
+-- the smallest t up to D that is tried and holds: past D where none does
+unfoldable pub earliest : (ℕ → Bool) → Load → (ℕ → ℕ) → ℕ → ℕ
+earliest tried L low i = first (holds tried L low i) (suc (lastPoint L i))
+
+-- "the smallest scheduling point that holds"
+abbrev pub firstPoint : Load → (ℕ → ℕ) → ℕ → ℕ
+firstPoint L low i = earliest (point L i) L low i
+
+-- document 02, ask 4: "every tick t from 1 to D, no scheduling points", "the smallest tick that holds"
+abbrev pub firstTick : Load → (ℕ → ℕ) → ℕ → ℕ
+firstTick L low i = earliest (leb 1) L low i

@@ -5,7 +5,7 @@ use Prim.Native.Nat.{ℕ}
 use lib.Dec.{eqb}
 use Rattle.rules.specs.Table.{partition, budget, deadline, period}
 use Rattle.theory.specs.Plan.{Rule, least}
-use Rattle.theory.specs.Load.{Load, Passes, firstPoint}
+use Rattle.theory.specs.Load.{Load, Passes, firstPoint, firstTick}
 
 -- "Within a partition an earlier task has the higher priority": of the tasks before i, those of its partition
 unfoldable pub rival : List ℕ → ℕ → ℕ → Bool
@@ -22,3 +22,7 @@ TaskPasses rule plan ts i = Passes (taskLoad ts) (least rule plan (partition ts 
 -- "A pass reports the smallest scheduling point that holds": past D where none does
 abbrev pub taskPoint : Rule → List ℕ → List ℕ → ℕ → ℕ
 taskPoint rule plan ts i = firstPoint (taskLoad ts) (least rule plan (partition ts i)) i
+
+-- document 02, ask 4: "It reports the smallest tick that holds": past D where none does
+abbrev pub taskTick : Rule → List ℕ → List ℕ → ℕ → ℕ
+taskTick rule plan ts i = firstTick (taskLoad ts) (least rule plan (partition ts i)) i

@@ -11,8 +11,8 @@ use Rattle.rules.specs.Table.{cycle, partitions, wants, WantsIs, goodShare, goo
 use Rattle.theory.specs.Plan.{Rule, own, held, HeldIs, least, LeastIs, Serves}
 use Rattle.theory.specs.Harmonic.{Harmonic, pairs, frame, allWanted, rank, taken, harmonicPlan}
 use Rattle.theory.specs.Run.{Ran, done, Releases, LegalTo, Legal}
-use Rattle.theory.specs.Load.{Load, demand, lastPoint, point, firstPoint}
-use Rattle.theory.specs.Task.{TaskPasses, taskPoint}
+use Rattle.theory.specs.Load.{Load, demand, lastPoint, point, firstPoint, firstTick}
+use Rattle.theory.specs.Task.{TaskPasses, taskPoint, taskTick}
 use Rattle.theory.specs.Generality.{LoadPoints, LoadTheorem}
 
 -- ==== ticks
@@ -76,6 +76,21 @@ PointSmallest =
     (L : Load) (low : ℕ → ℕ) (i : ℕ) → firstPoint L low i ≤ lastPoint L i
     → (point L i (firstPoint L low i) ≡ true) × (demand L i (firstPoint L low i) ≤ low (firstPoint L low i))
     × ((t : ℕ) → point L i t ≡ true → demand L i t ≤ low t → firstPoint L low i ≤ t)
+
+-- document 02, ask 4: "every tick t from 1 to D": trying them is what passing is, whatever the table
+abbrev pub TicksExactly : Type 0
+TicksExactly = (rule : Rule) (plan ts : List ℕ) (i : ℕ) → TaskPasses rule plan ts i ↔ (taskTick rule plan ts i ≤ deadline ts i)
+
+-- "It reports the smallest tick that holds"
+abbrev pub TickSmallest : Type 0
+TickSmallest =
+    (L : Load) (low : ℕ → ℕ) (i : ℕ) → firstTick L low i ≤ lastPoint L i
+    → (1 ≤ firstTick L low i) × (demand L i (firstTick L low i) ≤ low (firstTick L low i))
+    × ((t : ℕ) → 1 ≤ t → demand L i t ≤ low t → firstTick L low i ≤ t)
+
+-- "which may be below the scheduling point", and is never above it
+abbrev pub TickBelowPoint : Type 0
+TickBelowPoint = (L : Load) (low : ℕ → ℕ) (i : ℕ) → firstTick L low i ≤ firstPoint L low i
 
 -- ==== demand 3, first half: the run theorem
 
@@ -164,6 +179,9 @@ pub record Proved : Type 0 where
   pub points-enough : PointsEnough
   pub load-points : LoadPoints
   pub point-smallest : PointSmallest
+  pub ticks-exactly : TicksExactly
+  pub tick-smallest : TickSmallest
+  pub tick-below-point : TickBelowPoint
   pub run-theorem : RunTheorem
   pub endless-theorem : EndlessTheorem
   pub load-theorem : LoadTheorem

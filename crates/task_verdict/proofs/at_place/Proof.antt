@@ -1,5 +1,4 @@
-use mathlib.Core.Path.{sym, _∙_}
-use Rattle.task_verdict.proofs.Orders.{place-none, place-past, place-plan, place-task}
+use Rattle.task_verdict.proofs.Orders.{place-none, place-past, place-plan}
 use borrow.Author.Needs.{needs}
 use Rattle.task_verdict.proofs.at_place.Statement.{statement}
 use Rattle.task_verdict.proofs.at_place.Tie as tie
@@ -16,31 +15,8 @@ returns-2 c = place-past _ _ _ _ (search needs) (search needs)
 check-plan-requires : tie.Need-check-plan-requires
 check-plan-requires c κs = search needs
 
-enum-known-checked : tie.Need-enum-known-checked
-enum-known-checked c = search needs
-
-enum-told : tie.Need-enum-told
-enum-told c = search needs
-
-task-requires : tie.Need-task-requires
-task-requires c κs = search needs
-
 returns-3 : tie.Need-returns-3
-returns-3 c = place-plan _ _ _ _ (search needs) (search needs) _ (sym (c .before .before .before .check-plan .ensures) ∙ c .before .checked .given .1)
-
-returns-4 : tie.Need-returns-4
-returns-4 c = place-task _ _ _ _ (search needs) (search needs) _ (sym (c .before .before .before .check-plan .ensures) ∙ c .before .enum-told .given .1) (c .task .ensures)
+returns-3 c = place-plan _ _ _ _ (search needs) _ (search needs) (c .check-plan .ensures)
 
 pub at-place-spec : {M : Type 1} → statement M
-at-place-spec =
-    tie.close
-    (tie.spec
-    returns
-    tasks-requires
-    returns-2
-    check-plan-requires
-    enum-known-checked
-    enum-told
-    task-requires
-    returns-3
-    returns-4)
+at-place-spec = tie.close (tie.spec returns tasks-requires returns-2 check-plan-requires returns-3)

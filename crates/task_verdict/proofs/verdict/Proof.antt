@@ -1,34 +1,50 @@
 use mathlib.Core.Path.{sym, _∙_}
-use Rattle.task_verdict.proofs.Orders.{few-tasks, verdict-tables, verdict-place}
+use Rattle.task_verdict.proofs.Orders.{place-from-1, few-places, judged-refused, judged-task}
 use borrow.Author.Needs.{needs}
 use Rattle.task_verdict.proofs.verdict.Statement.{statement}
 use Rattle.task_verdict.proofs.verdict.Tie as tie
 
-judge-tables-requires : tie.Need-judge-tables-requires
-judge-tables-requires c κs = search needs
+answerable-requires : tie.Need-answerable-requires
+answerable-requires c κs = search needs
 
-enum-known-tables : tie.Need-enum-known-tables
-enum-known-tables c = search needs
+enum-known-given : tie.Need-enum-known-given
+enum-known-given c = search needs
 
 enum-told : tie.Need-enum-told
 enum-told c = search needs
 
-at-place-requires : tie.Need-at-place-requires
-at-place-requires c κs = few-tasks _ _ _ (sym (c .before .before .judge-tables .ensures) ∙ c .enum-told .given .1)
+sub-first-point : tie.Need-sub-first-point
+sub-first-point c = place-from-1 _ _ _ _ (sym (c .before .before .answerable .ensures) ∙ c .enum-told .given .1)
+
+first-point-requires : tie.Need-first-point-requires
+first-point-requires c κs = few-places _ _ _ _ (sym (c .before .before .answerable .ensures) ∙ c .enum-told .given .1)
+
+sub-deadline : tie.Need-sub-deadline
+sub-deadline c = place-from-1 _ _ _ _ (sym (c .before .before .before .answerable .ensures) ∙ c .before .enum-told .given .1)
+
+deadline-requires : tie.Need-deadline-requires
+deadline-requires c κs = search needs
+
+pass-at-requires : tie.Need-pass-at-requires
+pass-at-requires c κs = search needs
 
 returns : tie.Need-returns
-returns c = verdict-tables _ _ _ _ _ (sym (c .before .before .before .judge-tables .ensures) ∙ c .before .tables .given .1)
+returns c = judged-refused _ _ _ _ _ _ (sym (c .before .before .before .answerable .ensures) ∙ c .before .given .given .1)
 
 returns-2 : tie.Need-returns-2
-returns-2 c = verdict-place _ _ _ _ (sym (c .before .before .before .judge-tables .ensures) ∙ c .before .enum-told .given .1) _ (c .at-place .ensures)
+returns-2 c = judged-task _ _ _ _ _ _ _ _ (sym (c .before .before .before .before .before .answerable .ensures) ∙ c .before .before .before .enum-told .given .1) (c .before .deadline .ensures) (c .before .before .first-point .ensures) (c .pass-at .ensures)
 
 pub verdict-spec : {M : Type 1} → statement M
 verdict-spec =
     tie.close
     (tie.spec
-    judge-tables-requires
-    enum-known-tables
+    answerable-requires
+    enum-known-given
     enum-told
-    at-place-requires
+    sub-first-point
+    first-point-requires
+    sub-deadline
+    deadline-requires
+    pass-at-requires
     returns
     returns-2)
