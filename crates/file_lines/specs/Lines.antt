@@ -14,9 +14,11 @@ partitionLine i q m l =
     bytes "partition " ++ decimal i ++ (bytes " wants " ++ decimal q) ++ (bytes " in " ++ decimal m)
     ++ (bytes " least " ++ decimal l) ++ bytes "\n"
 
--- task i partition p pass t
-unfoldable pub passLine : ℕ → ℕ → ℕ → List ℕ
-passLine i p t = bytes "task " ++ decimal i ++ (bytes " partition " ++ decimal p) ++ (bytes " pass " ++ decimal t) ++ bytes "\n"
+-- task i partition p pass t, and document 02, ask 4: tick u
+unfoldable pub passLine : ℕ → ℕ → ℕ → ℕ → List ℕ
+passLine i p t u =
+    bytes "task " ++ decimal i ++ (bytes " partition " ++ decimal p) ++ (bytes " pass " ++ decimal t)
+    ++ (bytes " tick " ++ decimal u) ++ bytes "\n"
 
 -- "A failing task ends in `fail`."
 unfoldable pub failLine : ℕ → ℕ → List ℕ

@@ -38,17 +38,25 @@ pub fn put_partition(
     put_text(out, d, b"\n")
 }
 
-pub fn put_pass(out: &mut [u8], at: usize, place: usize, partition: usize, point: usize) -> usize
+pub fn put_pass(
+    out: &mut [u8],
+    at: usize,
+    place: usize,
+    partition: usize,
+    point: usize,
+    tick: usize,
+) -> usize
     requires { ⌜ at < 2 ^ 40 ⌝ }
     ensures { λ r. ⌜
-        Put (now (out .entry)) at (passLine place partition point) r (now (out .exit))
+        Put (now (out .entry)) at (passLine place partition point tick) r (now (out .exit))
         × (r ≤ at + longestLine)
         ⌝ }
 {
     let a = put_field(out, at, b"task ", place);
     let b = put_field(out, a, b" partition ", partition);
     let c = put_field(out, b, b" pass ", point);
-    put_text(out, c, b"\n")
+    let d = put_field(out, c, b" tick ", tick);
+    put_text(out, d, b"\n")
 }
 
 pub fn put_fail(out: &mut [u8], at: usize, place: usize, partition: usize) -> usize

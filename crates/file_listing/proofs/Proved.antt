@@ -1,20 +1,33 @@
 -- Every promise of specs/Theorems.antt, proved. Assumes nothing.
 use Prim.Native.Nat.{ℕ, _+_, _-_, _<_}
 use mathlib.Core.Path.{_≡_, refl, sym, ap, _∙_}
+use mathlib.Core.Logic.{_⊎_, inl, inr}
+use mathlib.Core.Bool.{Bool, true, false}
 use mathlib.Core.List.{List}
 use native.Mathlib.Omega.{arith}
 use lib.ListN.{take}
 use lib.Seq.{take-all}
-use lib.Dec.{ltb}
-use Rattle.rules.specs.Table.{partitions}
+use lib.Dec.{ltb, leb}
+use borrow.Author.Tests.{leb-true, leb-false}
+use Rattle.rules.specs.Table.{partitions, partition, deadline}
 use Rattle.rules.specs.Refusals.{told}
 use Rattle.rules.specs.declared.Refusal.{Refusal}
 use Rattle.rules.proofs.Tests.{pick-first}
 use Rattle.rules.specs.declared.Finding.the-variants as found
+use Rattle.theory.specs.Plan.{own}
+use Rattle.theory.specs.Task.{taskLoad, taskPoint, taskTick}
+use Rattle.theory.specs.Contracts.{leastFor}
+use Rattle.theory.proofs.Points.{tick-below-point}
 use Rattle.plan_check.specs.Check.{checkOf, scanOf}
 use Rattle.plan_check.proofs.Orders.{shortPart, shortStart, shortfall}
 use Rattle.task_verdict.specs.Theorems.{Answered}
-use Rattle.task_verdict.proofs.Answers as answers
+use Rattle.task_verdict.specs.declared.Judged.the-variants.{Pass, Fail}
+use Rattle.task_verdict.specs.Verdict.{passAt, judgedBy, verdictOf, plainOf}
+use Rattle.task_verdict.proofs.Orders.{answer}
+use Rattle.task_verdict.proofs.Answers.{is-pass, is-fail}
+use Rattle.task_verdict.proofs.Answers as verdicts
+use Rattle.file_lines.specs.Lines.{passLine, failLine}
+use Rattle.file_page.specs.Page.{taskLine}
 use Rattle.file_read.specs.declared.Reading.{Reading}
 use Rattle.file_read.specs.declared.Reading.the-variants.{Contents, Refused}
 use Rattle.file_read.specs.declared.Body.the-variants.{Partitions, Tasks}
@@ -33,6 +46,34 @@ listed-verdict b frame np nt nr e j c h = let f = fit b frame np nt nr e in reco
   from-1 = omega arith;
   listed = omega (arith, f .listed);
 }
+
+-- an answered task's line
+module _ (plan ps ts : List ℕ) (j : ℕ) (a : Answered plan ps ts (j + 1)) where
+  said : (engine : List ℕ → List ℕ → ℕ → ℕ) → judgedBy engine plan ps ts (j + 1) ≡ passAt (deadline ts j) (engine plan ts j)
+  said engine = let z : j + 1 - 1 ≡ j = omega arith in rw z at (answer plan ps ts (j + 1) engine a)
+
+  listed-line :
+      ((t : ℕ) × (u : ℕ) × (verdictOf plan ps ts (j + 1) ≡ Pass t) × (plainOf plan ps ts (j + 1) ≡ Pass u) × (taskLine plan ts j ≡ passLine (j + 1) (partition ts j) t u))
+      ⊎ ((verdictOf plan ps ts (j + 1) ≡ Fail) × (plainOf plan ps ts (j + 1) ≡ Fail) × (taskLine plan ts j ≡ failLine (j + 1) (partition ts j)))
+  unfolding taskLine
+  listed-line = at (leb (taskPoint own plan ts j) (deadline ts j)) refl
+    where
+      at : (b : Bool) → leb (taskPoint own plan ts j) (deadline ts j) ≡ b
+          → ((t : ℕ) × (u : ℕ) × (verdictOf plan ps ts (j + 1) ≡ Pass t) × (plainOf plan ps ts (j + 1) ≡ Pass u) × (taskLine plan ts j ≡ passLine (j + 1) (partition ts j) t u))
+          ⊎ ((verdictOf plan ps ts (j + 1) ≡ Fail) × (plainOf plan ps ts (j + 1) ≡ Fail) × (taskLine plan ts j ≡ failLine (j + 1) (partition ts j)))
+      at true e =
+          let h = leb-true (taskPoint own plan ts j) (deadline ts j) e in
+          let g = tick-below-point (taskLoad ts) (leastFor own plan ts j) j in
+          inl (
+            taskPoint own plan ts j,
+            taskTick own plan ts j,
+            said (taskPoint own) ∙ is-pass _ _ h,
+            said (taskTick own) ∙ is-pass _ _ (omega arith),
+            rw e,
+          )
+      at false e =
+          let f = said (taskPoint own) ∙ is-fail _ _ (leb-false (taskPoint own plan ts j) (deadline ts j) e) in
+          inr (f, verdicts.proved .by-ticks .fail-exactly plan ps ts (j + 1) .1 (verdicts.proved .by-points .fail-exactly plan ps ts (j + 1) .0 f), rw e)
 
 -- the scan's only refusal
 scan-nine : (plan ps : List ℕ) (r : Refusal) → scanOf plan ps ≡ found.Refused r → told r .number ≡ 9
@@ -53,10 +94,7 @@ listing-first b n h = step (readOf b) refl
 pub proved : Proved
 proved = record {
   listing-counts = λ b frame np nt nr e. (fit b frame np nt nr e .ticks, fit b frame np nt nr e .parts, fit b frame np nt nr e .listed);
-  listing-verdicts = λ b frame np nt nr j e c h.
-      let a = listed-verdict b frame np nt nr e j c h in
-      let z : j + 1 - 1 ≡ j = omega arith in
-      (sym (rw z at (answers.answer (planIn b) (tableOf b Partitions) (tableOf b Tasks) (j + 1) a)), answers.answered-exactly (planIn b) (tableOf b Partitions) (tableOf b Tasks) (j + 1) .1 a);
+  listing-verdicts = λ b frame np nt nr j e c h. listed-line (planIn b) (tableOf b Partitions) (tableOf b Tasks) j (listed-verdict b frame np nt nr e j c h);
   only-nine = λ b frame np nt nr r e c. scan-nine (planIn b) (tableOf b Partitions) r (sym (scanned b frame np nt nr e) ∙ c);
   listing-first = listing-first;
   listing-one = λ b out o o′ r r′ e f. (e .0 ∙ sym (f .0), e .1 ∙ sym (f .1));

@@ -2,17 +2,19 @@
 -- proof is a field of `Proved`. Assumes nothing.
 use Prim.Native.Nat.{ℕ, _+_, _<_}
 use mathlib.Core.Path.{_≡_}
+use mathlib.Core.Logic.{_⊎_}
 use mathlib.Core.List.{List}
 use lib.ListN.{length, take}
 use Rattle.rules.specs.Limits.{longestFile}
-use Rattle.rules.specs.Table.{partitions, tasks}
+use Rattle.rules.specs.Table.{partitions, partition, tasks}
 use Rattle.rules.specs.Refusals.{told}
 use Rattle.rules.specs.declared.Refusal.{Refusal}
 use Rattle.rules.specs.declared.Finding.the-variants as found
 use Rattle.plan_check.specs.Check.{checkOf}
-use Rattle.task_points.specs.declared.Judged.the-variants as judged
-use Rattle.task_points.specs.Task.{taskOf}
-use Rattle.task_verdict.specs.Verdict.{verdictOf}
+use Rattle.task_verdict.specs.declared.Judged.the-variants as judged
+use Rattle.task_verdict.specs.Verdict.{verdictOf, plainOf}
+use Rattle.file_lines.specs.Lines.{passLine, failLine}
+use Rattle.file_page.specs.Page.{taskLine}
 use Rattle.file_read.specs.declared.Reading.the-variants.{Contents}
 use Rattle.file_read.specs.declared.Body.the-variants.{Partitions, Tasks, Runs}
 use Rattle.file_read.specs.Reader.{readOf, tableOf}
@@ -30,12 +32,16 @@ ListingCounts =
     (b : List ℕ) (frame np nt nr : ℕ) → readOf b ≡ Contents frame np nt nr
     → (length (planIn b) ≡ frame) × (partitions (tableOf b Partitions) ≡ np) × (tasks (tableOf b Tasks) ≡ nt)
 
--- in a file whose plan serves, each task's line is that of its verdict, and that is no refusal
+-- in a file whose plan serves, each task's line is that of both engines' answers: they pass at the point and the tick that it says, or both fail
 abbrev pub ListingVerdicts : Type 0
 ListingVerdicts =
     (b : List ℕ) (frame np nt nr j : ℕ) → readOf b ≡ Contents frame np nt nr → checkOf (planIn b) (tableOf b Partitions) ≡ found.Good → j < nt
-    → (taskOf (planIn b) (tableOf b Tasks) j ≡ verdictOf (planIn b) (tableOf b Partitions) (tableOf b Tasks) (j + 1))
-    × ((r : Refusal) → ¬ (verdictOf (planIn b) (tableOf b Partitions) (tableOf b Tasks) (j + 1) ≡ judged.Refused r))
+    → ((t : ℕ) × (u : ℕ) × (verdictOf (planIn b) (tableOf b Partitions) (tableOf b Tasks) (j + 1) ≡ judged.Pass t)
+    × (plainOf (planIn b) (tableOf b Partitions) (tableOf b Tasks) (j + 1) ≡ judged.Pass u)
+    × (taskLine (planIn b) (tableOf b Tasks) j ≡ passLine (j + 1) (partition (tableOf b Tasks) j) t u))
+    ⊎ ((verdictOf (planIn b) (tableOf b Partitions) (tableOf b Tasks) (j + 1) ≡ judged.Fail)
+    × (plainOf (planIn b) (tableOf b Partitions) (tableOf b Tasks) (j + 1) ≡ judged.Fail)
+    × (taskLine (planIn b) (tableOf b Tasks) j ≡ failLine (j + 1) (partition (tableOf b Tasks) j)))
 
 -- after a good read only 9 can follow
 abbrev pub OnlyNine : Type 0

@@ -11,7 +11,6 @@ use file_lines::put_fail;
 use file_lines::put_frame;
 use file_lines::put_partition;
 use file_lines::put_pass;
-use task_points::Judged;
 
 fn put_part(plan: &[u16], parts: &[u16], k: usize, out: &mut [u8], at: usize) -> usize
     requires { ⌜ (k < mostPartitions) × (at < 2 ^ 40) ⌝ }
@@ -49,12 +48,12 @@ fn put_task(plan: &[u16], table: &[u16], j: usize, out: &mut [u8], at: usize) ->
         × (r ≤ at + longestLine) ⌝ }
 {
     let partition = rules::numbers::wide(rules::records::partition(table, j));
-    let judged = task_points::task(plan, table, j);
-    match judged {
-        Judged::Pass(t) => put_pass(out, at, j + 1, partition, t),
-        Judged::Fail => put_fail(out, at, j + 1, partition),
-        Judged::Refused(_) => at,
+    let point = task_points::first_point(plan, table, j);
+    if rules::numbers::wide(rules::records::deadline(table, j)) < point {
+        return put_fail(out, at, j + 1, partition);
     }
+    let tick = task_plain::first_tick(plan, table, j);
+    put_pass(out, at, j + 1, partition, point, tick)
 }
 
 fn put_tasks(plan: &[u16], table: &[u16], out: &mut [u8], start: usize) -> usize

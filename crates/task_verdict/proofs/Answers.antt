@@ -32,7 +32,7 @@ use Rattle.task_verdict.specs.declared.Judged.{Judged}
 use Rattle.task_verdict.specs.declared.Judged.the-variants.{Pass, Fail, Refused}
 use Rattle.task_verdict.specs.Verdict.{placeOf, answerableOf, passAt, judgedBy, verdictOf, plainOf, toldJudged}
 use Rattle.task_verdict.specs.Theorems.{Answered, AnsweredExactly, OutsideTable, PassExactly, FailExactly, EndsInTime, EndsInTimeForEver, Engine, PassPoint, SmallestTick, PassTick, withoutTick, EnginesAlike, TickAtMostPoint, Proved}
-use Rattle.task_verdict.proofs.Orders.{answerable, is-answerable}
+use Rattle.task_verdict.proofs.Orders.{answerable, judged-refused, answer}
 use Rattle.theory.specs.Contracts.{leastFor}
 
 -- ---- a pass at t, unless that is past d
@@ -45,7 +45,7 @@ module _ (d t : ℕ) where
       let f : u ≡ t = cc (a .1) in
       (f, leb-true t d (a .0))
 
-  is-pass : t ≤ d → passAt d t ≡ Pass t
+  pub is-pass : t ≤ d → passAt d t ≡ Pass t
   unfolding passAt
   is-pass h = rw (le-leb t d h)
 
@@ -55,7 +55,7 @@ module _ (d t : ℕ) where
       let a = pick-second (leb t d) (Pass t) Fail Fail (λ q. let z : _≡_ {A = ℕ} 0 1 = cc in absurd (omega arith)) e in
       leb-false t d (a .0)
 
-  is-fail : d < t → passAt d t ≡ Fail
+  pub is-fail : d < t → passAt d t ≡ Fail
   unfolding passAt
   is-fail h = rw (lt-leb t d h)
 
@@ -140,11 +140,6 @@ module _ (engine : List ℕ → List ℕ → ℕ → ℕ) (enough : Enough engin
     unfolding judgedBy
     given z g e = let s = after-given (answerableOf plan ps ts place) (passAt d t) z g e in (answerable plan ps ts place (s .0), s .1)
 
-    -- and from there the task's own answer is given
-    answer : Answered plan ps ts place → judge plan ps ts place ≡ passAt d t
-    unfolding judgedBy
-    answer a = rw (is-answerable plan ps ts place a)
-
     refused : (r : Refusal) → judge plan ps ts place ≡ Refused r → answerableOf plan ps ts place ≡ found.Refused r
     unfolding judgedBy
     refused r = at (answerableOf plan ps ts place)
@@ -153,10 +148,6 @@ module _ (engine : List ℕ → List ℕ → ℕ → ℕ) (enough : Enough engin
         at found.Good e = absurd (not-refused d t r e)
         at (found.Refused q) e = let f : q ≡ r = cc e in ap found.Refused f
 
-    is-refused : (r : Refusal) → answerableOf plan ps ts place ≡ found.Refused r → judge plan ps ts place ≡ Refused r
-    unfolding judgedBy
-    is-refused r e = rw e
-
     reached : Answered plan ps ts place → TaskPasses own plan ts (place - 1) ↔ (t ≤ d)
     reached a = enough plan ts (partitions ps) (a .good .tasks) (place - 1) (within plan ps ts place a)
 
@@ -164,7 +155,7 @@ module _ (engine : List ℕ → List ℕ → ℕ → ℕ) (enough : Enough engin
     passed u e = let w = given (Pass u) (pass-given u) e in (w .0, reached (w .0) .1 (pass-at d t u (w .1) .1))
 
     passes : Answered plan ps ts place × TaskPasses own plan ts (place - 1) → (u : ℕ) × (judge plan ps ts place ≡ Pass u)
-    passes (a, p) = (t, answer a ∙ is-pass d t (reached a .0 p))
+    passes (a, p) = (t, answer plan ps ts place engine a ∙ is-pass d t (reached a .0 p))
 
     failed : judge plan ps ts place ≡ Fail → Answered plan ps ts place × ¬ TaskPasses own plan ts (place - 1)
     failed e =
@@ -172,7 +163,7 @@ module _ (engine : List ℕ → List ℕ → ℕ → ℕ) (enough : Enough engin
         (w .0, λ p. absurd (omega (arith, reached (w .0) .0 p, fail-at d t (w .1))))
 
     fails : Answered plan ps ts place × ¬ TaskPasses own plan ts (place - 1) → judge plan ps ts place ≡ Fail
-    fails (a, n) = answer a ∙ at (leb t d) refl
+    fails (a, n) = answer plan ps ts place engine a ∙ at (leb t d) refl
       where
         at : (b : Bool) → leb t d ≡ b → passAt d t ≡ Fail
         at true e = absurd (n (reached a .1 (leb-true t d e)))
@@ -181,7 +172,7 @@ module _ (engine : List ℕ → List ℕ → ℕ → ℕ) (enough : Enough engin
   answered-exactly : AnsweredExactly judge
   answered-exactly plan ps ts place = (
     λ h. given plan ps ts place (judge plan ps ts place) (λ r e. h r (sym e)) refl .0,
-    λ a r e. not-refused (d plan ps ts place) (t plan ps ts place) r (sym (answer plan ps ts place a) ∙ e),
+    λ a r e. not-refused (d plan ps ts place) (t plan ps ts place) r (sym (answer plan ps ts place engine a) ∙ e),
   )
 
   outside-table : OutsideTable judge
@@ -189,7 +180,7 @@ module _ (engine : List ℕ → List ℕ → ℕ → ℕ) (enough : Enough engin
     λ e. let q = seven-refused (judge plan ps ts place) (placed 7 0) (omega arith) (λ q. absurd (omega arith)) e in
         let a = outside plan ps ts place (refused plan ps ts place (Task 0) q) in
         (a .0, λ i. absurd (true≢false (sym (rw (le-leb 1 place (i .0), le-leb place (tasks ts) (i .1))) ∙ a .1))),
-    λ a. rw (is-refused plan ps ts place (Task 0) (is-outside plan ps ts place (a .0) (none (leb 1 place) (leb place (tasks ts)) refl refl (a .1)))),
+    λ a. rw (← judged-refused plan ps ts place engine (Task 0) (is-outside plan ps ts place (a .0) (none (leb 1 place) (leb place (tasks ts)) refl refl (a .1)))),
   )
     where
       none : (b c : Bool) → leb 1 place ≡ b → leb place (tasks ts) ≡ c → ¬ ((1 ≤ place) × (place ≤ tasks ts)) → b && c ≡ false

@@ -89,3 +89,7 @@ module _ (plan ps ts : List ℕ) (place : ℕ) where
         → j ≡ passAt d t → j ≡ judgedBy engine plan ps ts place
     unfolding judgedBy
     judged-task j d t e ed et f = rw (e, ← ed, ← et) f
+
+    pub answer : Answered plan ps ts place → judgedBy engine plan ps ts place ≡ passAt (deadline ts (place - 1)) (engine plan ts (place - 1))
+    unfolding judgedBy
+    answer a = rw (is-answerable a)

@@ -22,6 +22,12 @@ slice-aggregate-put-field-3 c = search needs
 put-field-requires-3 : tie.Need-put-field-requires-3
 put-field-requires-3 c κs = search needs
 
+slice-aggregate-put-field-4 : tie.Need-slice-aggregate-put-field-4
+slice-aggregate-put-field-4 c = search needs
+
+put-field-requires-4 : tie.Need-put-field-requires-4
+put-field-requires-4 c κs = search needs
+
 slice-aggregate-put-text : tie.Need-slice-aggregate-put-text
 slice-aggregate-put-text c = search needs
 
@@ -33,7 +39,7 @@ same-length c = search needs
 
 returns : tie.Need-returns
 unfolding passLine
-returns c = let p = c .before .before .put-text .ensures .place in (and-then (and-then (and-then (c .before .before .before .before .before .before .before .before .before .before .before .before .before .before .before .before .before .put-field .ensures .0) (c .before .before .before .before .before .before .before .before .before .before .before .before .put-field2 .ensures .0)) (c .before .before .before .before .before .before .before .put-field3 .ensures .0)) (c .before .before .put-text .ensures), search needs)
+returns c = let p = c .before .before .put-text .ensures .place in (and-then (and-then (and-then (and-then (c .before .before .before .before .before .before .before .before .before .before .before .before .before .before .before .before .before .before .before .before .before .before .put-field .ensures .0) (c .before .before .before .before .before .before .before .before .before .before .before .before .before .before .before .before .before .put-field2 .ensures .0)) (c .before .before .before .before .before .before .before .before .before .before .before .before .put-field3 .ensures .0)) (c .before .before .before .before .before .before .before .put-field4 .ensures .0)) (c .before .before .put-text .ensures), search needs)
 
 pub put-pass-spec : {M : Type 1} → statement M
 put-pass-spec =
@@ -45,6 +51,8 @@ put-pass-spec =
     put-field-requires-2
     slice-aggregate-put-field-3
     put-field-requires-3
+    slice-aggregate-put-field-4
+    put-field-requires-4
     slice-aggregate-put-text
     put-text-requires
     same-length
