@@ -7,8 +7,7 @@ use Rattle.rules.specs.Refusals.{toldFinding, toldFilling, Tells}
 use Rattle.plan_check.specs.Check.{Checks}
 use Rattle.plan_build.specs.Build.{Builds}
 use Rattle.counts.specs.Counts.{FillsCounts, HoldsOne, toldHolding, HoldsMany, Changes}
-use Rattle.task_points.specs.Task.{toldJudged}
-use Rattle.task_verdict.specs.Verdict.{Judges}
+use Rattle.task_verdict.specs.Verdict.{Judges, JudgesPlainly, toldJudged}
 use Rattle.file_read.specs.Reader.{toldReading, Reads}
 use Rattle.file_write.specs.Writer.{Writes}
 use Rattle.file_listing.specs.Listing.{Lists}
@@ -41,6 +40,9 @@ TellsChange plan ps list tick owner plan′ o = Tells toldFinding (Changes plan 
 
 abbrev pub TellsVerdict : List ℕ → List ℕ → List ℕ → ℕ → Told → Type 0
 TellsVerdict plan ps ts place = Tells toldJudged (Judges plan ps ts place)
+
+abbrev pub TellsPlain : List ℕ → List ℕ → List ℕ → ℕ → Told → Type 0
+TellsPlain plan ps ts place = Tells toldJudged (JudgesPlainly plan ps ts place)
 
 abbrev pub TellsRead : List ℕ → Told → Type 0
 TellsRead b = Tells toldReading (Reads b)

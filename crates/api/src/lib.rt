@@ -5,7 +5,7 @@ use desk::Job;
 use rules::Told;
 ghost use Rattle.rules.specs.Table.{WantsIs};
 ghost use Rattle.theory.specs.Plan.{HeldIs, LeastIs};
-ghost use Rattle.api.specs.Answers.{TellsCheck, TellsBuild, TellsFill, TellsHeld, TellsMany, TellsChange, TellsVerdict, TellsRead, TellsSection, TellsWrite, TellsList, TellsOpen, TellsRequest};
+ghost use Rattle.api.specs.Answers.{TellsCheck, TellsBuild, TellsFill, TellsHeld, TellsMany, TellsChange, TellsVerdict, TellsPlain, TellsRead, TellsSection, TellsWrite, TellsList, TellsOpen, TellsRequest};
 
 #[no_mangle]
 pub extern "C" fn merkazobi_wants(m: u16, num: u16, den: u16) -> usize
@@ -102,6 +102,13 @@ pub extern "C" fn merkazobi_verdict(
     ensures { λ r. ⌜ TellsVerdict (now (plan .entry)) (now (parts .entry)) (now (tasks .entry)) place r ⌝ }
 {
     answers::tell_judged(task_verdict::verdict(plan, parts, tasks, place))
+}
+
+#[no_mangle]
+pub extern "C" fn merkazobi_plain(plan: &[u16], parts: &[u16], tasks: &[u16], place: usize) -> Told
+    ensures { λ r. ⌜ TellsPlain (now (plan .entry)) (now (parts .entry)) (now (tasks .entry)) place r ⌝ }
+{
+    answers::tell_judged(task_verdict::plain(plan, parts, tasks, place))
 }
 
 #[no_mangle]

@@ -1,5 +1,5 @@
 -- The three demands, from the crates' records and each entry's own contract. Assumes nothing.
-use Prim.Native.Nat.{ℕ, _+_, _-_, _≤_, _<_}
+use Prim.Native.Nat.{ℕ, _+_, _≤_, _<_}
 use mathlib.Core.Path.{_≡_, refl, sym, ap, subst, _∙_}
 use mathlib.Core.Logic.{_↔_}
 use mathlib.Core.Bool.{Bool, true, false, true≢false, not, _&&_, _||_}
@@ -10,21 +10,21 @@ use lib.Dec.{leb, ltb, eqb}
 use lib.ListN.{length, take, drop, getD}
 use Rattle.rules.specs.Walk.{pick}
 use Rattle.rules.specs.Limits.{longest}
-use Rattle.rules.specs.Table.{partitions, tasks, deadline}
+use Rattle.rules.specs.Table.{partitions}
 use Rattle.tables.specs.Tables.{unless}
 use Rattle.tables.specs.Contracts.{firstBadTick}
 use Rattle.rules.specs.declared.Told.{Told}
 use Rattle.rules.specs.declared.Refusal.{Refusal}
-use Rattle.rules.specs.declared.Refusal.the-variants.{Task, Tick, Shortfall, Unharmonic, Want, Output, Rules, Numbers, Past, Busy, Full, NoPlace, TooFar}
+use Rattle.rules.specs.declared.Refusal.the-variants.{Tick, Shortfall, Unharmonic, Want, Output, Rules, Numbers, Past, Busy, Full, NoPlace, TooFar}
 use Rattle.rules.specs.Refusals.{told, toldFinding, toldFilling, Tells}
 use Rattle.rules.specs.Filling.{leftBy}
-use Rattle.rules.proofs.Known.{not-0, found-good, filling-fills, tells-one}
+use Rattle.rules.proofs.Known.{not-0, filling-fills, tells-one}
 use Rattle.rules.proofs.Tests.{and-parts}
-use Rattle.tables.proofs.Chain.{unless-holds, unless-parts-hold}
+use Rattle.tables.proofs.Chain.{unless-parts-hold}
 use Rattle.output.proofs.Proved as output
 use Rattle.theory.specs.Plan.{own}
 use Rattle.theory.specs.Harmonic.{frame, allWanted, harmonicPlan}
-use Rattle.theory.specs.Task.{taskPoint}
+use Rattle.theory.specs.Task.{taskPoint, taskTick}
 use Rattle.theory.proofs.Proved as theory
 use Rattle.rules.specs.declared.Finding.{Finding}
 use Rattle.rules.specs.declared.Finding.the-variants as found
@@ -35,13 +35,10 @@ use Rattle.rules.specs.declared.Filling.{Filling}
 use Rattle.rules.specs.declared.Filling.the-variants as filling
 use Rattle.plan_build.specs.Build.{unharmonic, laidOf, buildOf, Builds}
 use Rattle.plan_build.proofs.Answers as builder
-use Rattle.task_points.specs.declared.Judged.{Judged}
-use Rattle.task_points.specs.declared.Judged.the-variants as judged
-use Rattle.task_points.specs.Task.{taskOf, toldJudged}
 use Rattle.rules.specs.Walk.{listed}
 use Rattle.counts.specs.Counts.{runningCounts, FillsCounts, HoldsOne, toldHolding, answerAt, questions, HoldsMany}
 use Rattle.counts.proofs.Changes as counts
-use Rattle.task_verdict.specs.Verdict.{placeOf, verdictOf, Judges}
+use Rattle.task_verdict.specs.Verdict.{Judges, JudgesPlainly, toldJudged}
 use Rattle.task_verdict.proofs.Answers as verdict
 use Rattle.file_tables.proofs.Chain.{file-holds}
 use Rattle.file_read.specs.declared.Reading.{Reading}
@@ -67,11 +64,12 @@ use Rattle.desk.specs.Theorems.{Fits, NoLower, Ready, startAt}
 use Rattle.desk.proofs.Ready.{Comes, at-13, at-14, at-15, at-16, at-17, through, comes}
 use Rattle.desk.proofs.Proved as desk
 use Rattle.desk_lent.proofs.Proved as lent
-use Rattle.api.specs.Answers.{TellsCheck, TellsBuild, TellsVerdict, TellsRead, TellsSection, TellsWrite, TellsList, TellsRequest}
+use Rattle.api.specs.Answers.{TellsBuild, TellsRead, TellsSection, TellsWrite, TellsList, TellsRequest}
 use Rattle.answers.specs.Parts.{toldPart}
 use Rattle.demands.specs.Demands.{among, ToldAs, Numbered, Demand1, OneOutcome, Afresh, lower, Demand2, Demand3, Demands}
 use Rattle.demands.proofs.Entries.{entries}
 use Rattle.demands.proofs.Counting as counting
+use Rattle.demands.proofs.Judging as judging
 
 -- ---- the numbers, whatever the tests give: one case for each answer
 
@@ -87,15 +85,6 @@ build-told true d e h = refl
 build-told false true e h = refl
 build-told false false true h = refl
 build-told false false false h = refl
-
-verdict-told : (d e f g : Bool) (t p s h w u : ℕ)
-    → Numbered (3 ∷ 6 ∷ 7 ∷ 8 ∷ 9 ∷ []) (toldJudged (pick d
-    (unless judged.Refused (unless found.Refused (pick e (found.Refused (Tick t)) found.Good) (pick f (found.Refused (Shortfall p s h w)) found.Good)) (pick g (judged.Pass u) judged.Fail)) (judged.Refused (Task 0))))
-verdict-told false e f g t p s h w u = refl
-verdict-told true true f g t p s h w u = refl
-verdict-told true false true g t p s h w u = refl
-verdict-told true false false true t p s h w u = refl
-verdict-told true false false false t p s h w u = refl
 
 write-told : (e : Bool) (n : ℕ) → Numbered (3 ∷ 6 ∷ 7 ∷ 8 ∷ 12 ∷ []) (toldFilling (pick e (filling.Refused Output) (filling.Fills n)))
 write-told true n = refl
@@ -142,27 +131,8 @@ module _ (P : Outcome → Type 0) (clock n : ℕ) (l : List Job) (t c d : ℕ) w
 
 -- ---- from what is told to the rule's answer, and back
 
-module _ (plan ps : List ℕ) (t : Told) (p : TellsCheck plan ps t) where
-  check-is : t ≡ toldFinding (checkOf plan ps)
-  check-is = tells-one toldFinding (Checks plan ps) (checkOf plan ps) (λ r e. e) t p
-
-  accepted-is : t .number ≡ 0 → checkOf plan ps ≡ found.Good
-  accepted-is e = found-good (checkOf plan ps) (rw (← check-is) e)
-
 build-is : (ps out o : List ℕ) (t : Told) → TellsBuild ps out o t → t ≡ toldFilling (buildOf ps (length out))
 build-is ps out o t p = tells-one toldFilling (Builds ps out o) (buildOf ps (length out)) (λ r e. e .0) t p
-
-module _ (plan ps ts : List ℕ) (place : ℕ) (t : Told) (p : TellsVerdict plan ps ts place t) where
-  verdict-is : t ≡ toldJudged (verdictOf plan ps ts place)
-  verdict-is = tells-one toldJudged (Judges plan ps ts place) (verdictOf plan ps ts place) (λ r e. e) t p
-
-  passed-is : t .number ≡ 0 → 1 ≤ t .first → verdictOf plan ps ts place ≡ judged.Pass (t .first)
-  passed-is e h = rw verdict-is (pass (verdictOf plan ps ts place) (rw (← verdict-is) e) (rw (← verdict-is) h))
-    where
-      pass : (j : Judged) → toldJudged j .number ≡ 0 → 1 ≤ toldJudged j .first → j ≡ judged.Pass (toldJudged j .first)
-      pass (judged.Pass u) e h = refl
-      pass judged.Fail e h = absurd (omega arith)
-      pass (judged.Refused r) e h = absurd (not-0 r e)
 
 read-is : (b : List ℕ) (t : Told) → TellsRead b t → t ≡ toldReading (readOf b)
 read-is b t p = tells-one toldReading (Reads b) (readOf b) (λ r e. e) t p
@@ -336,25 +306,22 @@ a-part b which = at (readOf b)
     at (reading.Refused x) e = absurd (not-0 x e)
 
 first : Demand1
-unfolding checkOf planCheckOf scanOf buildOf laidOf verdictOf placeOf taskOf readOf writeOf listOf openOf
+unfolding checkOf planCheckOf scanOf buildOf laidOf readOf writeOf listOf openOf
 first = record {
   build-numbers = λ ps out o t p.
       rw (build-is ps out o t p)
       (unless-parts-hold longest ps (λ (r : Filling). Numbered (3 ∷ 6 ∷ 10 ∷ 11 ∷ 12 ∷ []) (toldFilling r)) filling.Refused (laidOf ps (length out)) refl (λ k. refl)
       (build-told (unharmonic ps) (ltb (frame ps) (allWanted ps (frame ps))) (ltb (length out) (frame ps)) _));
   check-numbers = λ plan ps t p.
-      rw (check-is plan ps t p)
+      rw (judging.check-is plan ps t p)
       (unless-parts-hold (length plan) ps (λ (r : Finding). Numbered (3 ∷ 6 ∷ 8 ∷ 9 ∷ []) (toldFinding r)) found.Refused (planCheckOf plan ps) refl (λ k. refl)
       (check-told (ltb (firstBadTick (partitions ps) plan) (length plan)) (ltb (shortPart plan ps) (partitions ps)) _ _ _ _ _));
   fill-numbers = counting.fill-numbers;
   counts-held-numbers = counting.held-numbers;
   many-numbers = counting.many-numbers;
   change-numbers = counting.change-numbers;
-  verdict-numbers = λ plan ps ts place t p.
-      rw (verdict-is plan ps ts place t p)
-      (unless-holds (length plan) ps ts (λ (r : Judged). Numbered (3 ∷ 6 ∷ 7 ∷ 8 ∷ 9 ∷ []) (toldJudged r)) judged.Refused (placeOf plan ps ts place) refl (λ k. refl) (λ j. refl)
-      (verdict-told (leb 1 place && leb place (tasks ts)) (ltb (firstBadTick (partitions ps) plan) (length plan)) (ltb (shortPart plan ps) (partitions ps))
-      (leb (taskPoint own plan ts (place - 1)) (deadline ts (place - 1))) _ _ _ _ _ _));
+  verdict-numbers = judging.judged-numbers (taskPoint own);
+  plain-numbers = judging.judged-numbers (taskTick own);
   read-numbers = λ b t p.
       rw (read-is b t p)
       (contents-hold b (λ (c : Reading). Numbered (1 ∷ 2 ∷ 3 ∷ 4 ∷ 5 ∷ 6 ∷ 7 ∷ 8 ∷ []) (toldReading (judgedBy c b))) refl refl refl refl refl
@@ -409,6 +376,7 @@ one-outcome = record {
   many-one = λ plan ps list qs out. same-left toldFilling (HoldsMany plan ps list qs out) (counts.proved .many-one plan ps list qs out);
   change-one = counting.change-one;
   verdict-one = λ plan ps ts place. same-told toldJudged (Judges plan ps ts place) (verdict.proved .verdict-one plan ps ts place);
+  plain-one = λ plan ps ts place. same-told toldJudged (JudgesPlainly plan ps ts place) (verdict.proved .plain-one plan ps ts place);
   read-one = λ b. same-told toldReading (Reads b) (reader.proved .one-read b);
   section-one = λ b which. same-told (toldPart which) (Reads b) (reader.proved .one-read b);
   write-one = λ f ps ts rs out. same-left toldFilling (Writes f ps ts rs out) (writer.proved .one-write f ps ts rs out);
@@ -437,6 +405,7 @@ second = record {
   write-read = writer.proved .write-read;
   counts-walked = counting.walked;
   counts-follow = counting.follow;
+  engines-alike = judging.engines-alike;
   open-afresh = λ k k′ l l′ t p. afresh-is _ k′ l′ t p (desk.proved .open-afresh (k .clock) (k .count) l);
   request-afresh = λ k k′ l l′ time c d t p. afresh-is _ k′ l′ t p (desk.proved .request-afresh (k .clock) (k .count) l time c d);
   lower-exactly = lower-told;
@@ -448,18 +417,18 @@ second = record {
 
 third : Demand3
 third = record {
-  ends-in-time = λ plan ps ts place t u p e q f h.
-      verdict.ends-in-time plan ps ts place (u .first) (accepted-is plan ps t p e) (passed-is plan ps ts place u q f h);
-  ends-in-time-for-ever = λ plan ps ts place t u p e q f h.
-      verdict.ends-in-time-for-ever plan ps ts place (u .first) (accepted-is plan ps t p e) (passed-is plan ps ts place u q f h);
+  ends-in-time = judging.ends-in-time (taskPoint own) (verdict.proved .by-points);
+  ends-in-time-for-ever = judging.ends-in-time-for-ever (taskPoint own) (verdict.proved .by-points);
+  plain-ends-in-time = judging.ends-in-time (taskTick own) (verdict.proved .by-ticks);
+  plain-ends-in-time-for-ever = judging.ends-in-time-for-ever (taskTick own) (verdict.proved .by-ticks);
   runs-exist = theory.proved .legal-exists;
   runs-unique = theory.proved .legal-one;
   built-serves = λ ps out o t u (r, b, e) n q.
       let h : r ≡ filling.Fills (t .first) = rw e (filling-fills r (rw e at n)) in
-      rw (check-is (take (t .first) o) ps u q, builder.built-serves ps out o (t .first) (subst (Builds ps out o) h b));
+      rw (judging.check-is (take (t .first) o) ps u q, builder.built-serves ps out o (t .first) (subst (Builds ps out o) h b));
   want-exactly = λ ps out o t p. rw (build-is ps out o t p) (builder.want-exactly ps (length out));
   want-none = λ ps out o t p e. builder.want-none ps (length out) (rw (build-is ps out o t p) at e);
-  want-checked = λ ps out o t p e plan u q n. builder.want-checked ps (length out) (rw (build-is ps out o t p) at e) plan (accepted-is plan ps u q n);
+  want-checked = λ ps out o t p e plan u q n. builder.want-checked ps (length out) (rw (build-is ps out o t p) at e) plan (judging.accepted-is plan ps u q n);
 }
 
 pub demands : Demands

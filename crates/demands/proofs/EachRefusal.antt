@@ -8,10 +8,9 @@ use Rattle.theory.specs.Harmonic.{pairs, frame, allWanted, sooner, rank, give, 
 use Rattle.plan_check.specs.Check.{shortAt, scanOf, planCheckOf, checkOf}
 use Rattle.plan_build.specs.Build.{unharmonic, laidOf, buildOf}
 use Rattle.counts.specs.Counts.{countAt, agreesAt, planJudged, listJudged, countsJudged, goodName, goodStretch, fillOf, heldOf, namesOne, withinFrame, answerAt, manyOf, changeOf}
-use Rattle.theory.specs.Load.{asked, demand, multiple, point, pointFits, firstPoint}
+use Rattle.theory.specs.Load.{asked, demand, multiple, point, holds, earliest}
 use Rattle.theory.specs.Task.{rival, taskLoad}
-use Rattle.task_points.specs.Task.{taskOf}
-use Rattle.task_verdict.specs.Verdict.{placeOf, verdictOf}
+use Rattle.task_verdict.specs.Verdict.{placeOf, answerableOf, verdictBy}
 use Rattle.file_codec.specs.Bytes.{numsOf, bytesOf}
 use Rattle.file_tables.specs.Runs.{runOwner, runLength, repeats, goodRun, runsJudged, fileTablesOf}
 use Rattle.file_read.specs.Reader.{tableBy, countsOf, contentsOf, readOf}
@@ -31,7 +30,7 @@ use Rattle.desk.specs.Request.{requestOf}
 use Rattle.demands.specs.EachRefusal.{EachPlan, EachCount, EachFile, EachText, EachDesk, EachLimit, EachRefusal}
 
 plans : EachPlan
-unfolding only fails first sum count smallest largest walk gathered roundUp wants countedIn withinLimits tablesOf goodShare goodTimes owner owned least pairs frame allWanted sooner rank give turn planned listed shortAt scanOf planCheckOf checkOf unharmonic laidOf buildOf placeOf verdictOf
+unfolding only fails first sum count smallest largest walk gathered roundUp wants countedIn withinLimits tablesOf goodShare goodTimes owner owned least pairs frame allWanted sooner rank give turn planned listed shortAt scanOf planCheckOf checkOf unharmonic laidOf buildOf placeOf answerableOf verdictBy
 plans = record {
   check-3 = (_, refl, refl);
   check-6 = (_, refl, refl);
@@ -100,7 +99,7 @@ counts = record {
 }
 
 files : EachFile
-unfolding only fails first sum count smallest largest gathered roundUp wants countedIn withinLimits tablesOf goodShare goodTimes owner owned shortAt scanOf planCheckOf checkOf numsOf bytesOf runOwner runLength repeats goodRun runsJudged fileTablesOf tableBy countsOf contentsOf readOf fileOf writeOf ticksOf digits decimal refusedLine least rival taskLoad asked demand multiple point pointFits firstPoint taskOf frameLine partitionLine passLine partLine taskLine pageOf tablesLines listingOf listOf
+unfolding only fails first sum count smallest largest gathered roundUp wants countedIn withinLimits tablesOf goodShare goodTimes owner owned shortAt scanOf planCheckOf checkOf numsOf bytesOf runOwner runLength repeats goodRun runsJudged fileTablesOf tableBy countsOf contentsOf readOf fileOf writeOf ticksOf digits decimal refusedLine least rival taskLoad asked demand multiple point holds earliest frameLine partitionLine passLine partLine taskLine pageOf tablesLines listingOf listOf
 files = record {
   read-1 = (_, refl, refl);
   read-2 = (_, refl, refl);

@@ -25,6 +25,7 @@ module _ {M : Type 1} (𝓤 : URA M) (H : Heap 𝓤) (A : Atoms 𝓤) (mem : Mem
     of-c-many = record { asks-nothing = λ κs a g. id⊢ 𝓤 _; ensures = λ κs a g r e. id⊢ 𝓤 _ };
     of-c-change = record { asks-nothing = λ κs a g. id⊢ 𝓤 _; ensures = λ κs a g r e. id⊢ 𝓤 _ };
     of-c-verdict = record { asks-nothing = λ κs a g. id⊢ 𝓤 _; ensures = λ κs a g r e. id⊢ 𝓤 _ };
+    of-c-plain = record { asks-nothing = λ κs a g. id⊢ 𝓤 _; ensures = λ κs a g r e. id⊢ 𝓤 _ };
     of-c-read = record { asks-nothing = λ κs a g. id⊢ 𝓤 _; ensures = λ κs a g r e. id⊢ 𝓤 _ };
     of-c-section = record { asks-nothing = λ κs a g. id⊢ 𝓤 _; ensures = λ κs a g r e. id⊢ 𝓤 _ };
     of-c-write = record { asks-nothing = λ κs a g. id⊢ 𝓤 _; ensures = λ κs a g r e. id⊢ 𝓤 _ };
@@ -41,6 +42,7 @@ module _ {M : Type 1} (𝓤 : URA M) (H : Heap 𝓤) (A : Atoms 𝓤) (mem : Mem
     of-many = record { asks-nothing = λ κs a g. id⊢ 𝓤 _; ensures = λ κs a g r e. id⊢ 𝓤 _ };
     of-change = record { asks-nothing = λ κs a g. id⊢ 𝓤 _; ensures = λ κs a g r e. id⊢ 𝓤 _ };
     of-verdict = record { asks-nothing = λ κs a g. id⊢ 𝓤 _; ensures = λ κs a g r e. id⊢ 𝓤 _ };
+    of-plain = record { asks-nothing = λ κs a g. id⊢ 𝓤 _; ensures = λ κs a g r e. id⊢ 𝓤 _ };
     of-read = record { asks-nothing = λ κs a g. id⊢ 𝓤 _; ensures = λ κs a g r e. id⊢ 𝓤 _ };
     of-section = record { asks-nothing = λ κs a g. id⊢ 𝓤 _; ensures = λ κs a g r e. id⊢ 𝓤 _ };
     of-write = record { asks-nothing = λ κs a g. id⊢ 𝓤 _; ensures = λ κs a g r e. id⊢ 𝓤 _ };

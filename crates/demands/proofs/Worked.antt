@@ -5,12 +5,11 @@ use Rattle.rules.specs.Table.{wants, goodShare, goodTimes}
 use Rattle.tables.specs.Tables.{countedIn, withinLimits, tablesOf}
 use Rattle.theory.specs.Plan.{owner, owned, least}
 use Rattle.theory.specs.Harmonic.{pairs, frame, allWanted, sooner, rank, give, turn, planned}
-use Rattle.theory.specs.Load.{asked, demand, multiple, point, pointFits, firstPoint}
+use Rattle.theory.specs.Load.{asked, demand, multiple, point, holds, earliest}
 use Rattle.theory.specs.Task.{rival, taskLoad}
 use Rattle.plan_check.specs.Check.{shortAt, scanOf, planCheckOf, checkOf}
 use Rattle.plan_build.specs.Build.{unharmonic, laidOf, buildOf}
-use Rattle.task_points.specs.Task.{taskOf}
-use Rattle.task_verdict.specs.Verdict.{placeOf, verdictOf}
+use Rattle.task_verdict.specs.Verdict.{placeOf, answerableOf, passAt, verdictBy}
 use Rattle.file_codec.specs.Bytes.{numsOf}
 use Rattle.file_tables.specs.Runs.{runOwner, runLength, repeats, goodRun, runsJudged, fileTablesOf}
 use Rattle.file_read.specs.Reader.{tableBy, countsOf, contentsOf, readOf}
@@ -24,7 +23,7 @@ use Rattle.desk.specs.Request.{requestOf}
 use Rattle.demands.specs.Document01.{Document01}
 
 pub worked : Document01
-unfolding only fails first sum count smallest largest walk gathered roundUp wants countedIn withinLimits tablesOf goodShare goodTimes owner owned least pairs frame allWanted sooner rank give turn planned listed rival taskLoad asked demand multiple point pointFits firstPoint shortAt scanOf planCheckOf checkOf unharmonic laidOf buildOf taskOf placeOf verdictOf numsOf runOwner runLength repeats goodRun runsJudged fileTablesOf tableBy countsOf contentsOf readOf ticksOf digits decimal frameLine partitionLine passLine partLine taskLine pageOf tablesLines listingOf listOf openOf requestOf
+unfolding only fails first sum count smallest largest walk gathered roundUp wants countedIn withinLimits tablesOf goodShare goodTimes owner owned least pairs frame allWanted sooner rank give turn planned listed rival taskLoad asked demand multiple point holds earliest shortAt scanOf planCheckOf checkOf unharmonic laidOf buildOf placeOf answerableOf passAt verdictBy numsOf runOwner runLength repeats goodRun runsJudged fileTablesOf tableBy countsOf contentsOf readOf ticksOf digits decimal frameLine partitionLine passLine partLine taskLine pageOf tablesLines listingOf listOf openOf requestOf
 worked = record {
   p1-wants = (refl, refl, refl);
   p1 = (_, (refl, refl), refl);
@@ -36,6 +35,8 @@ worked = record {
   s1 = (refl, refl, refl, refl);
   v1 = (_, refl, refl);
   v2 = ((_, refl, refl), (_, refl, refl));
+  v1-plain = (_, refl, refl);
+  v2-plain = ((_, refl, refl), (_, refl, refl));
   d1 = (_, (refl, refl, refl), refl);
   d2 = (_, (refl, refl, refl), refl);
   d3 = (_, (refl, refl, refl), refl);

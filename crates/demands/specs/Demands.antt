@@ -39,7 +39,7 @@ use Rattle.desk.specs.Table.{start, ends, none, filled, flexes}
 use Rattle.desk.specs.Request.{kept}
 use Rattle.desk.specs.Theorems as desk
 use Rattle.desk_lent.specs.Theorems as lent
-use Rattle.api.specs.Answers.{TellsCheck, TellsBuild, TellsFill, TellsHeld, TellsMany, TellsChange, TellsVerdict, TellsRead, TellsSection, TellsWrite, TellsList, TellsOpen, TellsRequest}
+use Rattle.api.specs.Answers.{TellsCheck, TellsBuild, TellsFill, TellsHeld, TellsMany, TellsChange, TellsVerdict, TellsPlain, TellsRead, TellsSection, TellsWrite, TellsList, TellsOpen, TellsRequest}
 use Rattle.demands.specs.Entries.{Entries}
 
 -- a number is one of a list
@@ -75,6 +75,7 @@ pub record Demand1 : Type 0 where
       → Numbered (3 ∷ 6 ∷ 8 ∷ 12 ∷ 20 ∷ 26 ∷ []) t
   -- "the verdict 3, 6, 7, 8, 9"
   pub verdict-numbers : (plan ps ts : List ℕ) (place : ℕ) (t : Told) → TellsVerdict plan ps ts place t → Numbered (3 ∷ 6 ∷ 7 ∷ 8 ∷ 9 ∷ []) t
+  pub plain-numbers : (plan ps ts : List ℕ) (place : ℕ) (t : Told) → TellsPlain plan ps ts place t → Numbered (3 ∷ 6 ∷ 7 ∷ 8 ∷ 9 ∷ []) t
   -- "the reader uses 1 to 8"
   pub read-numbers : (b : List ℕ) (t : Told) → TellsRead b t → Numbered (1 ∷ 2 ∷ 3 ∷ 4 ∷ 5 ∷ 6 ∷ 7 ∷ 8 ∷ []) t
   -- of a file that the reader refuses a section tells the reader's refusal, whatever part is asked for
@@ -129,6 +130,7 @@ pub record OneOutcome : Type 0 where
       (plan ps list plan₁ plan₂ o₁ o₂ : List ℕ) (tick owner : ℕ) (t t′ : Told) → TellsChange plan ps list tick owner plan₁ o₁ t
       → TellsChange plan ps list tick owner plan₂ o₂ t′ → (t ≡ t′) × (plan₁ ≡ plan₂) × (o₁ ≡ o₂)
   pub verdict-one : (plan ps ts : List ℕ) (place : ℕ) (t t′ : Told) → TellsVerdict plan ps ts place t → TellsVerdict plan ps ts place t′ → t ≡ t′
+  pub plain-one : (plan ps ts : List ℕ) (place : ℕ) (t t′ : Told) → TellsPlain plan ps ts place t → TellsPlain plan ps ts place t′ → t ≡ t′
   pub read-one : (b : List ℕ) (t t′ : Told) → TellsRead b t → TellsRead b t′ → t ≡ t′
   pub section-one : (b : List ℕ) (which : ℕ) (t t′ : Told) → TellsSection b which t → TellsSection b which t′ → t ≡ t′
   pub write-one :
@@ -176,6 +178,10 @@ pub record Demand2 : Type 0 where
       → TellsChange plan ps o tick owner plan′ o′ u → owner ≤ partitions ps → tick < length plan
       → TellsHeld plan′ ps o′ p s n v → counts.Named ps p → counts.Within plan s n
       → (u ≡ placed 0 0) × (v ≡ placed 0 (held own (set plan tick owner) p n s))
+  -- document 02, ask 4: "both give pass or fail alike for every plan and task table", and refuse alike; the tick is never above the point
+  pub engines-alike :
+      (plan ps ts : List ℕ) (place : ℕ) (t u : Told) → TellsVerdict plan ps ts place t → TellsPlain plan ps ts place u
+      → (u .number ≡ t .number) × (Refused t → u ≡ t) × ((1 ≤ u .first) ↔ (1 ≤ t .first)) × (u .first ≤ t .first)
   pub open-afresh : (k k′ : Desk) (l l′ : List Job) (t : Told) → TellsOpen k l k′ l′ t → ¬ (t .number ≡ 13) → Afresh k′ l′
   pub request-afresh :
       (k k′ : Desk) (l l′ : List Job) (time c d : ℕ) (t : Told) → TellsRequest k l time c d k′ l′ t → ¬ (t .number ≡ 13) → Afresh k′ l′
@@ -201,20 +207,31 @@ pub record Demand2 : Type 0 where
       → (start (getD l′ 0 none) < time) × (time < ends (getD l′ 0 none))
       × ((u c₂ d₂ : ℕ) (k₂ : Desk) (l₂ : List Job) (t₂ : Told) → u ≡ ends (getD l′ 0 none) → TellsRequest k′ l′ u c₂ d₂ k₂ l₂ t₂ → ¬ (t₂ .number ≡ 16))
 
+-- over what the checker and an engine tell: accepted and passed, "every job of that task ends within D in every legal run, even if other tasks fail". A pass is
+-- told with its point or tick, which is 1 or more.
+abbrev pub EndsInTime : (List ℕ → List ℕ → List ℕ → ℕ → Told → Type 0) → Type 0
+EndsInTime tells =
+    (plan ps ts : List ℕ) (place : ℕ) (t u : Told) → TellsCheck plan ps t → t .number ≡ 0
+    → tells plan ps ts place u → u .number ≡ 0 → 1 ≤ u .first
+    → (N start : ℕ) (work : ℕ → ℕ → ℕ) (ran : ℕ → Ran) → LegalTo N own plan start ts work ran
+    → (r : ℕ) → r + deadline ts (place - 1) ≤ N → done ran (place - 1) r (r + deadline ts (place - 1)) ≡ work (place - 1) r
+
+-- the same of runs without end
+abbrev pub EndsInTimeForEver : (List ℕ → List ℕ → List ℕ → ℕ → Told → Type 0) → Type 0
+EndsInTimeForEver tells =
+    (plan ps ts : List ℕ) (place : ℕ) (t u : Told) → TellsCheck plan ps t → t .number ≡ 0
+    → tells plan ps ts place u → u .number ≡ 0 → 1 ≤ u .first
+    → (start : ℕ) (work : ℕ → ℕ → ℕ) (ran : ℕ → Ran) → Legal own plan start ts work ran
+    → (r : ℕ) → done ran (place - 1) r (r + deadline ts (place - 1)) ≡ work (place - 1) r
+
 -- DEMAND 3: "Plan accepted and task passes ⇒ every job of that task ends within D in every legal run, even if other tasks fail. What the harmonic rule writes
--- is always accepted; it refuses for want of ticks only if no plan of any length serves." A pass is told with its point, which is 1 or more.
+-- is always accepted; it refuses for want of ticks only if no plan of any length serves."
 pub record Demand3 : Type 0 where
-  pub ends-in-time :
-      (plan ps ts : List ℕ) (place : ℕ) (t u : Told) → TellsCheck plan ps t → t .number ≡ 0
-      → TellsVerdict plan ps ts place u → u .number ≡ 0 → 1 ≤ u .first
-      → (N start : ℕ) (work : ℕ → ℕ → ℕ) (ran : ℕ → Ran) → LegalTo N own plan start ts work ran
-      → (r : ℕ) → r + deadline ts (place - 1) ≤ N → done ran (place - 1) r (r + deadline ts (place - 1)) ≡ work (place - 1) r
-  -- the same of runs without end
-  pub ends-in-time-for-ever :
-      (plan ps ts : List ℕ) (place : ℕ) (t u : Told) → TellsCheck plan ps t → t .number ≡ 0
-      → TellsVerdict plan ps ts place u → u .number ≡ 0 → 1 ≤ u .first
-      → (start : ℕ) (work : ℕ → ℕ → ℕ) (ran : ℕ → Ran) → Legal own plan start ts work ran
-      → (r : ℕ) → done ran (place - 1) r (r + deadline ts (place - 1)) ≡ work (place - 1) r
+  pub ends-in-time : EndsInTime TellsVerdict
+  pub ends-in-time-for-ever : EndsInTimeForEver TellsVerdict
+  -- document 02, ask 4: from the plain engine's pass too
+  pub plain-ends-in-time : EndsInTime TellsPlain
+  pub plain-ends-in-time-for-ever : EndsInTimeForEver TellsPlain
   pub runs-exist : theory.LegalExists
   pub runs-unique : theory.LegalOne
   -- what the builder leaves in the ticks of its frame, the checker accepts

@@ -1,4 +1,4 @@
--- The worked examples of document 01, D6 as document 02 has it, under one statement: each is what its entry tells and leaves. Assumes nothing.
+-- The worked examples of document 01, D6 and W1's last line as document 02 has them, under one statement: each is what its entry tells and leaves. Assumes nothing.
 use Prim.Native.Nat.{ℕ}
 use mathlib.Core.Path.{_≡_}
 use mathlib.Core.List.{List, [], _∷_, _++_}
@@ -12,7 +12,7 @@ use Rattle.desk.specs.declared.Job.{Job}
 use Rattle.desk.specs.declared.Desk.{Desk}
 use Rattle.desk.specs.Table.{job, filled}
 use Rattle.desk.specs.Request.{room}
-use Rattle.api.specs.Answers.{TellsCheck, TellsBuild, TellsVerdict, TellsRead, TellsList, TellsOpen, TellsRequest}
+use Rattle.api.specs.Answers.{TellsCheck, TellsBuild, TellsVerdict, TellsPlain, TellsRead, TellsList, TellsOpen, TellsRequest}
 
 -- "Cycles 4, 8, 8, shares 1/4, 3/8" and a third share
 abbrev pub three : ℕ → ℕ → List ℕ
@@ -54,7 +54,7 @@ file = 0 ∷ 1 ∷ 0 ∷ 4 ∷ 0 ∷ 16 ∷ 0 ∷ 2 ∷ 0 ∷ 28 ∷ 0 ∷ 1 ∷
 
 -- an output as long as the listing, that holds something
 abbrev pub page : List ℕ
-page = replicate 100 7
+page = replicate 107 7
 
 -- "Its listing"
 abbrev pub listing : List ℕ
@@ -62,7 +62,7 @@ listing =
     bytes "frame 4\n"
     ++ bytes "partition 1 wants 2 in 4 least 2\n"
     ++ bytes "partition 2 wants 2 in 4 least 2\n"
-    ++ bytes "task 1 partition 1 pass 4\n"
+    ++ bytes "task 1 partition 1 pass 4 tick 3\n"
 
 pub record Document01 : Type 0 where
   -- "q = 1, 3, 1; plan 1 2 2 2 1 3 0 0"
@@ -82,6 +82,9 @@ pub record Document01 : Type 0 where
   -- "first task .. passes at 8. Second .. with D 13 it fails (4 > 3), with D 14 it passes at 14."
   pub v1 : TellsVerdict plan1 (three 1 100) (two 14) 1 (placed 0 8)
   pub v2 : TellsVerdict plan1 (three 1 100) (two 13) 2 (placed 0 0) × TellsVerdict plan1 (three 1 100) (two 14) 2 (placed 0 14)
+  -- by the plain engine: least(7) is 2, a tick before the first task's point
+  pub v1-plain : TellsPlain plan1 (three 1 100) (two 14) 1 (placed 0 7)
+  pub v2-plain : TellsPlain plan1 (three 1 100) (two 13) 2 (placed 0 0) × TellsPlain plan1 (three 1 100) (two 14) 2 (placed 0 14)
   -- "Opened with (10, 3, 20), (15, 5, 24), (30, 2, 40), x is 6, 4, 8."
   pub d1 : TellsOpen (desk 77 3) lent (desk 0 3) opened (placed 0 0)
   -- "t 8, C 6, d 16: start 8. Starts become 8, 14, 17, 30, x 2, 2, 2, 8."
@@ -95,6 +98,6 @@ pub record Document01 : Type 0 where
   pub d5 : TellsRequest (desk 0 3) opened 12 1 40 (desk 12 3) opened (placed 16 0)
   -- "From D1, t 25, C 4, d 29"; document 02, ask 1: "D6 starts at 25."
   pub d6 : TellsRequest (desk 0 3) opened 25 4 29 (desk 25 2) (filled (job 25 4 29 0 ∷ job 30 2 40 8 ∷ [])) (telling 0 0 25 0 0)
-  -- the whole example's contents, and "Its listing"
+  -- the whole example's contents, and "Its listing"; document 02, ask 4: "W1's last line becomes `task 1 partition 1 pass 4 tick 3`"
   pub w1-read : TellsRead file (telling 0 4 2 1 2)
-  pub w1 : TellsList file page listing (placed 0 100)
+  pub w1 : TellsList file page listing (placed 0 107)

@@ -22,7 +22,7 @@ use Rattle.plan_check.specs.Check.{checkOf, scanOf}
 use Rattle.plan_check.proofs.Orders.{shortPart, shortStart, shortfall}
 use Rattle.task_verdict.specs.Theorems.{Answered}
 use Rattle.task_verdict.specs.declared.Judged.the-variants.{Pass, Fail}
-use Rattle.task_verdict.specs.Verdict.{passAt, judgedBy, verdictOf, plainOf}
+use Rattle.task_verdict.specs.Verdict.{passAt, verdictBy, verdictOf, plainOf}
 use Rattle.task_verdict.proofs.Orders.{answer}
 use Rattle.task_verdict.proofs.Answers.{is-pass, is-fail}
 use Rattle.task_verdict.proofs.Answers as verdicts
@@ -49,7 +49,7 @@ listed-verdict b frame np nt nr e j c h = let f = fit b frame np nt nr e in reco
 
 -- an answered task's line
 module _ (plan ps ts : List ℕ) (j : ℕ) (a : Answered plan ps ts (j + 1)) where
-  said : (engine : List ℕ → List ℕ → ℕ → ℕ) → judgedBy engine plan ps ts (j + 1) ≡ passAt (deadline ts j) (engine plan ts j)
+  said : (engine : List ℕ → List ℕ → ℕ → ℕ) → verdictBy engine plan ps ts (j + 1) ≡ passAt (deadline ts j) (engine plan ts j)
   said engine = let z : j + 1 - 1 ≡ j = omega arith in rw z at (answer plan ps ts (j + 1) engine a)
 
   listed-line :

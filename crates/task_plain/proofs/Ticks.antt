@@ -1,5 +1,5 @@
 -- Every tick from 1 on is tried. Assumes nothing.
-use Prim.Native.Nat.{ℕ, _+_, _≤_}
+use Prim.Native.Nat.{ℕ, _≤_}
 use mathlib.Core.Path.{_≡_}
 use mathlib.Core.Bool.{Bool, false}
 use native.Mathlib.Omega.{arith}

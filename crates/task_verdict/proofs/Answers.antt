@@ -30,7 +30,7 @@ use Rattle.plan_check.proofs.Orders.{shortPart}
 use Rattle.tables.specs.Contracts.{firstBadTick}
 use Rattle.task_verdict.specs.declared.Judged.{Judged}
 use Rattle.task_verdict.specs.declared.Judged.the-variants.{Pass, Fail, Refused}
-use Rattle.task_verdict.specs.Verdict.{placeOf, answerableOf, passAt, judgedBy, verdictOf, plainOf, toldJudged}
+use Rattle.task_verdict.specs.Verdict.{placeOf, answerableOf, passAt, verdictBy, plainOf, toldJudged}
 use Rattle.task_verdict.specs.Theorems.{Answered, AnsweredExactly, OutsideTable, PassExactly, FailExactly, EndsInTime, EndsInTimeForEver, Engine, PassPoint, SmallestTick, PassTick, withoutTick, EnginesAlike, TickAtMostPoint, Proved}
 use Rattle.task_verdict.proofs.Orders.{answerable, judged-refused, answer}
 use Rattle.theory.specs.Contracts.{leastFor}
@@ -126,7 +126,7 @@ Enough engine =
 
 module _ (engine : List ℕ → List ℕ → ℕ → ℕ) (enough : Enough engine) where
   abbrev judge : List ℕ → List ℕ → List ℕ → ℕ → Judged
-  judge = judgedBy engine
+  judge = verdictBy engine
 
   module _ (plan ps ts : List ℕ) (place : ℕ) where
     abbrev d : ℕ
@@ -137,11 +137,11 @@ module _ (engine : List ℕ → List ℕ → ℕ → ℕ) (enough : Enough engin
 
     -- what a verdict that is given says of the input
     given : (z : Judged) → Given z → judge plan ps ts place ≡ z → Answered plan ps ts place × (passAt d t ≡ z)
-    unfolding judgedBy
+    unfolding verdictBy
     given z g e = let s = after-given (answerableOf plan ps ts place) (passAt d t) z g e in (answerable plan ps ts place (s .0), s .1)
 
     refused : (r : Refusal) → judge plan ps ts place ≡ Refused r → answerableOf plan ps ts place ≡ found.Refused r
-    unfolding judgedBy
+    unfolding verdictBy
     refused r = at (answerableOf plan ps ts place)
       where
         at : (c : Finding) → unless Refused c (passAt d t) ≡ Refused r → c ≡ found.Refused r
@@ -258,7 +258,7 @@ said-alike d t u f g = at (leb t d) (leb u d) refl refl
     at false false e h = refl
 
 pub engines-alike : EnginesAlike
-unfolding judgedBy
+unfolding verdictBy
 engines-alike plan ps ts place = at (answerableOf plan ps ts place) refl
   where
     at : (c : Finding) → answerableOf plan ps ts place ≡ c

@@ -10,7 +10,7 @@ use borrow.Author.Tests.{lt-leb, le-leb, leb-true}
 use Rattle.rules.specs.Limits.{mostTasks}
 use Rattle.rules.specs.Table.{tasks, deadline}
 use Rattle.rules.proofs.Tests.{pick-first, and-parts}
-use Rattle.tables.specs.Tables.{tablesOf, unless, GoodTables}
+use Rattle.tables.specs.Tables.{tablesOf, GoodTables}
 use Rattle.rules.specs.declared.Refusal.{Refusal}
 use Rattle.rules.specs.declared.Refusal.the-variants.{Limits, Partition, Task}
 use Rattle.tables.proofs.Chain.{within, not-good, without-tasks, unless-given, unless-good}
@@ -19,7 +19,7 @@ use Rattle.rules.specs.declared.Finding.the-variants as found
 use Rattle.plan_check.specs.Check.{planCheckOf, checkOf}
 use Rattle.task_verdict.specs.declared.Judged.{Judged}
 use Rattle.task_verdict.specs.declared.Judged.the-variants.{Refused}
-use Rattle.task_verdict.specs.Verdict.{placeOf, answerableOf, passAt, judgedBy}
+use Rattle.task_verdict.specs.Verdict.{placeOf, answerableOf, passAt, verdictBy}
 use Rattle.task_verdict.specs.Theorems.{Answered}
 
 module _ (plan ps ts : List ℕ) (place : ℕ) where
@@ -80,16 +80,16 @@ module _ (plan ps ts : List ℕ) (place : ℕ) where
 
   -- either engine's answer
   module _ (engine : List ℕ → List ℕ → ℕ → ℕ) where
-    pub judged-refused : (r : Refusal) → answerableOf plan ps ts place ≡ found.Refused r → Refused r ≡ judgedBy engine plan ps ts place
-    unfolding judgedBy
+    pub judged-refused : (r : Refusal) → answerableOf plan ps ts place ≡ found.Refused r → Refused r ≡ verdictBy engine plan ps ts place
+    unfolding verdictBy
     judged-refused r e = rw e
 
     pub judged-task :
         (j : Judged) (d t : ℕ) → answerableOf plan ps ts place ≡ found.Good → d ≡ deadline ts (place - 1) → t ≡ engine plan ts (place - 1)
-        → j ≡ passAt d t → j ≡ judgedBy engine plan ps ts place
-    unfolding judgedBy
+        → j ≡ passAt d t → j ≡ verdictBy engine plan ps ts place
+    unfolding verdictBy
     judged-task j d t e ed et f = rw (e, ← ed, ← et) f
 
-    pub answer : Answered plan ps ts place → judgedBy engine plan ps ts place ≡ passAt (deadline ts (place - 1)) (engine plan ts (place - 1))
-    unfolding judgedBy
+    pub answer : Answered plan ps ts place → verdictBy engine plan ps ts place ≡ passAt (deadline ts (place - 1)) (engine plan ts (place - 1))
+    unfolding verdictBy
     answer a = rw (is-answerable a)

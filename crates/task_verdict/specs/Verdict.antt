@@ -32,16 +32,16 @@ unfoldable pub passAt : ℕ → ℕ → Judged
 passAt d t = pick (leb t d) (Pass t) Fail
 
 -- a refusal, or what is said of the task whose smallest t that holds the engine finds
-unfoldable pub judgedBy : (List ℕ → List ℕ → ℕ → ℕ) → List ℕ → List ℕ → List ℕ → ℕ → Judged
-judgedBy engine plan ps ts place = unless Refused (answerableOf plan ps ts place) (passAt (deadline ts (place - 1)) (engine plan ts (place - 1)))
+unfoldable pub verdictBy : (List ℕ → List ℕ → ℕ → ℕ) → List ℕ → List ℕ → List ℕ → ℕ → Judged
+verdictBy engine plan ps ts place = unless Refused (answerableOf plan ps ts place) (passAt (deadline ts (place - 1)) (engine plan ts (place - 1)))
 
 -- "A pass reports the smallest scheduling point that holds"
 abbrev pub verdictOf : List ℕ → List ℕ → List ℕ → ℕ → Judged
-verdictOf = judgedBy (taskPoint own)
+verdictOf = verdictBy (taskPoint own)
 
 -- document 02, ask 4: "every tick t from 1 to D, no scheduling points .. It reports the smallest tick that holds"
 abbrev pub plainOf : List ℕ → List ℕ → List ℕ → ℕ → Judged
-plainOf = judgedBy (taskTick own)
+plainOf = verdictBy (taskTick own)
 
 -- the answer r of the call
 abbrev pub Judges : List ℕ → List ℕ → List ℕ → ℕ → Judged → Type 0
