@@ -23,8 +23,7 @@ use Rattle.plan_check.proofs.Orders.{shortPart, shortStart, shortfall}
 use Rattle.task_verdict.specs.Theorems.{Answered}
 use Rattle.task_verdict.specs.declared.Judged.the-variants.{Pass, Fail}
 use Rattle.task_verdict.specs.Verdict.{passAt, verdictBy, verdictOf, plainOf}
-use Rattle.task_verdict.proofs.Orders.{answer}
-use Rattle.task_verdict.proofs.Answers.{is-pass, is-fail}
+use Rattle.task_verdict.proofs.Orders.{is-pass, is-fail, answer}
 use Rattle.task_verdict.proofs.Answers as verdicts
 use Rattle.file_lines.specs.Lines.{passLine, failLine}
 use Rattle.file_page.specs.Page.{taskLine}

@@ -7,7 +7,7 @@ use mathlib.Core.List.{List}
 use native.Mathlib.Omega.{arith}
 use lib.Dec.{leb, ltb}
 use lib.ListN.{length}
-use borrow.Author.Tests.{le-leb, lt-leb, leb-true, leb-false}
+use borrow.Author.Tests.{le-leb, leb-true, leb-false}
 use Rattle.rules.specs.Walk.{pick, Every}
 use Rattle.rules.specs.Table.{partitions, tasks, deadline, goodTask}
 use Rattle.tables.specs.Tables.{unless, GoodTables}
@@ -32,7 +32,7 @@ use Rattle.task_verdict.specs.declared.Judged.{Judged}
 use Rattle.task_verdict.specs.declared.Judged.the-variants.{Pass, Fail, Refused}
 use Rattle.task_verdict.specs.Verdict.{placeOf, answerableOf, passAt, verdictBy, plainOf, toldJudged}
 use Rattle.task_verdict.specs.Theorems.{Answered, AnsweredExactly, OutsideTable, PassExactly, FailExactly, EndsInTime, EndsInTimeForEver, Engine, PassPoint, SmallestTick, PassTick, withoutTick, EnginesAlike, TickAtMostPoint, Proved}
-use Rattle.task_verdict.proofs.Orders.{answerable, judged-refused, answer}
+use Rattle.task_verdict.proofs.Orders.{is-pass, is-fail, answerable, judged-refused, answer}
 use Rattle.theory.specs.Contracts.{leastFor}
 
 -- ---- a pass at t, unless that is past d
@@ -45,19 +45,11 @@ module _ (d t : ℕ) where
       let f : u ≡ t = cc (a .1) in
       (f, leb-true t d (a .0))
 
-  pub is-pass : t ≤ d → passAt d t ≡ Pass t
-  unfolding passAt
-  is-pass h = rw (le-leb t d h)
-
   fail-at : passAt d t ≡ Fail → d < t
   unfolding passAt
   fail-at e =
       let a = pick-second (leb t d) (Pass t) Fail Fail (λ q. let z : _≡_ {A = ℕ} 0 1 = cc in absurd (omega arith)) e in
       leb-false t d (a .0)
-
-  pub is-fail : d < t → passAt d t ≡ Fail
-  unfolding passAt
-  is-fail h = rw (lt-leb t d h)
 
   not-refused : (r : Refusal) → ¬ (passAt d t ≡ Refused r)
   unfolding passAt

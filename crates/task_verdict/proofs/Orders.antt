@@ -1,4 +1,4 @@
--- The order of the verdict's refusals, at the numbers that the code holds. Assumes nothing.
+-- The order of the verdict's refusals, and what is said of a task, at the numbers that the code holds. Assumes nothing.
 use Prim.Native.Nat.{ℕ, _-_, _≤_, _<_}
 use mathlib.Core.Path.{_≡_, sym, _∙_}
 use mathlib.Core.Bool.{_&&_}
@@ -18,9 +18,18 @@ use Rattle.rules.specs.declared.Finding.{Finding}
 use Rattle.rules.specs.declared.Finding.the-variants as found
 use Rattle.plan_check.specs.Check.{planCheckOf, checkOf}
 use Rattle.task_verdict.specs.declared.Judged.{Judged}
-use Rattle.task_verdict.specs.declared.Judged.the-variants.{Refused}
+use Rattle.task_verdict.specs.declared.Judged.the-variants.{Pass, Fail, Refused}
 use Rattle.task_verdict.specs.Verdict.{placeOf, answerableOf, passAt, verdictBy}
 use Rattle.task_verdict.specs.Theorems.{Answered}
+
+module _ (d t : ℕ) where
+  pub is-pass : t ≤ d → passAt d t ≡ Pass t
+  unfolding passAt
+  is-pass h = rw (le-leb t d h)
+
+  pub is-fail : d < t → passAt d t ≡ Fail
+  unfolding passAt
+  is-fail h = rw (lt-leb t d h)
 
 module _ (plan ps ts : List ℕ) (place : ℕ) where
   pub place-none : place < 1 → found.Refused (Task 0) ≡ placeOf plan ps ts place

@@ -1,5 +1,5 @@
-use borrow.Author.Tests.{le-leb, lt-leb}
-use Rattle.task_verdict.specs.Verdict.{passAt}
+use mathlib.Core.Path.{sym}
+use Rattle.task_verdict.proofs.Orders.{is-pass, is-fail}
 use borrow.Author.Needs.{needs}
 use Rattle.task_verdict.proofs.pass_at.Statement.{statement}
 use Rattle.task_verdict.proofs.pass_at.Tie as tie
@@ -8,12 +8,10 @@ wide-requires : tie.Need-wide-requires
 wide-requires c κs = search needs
 
 returns : tie.Need-returns
-unfolding passAt
-returns c = rw (← c .before .wide .ensures, le-leb _ _ (c .if1 .taken))
+returns c = sym (is-pass _ _ (search needs))
 
 returns-2 : tie.Need-returns-2
-unfolding passAt
-returns-2 c = rw (← c .before .wide .ensures, lt-leb _ _ (c .if1 .left))
+returns-2 c = sym (is-fail _ _ (search needs))
 
 pub pass-at-spec : {M : Type 1} → statement M
 pass-at-spec = tie.close (tie.spec wide-requires returns returns-2)
