@@ -1,4 +1,5 @@
-//! The worked examples of document 01.
+//! The worked examples of document 01, with W1's listing as ask 4 of document 02 has it, and what
+//! its plain engine says.
 
 mod desk;
 
@@ -8,7 +9,7 @@ use crate::file::{read, section, write};
 use crate::listing::text;
 use crate::plan::{check, least};
 use crate::planner;
-use crate::verdict::verdict;
+use crate::verdict::{plain, verdict};
 
 const P1_TABLE: [u16; 9] = [4, 1, 4, 8, 3, 8, 8, 1, 100];
 const P1_PLAN: [u16; 8] = [1, 2, 2, 2, 1, 3, 0, 0];
@@ -69,6 +70,78 @@ fn v1_v2() {
     assert_eq!(judged(14, 3), Answer::refused_at(7, 0));
 }
 
+/// What both engines say of the task at the last place of a table: the point and the tick.
+fn both(plan: &[u16], parts: &[u16], tasks: &[[u16; 4]]) -> [u64; 2] {
+    let place = tasks.len();
+    [verdict, plain].map(|engine| {
+        let answer = engine(plan, parts, &tasks.concat(), place);
+        assert_eq!(answer, Answer::good([answer.first, 0, 0, 0]));
+        answer.first
+    })
+}
+
+/// Of partition 2, least(t) is 0 up to t 5, then 1, 2 and 3 at 6, 7 and 8, and 4 first at 14. V1's
+/// demand is 2 at every t; V2's is 4 up to t 16, which is a scheduling point where D is above it.
+#[test]
+fn v1_v2_plain() {
+    let judged = |tasks: &[[u16; 4]]| both(&P1_PLAN, &P1_TABLE, tasks);
+    let first = [2, 2, 8, 16];
+    assert_eq!(judged(&[first]), [8, 7]);
+    assert_eq!(judged(&[first, [2, 2, 13, 32]]), [0, 0]);
+    assert_eq!(judged(&[first, [2, 2, 14, 32]]), [14, 14]);
+    assert_eq!(judged(&[first, [2, 2, 17, 32]]), [16, 14]);
+    // Of partition 1, least(t) is 1 first at 4; of partition 3 at 8.
+    let [other, another] = [[1, 1, 4, 4], [3, 1, 9, 9]];
+    assert_eq!(judged(&[first, other]), [4, 4]);
+    assert_eq!(judged(&[first, other, another]), [9, 8]);
+    let last = [2, 2, 17, 32];
+    assert_eq!(judged(&[first, other, another, last]), [16, 14]);
+    // D 1 and D = C: least(1) and least(3) are 0.
+    assert_eq!(judged(&[[2, 1, 1, 16]]), [0, 0]);
+    assert_eq!(judged(&[[2, 3, 3, 16]]), [0, 0]);
+}
+
+/// In a plan of one tick that is its own, least(t) is t.
+#[test]
+fn plain_in_one_tick() {
+    let judged = |tasks: &[[u16; 4]]| both(&[1], &[1, 1, 1], tasks);
+    // D 1: demand(1) is 1 alone, and 2 behind another task.
+    assert_eq!(judged(&[[1, 1, 1, 1]]), [1, 1]);
+    assert_eq!(judged(&[[1, 1, 9, 9], [1, 1, 1, 9]]), [0, 0]);
+    // D = C: demand(3) is 3.
+    assert_eq!(judged(&[[1, 3, 3, 5]]), [3, 3]);
+    // demand(t) is 4 up to t 5, the first scheduling point.
+    assert_eq!(judged(&[[1, 3, 3, 5], [1, 1, 9, 9]]), [5, 4]);
+    // demand(4) is 4, demand(5) is 6: what holds at 4 doesn't at D.
+    assert_eq!(judged(&[[1, 2, 4, 4], [1, 2, 5, 9]]), [4, 4]);
+    // demand(t) is 3 up to t 100, the first scheduling point.
+    assert_eq!(judged(&[[1, 1, 100, 100], [1, 2, 200, 200]]), [100, 3]);
+}
+
+#[test]
+fn both_engines_refuse_alike() {
+    let refused = |plan: &[u16], cycle: u16, tasks: &[u16], place: usize| {
+        let answers = [verdict, plain].map(|engine| engine(plan, &[cycle, 1, 2], tasks, place));
+        assert_eq!(answers[0], answers[1]);
+        answers[0]
+    };
+    let [bad, good] = [[1, 0, 4, 4], [1, 1, 4, 4]];
+    let at = Answer::refused_at;
+    // Each has the later ones' faults too, up to the plan that doesn't serve.
+    assert_eq!(refused(&[1, 2], 3, &bad[..3], 0), Answer::refused(3));
+    assert_eq!(refused(&[1, 2], 3, &bad, 0), at(6, 1));
+    assert_eq!(refused(&[1, 2], 1, &bad, 0), at(7, 1));
+    assert_eq!(refused(&[1, 2], 1, &good, 0), at(7, 0));
+    assert_eq!(refused(&[1, 2], 1, &good, 2), at(7, 0));
+    assert_eq!(refused(&[1, 2], 1, &[], 1), at(7, 0));
+    assert_eq!(refused(&[1, 2], 1, &good, 1), at(8, 2));
+    let short = Answer::new(9, [1, 1, 0, 1]);
+    assert_eq!(refused(&[1, 0], 1, &good, 1), short);
+    // An idle plan serves no partition.
+    let idle = Answer::new(9, [1, 0, 0, 1]);
+    assert_eq!(refused(&[0], 1, &good, 1), idle);
+}
+
 #[test]
 fn w1() {
     assert_eq!(read(&W1), Answer::good([4, 2, 1, 2]));
@@ -102,7 +175,7 @@ fn w1_listing() {
     let listing = "frame 4\n\
                    partition 1 wants 2 in 4 least 2\n\
                    partition 2 wants 2 in 4 least 2\n\
-                   task 1 partition 1 pass 4\n";
+                   task 1 partition 1 pass 4 tick 3\n";
     assert_eq!(text(&W1), listing);
     assert_eq!(text(&W1[..15]), "refused 1\n");
 }

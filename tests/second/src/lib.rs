@@ -1,4 +1,4 @@
-//! The rules of document 01 once more, with asks 1 and 2 of document 02, and of the share table, by
+//! The rules of document 01 once more, with asks 1, 2 and 4 of document 02, and of the share table, by
 //! plain counting and trying, to compare the library and the planner against.
 
 pub mod answer;

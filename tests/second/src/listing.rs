@@ -34,10 +34,13 @@ fn listed(bytes: &[u8]) -> Result<String, Answer> {
     }
     for (index, task) in file.tasks.iter().enumerate() {
         let place = index + 1;
-        // "A failing task ends in `fail`."
-        let end = match verdict::passing_point(&plan, &file.tasks, place) {
-            0 => String::from("fail"),
-            point => format!("pass {point}"),
+        let point = verdict::passing_point(&plan, &file.tasks, place);
+        let tick = verdict::passing_tick(&plan, &file.tasks, place);
+        // "A failing task ends in `fail`."; "W1's last line becomes
+        // `task 1 partition 1 pass 4 tick 3`"
+        let end = match [point, tick] {
+            [0, 0] => String::from("fail"),
+            _ => format!("pass {point} tick {tick}"),
         };
         text += &format!("task {place} partition {} {end}\n", task.partition);
     }
