@@ -11,9 +11,9 @@ use second::inputs::plans;
 use second::plan;
 use second::records::Question;
 
-use crate::seen::Seen;
+use crate::seen::{kind, Seen};
 use crate::trial::{Named, Trial};
-use lent::{ask, kind, some_length, some_lent, Lent, PATTERN};
+use lent::{ask, some_length, some_lent, Lent, PATTERN};
 
 pub const TRIALS: &[Named] = &[
     ("counts, fill", fill_lists),

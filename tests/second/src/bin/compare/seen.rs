@@ -2,7 +2,7 @@
 
 use std::collections::BTreeMap;
 
-use second::file;
+use second::{file, Answer};
 
 use crate::trial::Trial;
 
@@ -31,6 +31,14 @@ impl Seen {
         for kind in kinds {
             trial.share(kind.as_ref(), self.times(kind.as_ref()), share);
         }
+    }
+}
+
+/// The number of an answer; 7 and 8 with place 0 apart from those with another.
+pub fn kind(answer: Answer) -> String {
+    match (answer.number, answer.first) {
+        (number @ (7 | 8), 0) => format!("{number} with place 0"),
+        (number, _) => number.to_string(),
     }
 }
 

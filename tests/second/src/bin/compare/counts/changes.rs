@@ -3,8 +3,8 @@
 use second::inputs::counts as inputs;
 use second::Answer;
 
-use super::lent::{change, kind, small_lent, some_lent, Lent};
-use crate::seen::Seen;
+use super::lent::{change, small_lent, some_lent, Lent};
+use crate::seen::{kind, Seen};
 use crate::trial::Trial;
 
 /// Notes the answer, and of a good one who owned the tick and who owns it now.

@@ -135,14 +135,6 @@ fn lend<'a>(call: Call<'a>, before: &[u16], after: &[u16]) -> Call<'a> {
     call.writes(before.len() - BEHIND, &before, &after)
 }
 
-/// The number; 8 with place 0 apart from 8.
-pub fn kind(answer: Answer) -> String {
-    match (answer.number, answer.first) {
-        (8, 0) => "8 with place 0".to_string(),
-        (number, _) => number.to_string(),
-    }
-}
-
 /// An output that is empty, too short, exact, or longer.
 pub fn some_length(rng: &mut Rng, needed: usize) -> usize {
     match rng.between(0, 9) {

@@ -3,7 +3,8 @@
 use second::inputs::counts::{self as inputs, Ask};
 use second::rng::Rng;
 
-use super::lent::{ask, kind, some_lent, Lent};
+use super::lent::{ask, some_lent, Lent};
+use crate::seen::kind;
 use crate::trial::Trial;
 
 /// A call, and the plan's numbers before any fault.

@@ -6,8 +6,8 @@ use second::records::Question;
 use second::rng::Rng;
 use second::{plan, Answer};
 
-use super::lent::{ask, held_many, kind, small_lent, some_lent, Lent, PATTERN};
-use crate::seen::Seen;
+use super::lent::{ask, held_many, small_lent, some_lent, Lent, PATTERN};
+use crate::seen::{kind, Seen};
 use crate::trial::Trial;
 
 /// One of each that needs a list which agrees; no question at all needs one too.

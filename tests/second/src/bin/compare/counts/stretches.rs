@@ -4,8 +4,8 @@ use second::inputs::counts as inputs;
 use second::records::Question;
 use second::Answer;
 
-use super::lent::{held, held_many, kind, small_lent, some_length, some_lent, Lent};
-use crate::seen::Seen;
+use super::lent::{held, held_many, small_lent, some_length, some_lent, Lent};
+use crate::seen::{kind, Seen};
 use crate::trial::Trial;
 
 /// Notes the answer, and of a good one how the stretch lies in the frame.
