@@ -6,6 +6,20 @@ static merkazobi_answer only(size_t number)
     return (merkazobi_answer){.first = number};
 }
 
+/* A plan, or the task at a place by one of the two engines. */
+static merkazobi_answer judged(size_t entry, size_t place, const slice *of)
+{
+    const slice plan = of[0], parts = of[1], tasks = of[2];
+    switch (entry) {
+    case CHECK:
+        return merkazobi_check(plan.at, plan.lent, parts.at, parts.lent);
+    case VERDICT:
+        return merkazobi_verdict(plan.at, plan.lent, parts.at, parts.lent, tasks.at, tasks.lent, place);
+    default:
+        return merkazobi_plain(plan.at, plan.lent, parts.at, parts.lent, tasks.at, tasks.lent, place);
+    }
+}
+
 /* The running counts; what is given is handed on in its whole width. */
 static merkazobi_answer counts(size_t entry, const size_t *given, const slice *of)
 {
@@ -35,12 +49,12 @@ static merkazobi_answer answer(size_t entry, const size_t *given, const slice *o
         return only(merkazobi_held(of[0].at, of[0].lent, (uint16_t)one, (uint32_t)two, (uint32_t)three));
     case LEAST:
         return only(merkazobi_least(of[0].at, of[0].lent, (uint16_t)one, (uint32_t)two));
-    case CHECK:
-        return merkazobi_check(of[0].at, of[0].lent, of[1].at, of[1].lent);
     case BUILD:
         return merkazobi_build(of[0].at, of[0].lent, of[1].at, of[1].lent);
+    case CHECK:
     case VERDICT:
-        return merkazobi_verdict(of[0].at, of[0].lent, of[1].at, of[1].lent, of[2].at, of[2].lent, one);
+    case PLAIN:
+        return judged(entry, one, of);
     case COUNTS_FILL:
     case COUNTS_HELD:
     case COUNTS_HELD_MANY:

@@ -1,5 +1,5 @@
-//! The rules of document 01 once more, with asks 1, 2 and 4 of document 02, and of the share table, by
-//! plain counting and trying, to compare the library and the planner against.
+//! The rules of document 01 once more, with asks 1, 2 and 4 of document 02, and of the share table,
+//! by plain counting and trying, to compare the library and the planner against.
 
 pub mod answer;
 pub mod builder;

@@ -15,6 +15,7 @@ pub enum Entry {
     Check,
     Build,
     Verdict,
+    Plain,
     CountsFill,
     CountsHeld,
     CountsHeldMany,

@@ -15,13 +15,14 @@ type Names = (
 const TEXT: &str = "text";
 const LINE: &str = "plan file or line";
 
-const ENTRIES: [Names; 17] = [
+const ENTRIES: [Names; 18] = [
     ("wants", &["m", "num", "den"], &[]),
     ("held", &["p", "s", "n"], &["plan"]),
     ("least", &["p", "t"], &["plan"]),
     ("check", &[], &["plan", "parts"]),
     ("build", &[], &["parts", "out"]),
     ("verdict", &["place"], &["plan", "parts", "tasks"]),
+    ("plain", &["place"], &["plan", "parts", "tasks"]),
     ("counts_fill", &[], &["plan", "parts", "list"]),
     (
         "counts_held",

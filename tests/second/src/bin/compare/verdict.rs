@@ -1,79 +1,110 @@
-//! The verdict: the library against the second program, and against runs played out.
+//! The two engines of the verdict: the library against the second program, and against runs played
+//! out.
 
-use second::inputs::{faults, plans, tables};
-use second::rng::Rng;
-use second::{records, runs, verdict};
+mod asked;
+mod long;
+mod plain;
 
-use crate::batch::Entry;
+use second::inputs::{faults, plans};
+use second::{records, runs};
+
+use crate::seen::Seen;
 use crate::trial::{Named, Trial};
+use asked::{compare, judge, judge_all, served, Input, Judged, BELOW};
 
 pub const TRIALS: &[Named] = &[
+    ("verdict, all small", all_small),
     ("verdict, small", small),
     ("verdict, one tick more or less", one_tick_more_or_less),
     ("verdict, periods that meet", periods_that_meet),
     ("verdict, faults", faults),
-    ("verdict, many frames", many_frames),
     ("verdict, many tasks", many_tasks),
-    ("verdict, long frames", long_frames),
+    ("verdict, demand past 16 bits", demand_past_16_bits),
+    ("verdict, many frames", long::many_frames),
+    ("verdict, long frames", long::long_frames),
     ("verdict, legal runs", legal_runs),
+    ("plain, D 1", plain::deadline_1),
+    ("plain, D = C", plain::deadline_c),
+    ("plain, F 1", plain::one_tick),
+    ("plain, others between", plain::others_between),
+    ("plain, below the point", plain::below_the_point),
+    ("plain, D beyond the frame", plain::beyond_the_frame),
+    ("plain, many frames", long::plain_many_frames),
+    ("plain, long frames", long::plain_long_frames),
+    (
+        "plain, all that a frame holds",
+        long::all_that_a_frame_holds,
+    ),
 ];
 
-#[derive(Clone, Debug)]
-struct Input {
-    plan: Vec<u16>,
-    parts: Vec<u16>,
-    tasks: Vec<u16>,
+/// Every plan of up to four ticks, a partition's or idle.
+fn every_plan() -> Vec<Vec<u16>> {
+    let mut plans = Vec::new();
+    for frame in 1..=4 {
+        for own in 0..1 << frame {
+            plans.push((0..frame).map(|tick| own >> tick & 1).collect());
+        }
+    }
+    plans
 }
 
-/// Some(point) for a pass.
-fn compare(trial: &mut Trial, input: &Input, place: usize) -> Option<u64> {
-    let Input { plan, parts, tasks } = input;
-    let answer = verdict::verdict(plan, parts, tasks, place);
-    let call = trial.call(Entry::Verdict, [place as u64, 0, 0], answer);
-    call.reads(plan).reads(parts).reads(tasks);
-    (answer.number == 0 && answer.first > 0).then_some(answer.first)
+/// Every task of partition 1 with a period up to five.
+fn every_task() -> Vec<Vec<u16>> {
+    let mut tasks = Vec::new();
+    for t in 1..=5 {
+        for d in 1..=t {
+            tasks.extend((1..=d).map(|c| vec![1, c, d, t]));
+        }
+    }
+    tasks
 }
 
-/// Every place of the table and the two beside it; how many pass.
-fn compare_all(trial: &mut Trial, input: &Input) -> u64 {
-    let places = 0..=input.tasks.len() / 4 + 1;
-    let passing = places.filter(|&place| compare(trial, input, place).is_some());
-    passing.count() as u64
-}
-
-fn served(rng: &mut Rng, tasks: usize, period: usize) -> Input {
-    let longest = rng.between(1, 24);
-    let (plan, parts) = plans::served(rng, 3, longest);
-    let partitions = parts.len() / 3;
-    let tasks = tables::tasks(rng, tasks, partitions, period);
-    Input { plan, parts, tasks }
+/// Every task of those, alone and behind every other.
+fn all_small(trial: &mut Trial) {
+    let tasks = every_task();
+    for plan in trial.each(every_plan()) {
+        for higher in [&[Vec::new()], &tasks[..]].concat() {
+            for task in &tasks {
+                let frame = plan.len() as u16;
+                let input = Input {
+                    plan: plan.clone(),
+                    parts: vec![frame, 1, frame],
+                    tasks: [&higher[..], task].concat(),
+                };
+                compare(trial, &input, input.listed());
+            }
+        }
+    }
 }
 
 fn small(trial: &mut Trial) {
-    let mut passing = 0;
+    let mut seen = Seen::default();
     for _ in trial.cases(15_000) {
         let tasks = trial.rng.between(0, 6);
         let period = trial.rng.pick(&[6, 20, 60, 200]);
         let input = served(&mut trial.rng, tasks, period);
-        passing += compare_all(trial, &input);
+        judge_all(trial, &input, &mut seen);
     }
-    trial.share("passing", passing, [1, 3]);
+    seen.share(trial, &["pass", "fail", BELOW], [1, 3]);
 }
 
 /// Deadlines that just pass or just fail, as V1 and V2 do.
 fn one_tick_more_or_less(trial: &mut Trial) {
+    let mut seen = Seen::default();
     for _ in trial.cases(5000) {
         let tasks = trial.rng.between(1, 4);
         let mut input = served(&mut trial.rng, tasks, 60);
         let [_, c, d, t] = [0, 1, 2, 3].map(|number| input.tasks[4 * (tasks - 1) + number]);
         for deadline in c..=t.min(d + 3) {
             input.tasks[4 * (tasks - 1) + 2] = deadline;
-            compare(trial, &input, tasks);
+            judge(trial, &input, tasks, &mut seen);
         }
     }
+    seen.share(trial, &["pass", "fail", BELOW], [1, 1]);
 }
 
 fn periods_that_meet(trial: &mut Trial) {
+    let mut seen = Seen::default();
     for _ in trial.cases(8000) {
         let count = trial.rng.between(2, 6);
         let mut input = served(&mut trial.rng, count, 12);
@@ -84,17 +115,18 @@ fn periods_that_meet(trial: &mut Trial) {
             task[2] = trial.rng.between(1, task[3].into()) as u16;
             task[1] = trial.rng.between(1, 2).min(task[2].into()) as u16;
         }
-        compare_all(trial, &input);
+        judge_all(trial, &input, &mut seen);
     }
+    seen.share(trial, &["pass", "fail", BELOW], [1, 3]);
 }
 
 fn faults(trial: &mut Trial) {
+    let mut seen = Seen::default();
     for _ in trial.cases(50_000) {
         let rng = &mut trial.rng;
         let count = rng.between(0, 5);
         let mut input = served(rng, count, 30);
-        let partitions = input.parts.len() / 3;
-        let frame = input.plan.len();
+        let [partitions, frame] = [input.partitions(), input.plan.len()];
         if rng.one_in(3) {
             faults::partitions(rng, &mut input.parts, frame);
         }
@@ -107,42 +139,25 @@ fn faults(trial: &mut Trial) {
         if rng.one_in(3) {
             plans::damage(rng, &mut input.plan, partitions);
         }
-        let listed = input.tasks.len() / 4;
+        let listed = input.listed();
         let outside = rng.pick(&[0, listed + 1, 1 << 32, (1 << 32) + 1, usize::MAX]);
         let place = if rng.one_in(3) {
             outside
         } else {
             rng.between(1, listed)
         };
-        compare(trial, &input, place);
+        judge(trial, &input, place, &mut seen);
     }
-}
-
-fn many_frames(trial: &mut Trial) {
-    for _ in trial.cases(150) {
-        let (plan, parts) = plans::served(&mut trial.rng, 2, 8);
-        let mut input = Input {
-            plan,
-            parts,
-            tasks: Vec::new(),
-        };
-        for _ in 0..trial.rng.between(0, 3) {
-            let period = trial.rng.between(200, 2000) as u16;
-            let c = trial.rng.between(1, 100) as u16;
-            input.tasks.extend([1, c, period, period]);
-        }
-        let d = trial.rng.between(3000, 4096) as u16;
-        let c = trial.rng.between(1, 1200) as u16;
-        input.tasks.extend([1, c, d, 4096]);
-        compare(trial, &input, input.tasks.len() / 4);
-    }
+    let refused = ["3", "6", "7", "7 with place 0", "8", "9"];
+    seen.share(trial, &refused, [1, 50]);
+    seen.share(trial, &["pass", "fail", BELOW], [1, 50]);
 }
 
 fn many_tasks(trial: &mut Trial) {
     for case in trial.cases(300) {
         let count = [127, 128, 129][case as usize % 3];
         let mut input = served(&mut trial.rng, 0, 1);
-        let partitions = input.parts.len() / 3;
+        let partitions = input.partitions();
         for _ in 0..count {
             let owner = trial.rng.between(1, partitions) as u16;
             let period = trial.rng.between(300, 800) as u16;
@@ -153,38 +168,46 @@ fn many_tasks(trial: &mut Trial) {
     }
 }
 
-/// Sixteen partitions in the longest frame, up to the longest deadline.
-fn long_frames(trial: &mut Trial) {
-    for _ in trial.cases(60) {
-        let parts = tables::sixteen(&mut trial.rng);
-        let short = plans::serving(&mut trial.rng, &parts, 128).unwrap_or_default();
-        let d = trial.rng.between(2000, 4096) as u16;
-        let c = trial.rng.between(1, 120) as u16;
-        let tasks = vec![3, 40, 1500, 1500, 2, 1, 7, 7, 3, c, d, 4096];
-        let plan = short.repeat(32);
-        compare(trial, &Input { plan, parts, tasks }, 3);
+/// Higher tasks that ask for 65,536 ticks together, which in 16 bits are none.
+fn demand_past_16_bits(trial: &mut Trial) {
+    for _ in trial.cases(1000) {
+        let mut input = served(&mut trial.rng, 0, 1);
+        let period = trial.rng.pick(&[1024, 2048, 4096]);
+        let many = 65_536 / usize::from(period);
+        input.tasks = [1, period, period, period].repeat(many);
+        let d = trial.rng.between(24, 100) as u16;
+        input.tasks.extend([1, 1, d, 4096]);
+        let judged = compare(trial, &input, many + 1);
+        trial.same((&input, "judged"), judged, Judged::Fail);
     }
 }
 
-/// In no legal run does a task that passes ever miss.
+/// Runs played out with another deadline for the task at a place.
+fn play(trial: &mut Trial, input: &Input, place: usize, deadline: u64) {
+    let Ok(mut tasks) = records::tasks(&input.tasks) else {
+        return;
+    };
+    tasks[place - 1].d = deadline;
+    for _ in 0..3 {
+        let missed = runs::misses(&input.plan, &tasks, place, 250, &mut trial.rng);
+        trial.same((input, place, deadline, "missed"), missed, false);
+    }
+}
+
+/// In no legal run does a task that passes ever miss. By the plain engine's rule it passes with its
+/// tick for a deadline too.
 fn legal_runs(trial: &mut Trial) {
-    let mut played = 0;
+    let mut seen = Seen::default();
     for _ in trial.cases(8000) {
         let count = trial.rng.between(1, 5);
         let input = served(&mut trial.rng, count, 40);
-        let Ok(tasks) = records::tasks(&input.tasks) else {
-            continue;
-        };
         for place in 1..=count {
-            if compare(trial, &input, place).is_none() {
-                continue;
-            }
-            for _ in 0..3 {
-                played += 1;
-                let missed = runs::misses(&input.plan, &tasks, place, 250, &mut trial.rng);
-                trial.same((&input, place, "missed in a legal run"), missed, false);
+            if let Judged::Pass { tick, .. } = judge(trial, &input, place, &mut seen) {
+                let d = input.tasks[4 * (place - 1) + 2];
+                play(trial, &input, place, d.into());
+                play(trial, &input, place, tick);
             }
         }
     }
-    trial.share("played", played, [5, 8]);
+    seen.share(trial, &["pass", BELOW], [1, 4]);
 }

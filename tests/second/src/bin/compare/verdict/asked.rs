@@ -1,0 +1,123 @@
+//! A task that is asked about, and the calls of both engines in both programs.
+
+use second::inputs::{plans, tables};
+use second::rng::Rng;
+use second::{verdict, Answer};
+
+use crate::batch::Entry;
+use crate::seen::{kind, Seen};
+use crate::trial::Trial;
+
+#[derive(Clone, Debug)]
+pub struct Input {
+    pub plan: Vec<u16>,
+    pub parts: Vec<u16>,
+    pub tasks: Vec<u16>,
+}
+
+impl Input {
+    pub fn partitions(&self) -> usize {
+        self.parts.len() / 3
+    }
+
+    /// How many tasks there are, which is the last one's place too.
+    pub fn listed(&self) -> usize {
+        self.tasks.len() / 4
+    }
+}
+
+/// An entry, and what the second program makes of its call.
+type Engine = (Entry, fn(&[u16], &[u16], &[u16], usize) -> Answer);
+
+pub const VERDICT: Engine = (Entry::Verdict, verdict::verdict);
+const PLAIN: Engine = (Entry::Plain, verdict::plain);
+
+/// What both engines say of a task.
+#[derive(Clone, Copy, Debug, PartialEq)]
+pub enum Judged {
+    Refused(Answer),
+    Fail,
+    Pass { point: u64, tick: u64 },
+}
+
+/// Asks one engine.
+pub fn ask(trial: &mut Trial, engine: Engine, input: &Input, place: usize) -> Answer {
+    let (entry, judged) = engine;
+    let Input { plan, parts, tasks } = input;
+    let answer = judged(plan, parts, tasks, place);
+    let call = trial.call(entry, [place as u64, 0, 0], answer);
+    call.reads(plan).reads(parts).reads(tasks);
+    answer
+}
+
+/// Asks both engines. They refuse alike, "both give pass or fail alike for every plan and task
+/// table", and the tick is never above the point.
+pub fn compare(trial: &mut Trial, input: &Input, place: usize) -> Judged {
+    let [verdict, plain] = [VERDICT, PLAIN].map(|engine| ask(trial, engine, input, place));
+    let asked = (input, place, verdict, plain);
+    if verdict.number != 0 {
+        trial.same((asked, "refused alike"), plain, verdict);
+        return Judged::Refused(verdict);
+    }
+    let [point, tick] = [verdict.first, plain.first];
+    let found = (plain.number, tick > 0);
+    trial.same((asked, "judged alike"), found, (0, point > 0));
+    trial.same((asked, "the tick up to the point"), tick <= point, true);
+    match point {
+        0 => Judged::Fail,
+        _ => Judged::Pass { point, tick },
+    }
+}
+
+/// Asks both engines, and notes what they say.
+pub fn judge(trial: &mut Trial, input: &Input, place: usize, seen: &mut Seen) -> Judged {
+    let judged = compare(trial, input, place);
+    note(seen, input, judged);
+    judged
+}
+
+/// Every place of the table and the two beside it.
+pub fn judge_all(trial: &mut Trial, input: &Input, seen: &mut Seen) {
+    for place in 0..=input.listed() + 1 {
+        judge(trial, input, place, seen);
+    }
+}
+
+pub const BELOW: &str = "tick below the point";
+pub const WELL_BELOW: &str = "tick up to half the point";
+pub const PAST: &str = "tick past the frame";
+
+/// A refusal, a fail, or a pass and where it lies.
+fn note(seen: &mut Seen, input: &Input, judged: Judged) {
+    match judged {
+        Judged::Refused(answer) => seen.count(kind(answer)),
+        Judged::Fail => seen.count("fail".to_string()),
+        Judged::Pass { point, tick } => {
+            for (lies, how) in [
+                (true, "pass"),
+                (tick < point, BELOW),
+                (2 * tick <= point, WELL_BELOW),
+                (tick > input.plan.len() as u64, PAST),
+            ] {
+                if lies {
+                    seen.count(how.to_string());
+                }
+            }
+        }
+    }
+}
+
+/// A plan that serves a table of up to `count` partitions, within `longest` ticks, and no tasks.
+pub fn without_tasks(rng: &mut Rng, count: usize, longest: usize) -> Input {
+    let (plan, parts) = plans::served(rng, count, longest);
+    let tasks = Vec::new();
+    Input { plan, parts, tasks }
+}
+
+/// A plan that serves a small table, and tasks with periods up to `period`.
+pub fn served(rng: &mut Rng, tasks: usize, period: usize) -> Input {
+    let longest = rng.between(1, 24);
+    let mut input = without_tasks(rng, 3, longest);
+    input.tasks = tables::tasks(rng, tasks, input.partitions(), period);
+    input
+}
