@@ -54,16 +54,27 @@ fn some_serving(rng: &mut Rng) -> Tables {
     files::serving(rng, count, longest, tasks)
 }
 
+/// How many lines end in a tick that is below the point, as `pass 4 tick 3` does.
+fn below_the_point(text: &str) -> u64 {
+    let ends = text.lines().filter_map(|line| line.split_once(" pass "));
+    let pairs = ends.filter_map(|(_, end)| end.split_once(" tick "));
+    let numbers = pairs.map(|(point, tick)| [tick, point].map(str::parse::<u64>));
+    let below = numbers.filter(|pair| matches!(pair, [Ok(tick), Ok(point)] if tick < point));
+    below.count() as u64
+}
+
 fn serving(trial: &mut Trial) {
-    let [mut pass, mut fail] = [0, 0];
+    let [mut pass, mut fail, mut below] = [0; 3];
     for _ in trial.cases(25_000) {
         let file = some_serving(&mut trial.rng).bytes();
         let text = compare(trial, &file);
         pass += text.matches("pass").count() as u64;
         fail += text.matches("fail").count() as u64;
+        below += below_the_point(&text);
     }
     trial.share("pass", pass, [1, 25]);
     trial.share("fail", fail, [1, 25]);
+    trial.share("tick below the point", below, [1, 25]);
 }
 
 fn plans_that_may_not_serve(trial: &mut Trial) {
@@ -76,6 +87,10 @@ fn plans_that_may_not_serve(trial: &mut Trial) {
             let record = trial.rng.between(0, tables.partitions() - 1);
             let part = tables::partitions(&mut trial.rng, 1, frame);
             tables.parts[3 * record + 1..][..2].copy_from_slice(&part[1..]);
+        } else if !trial.rng.one_in(10) {
+            // Every tick up to D is tried: mostly short ones.
+            let [tasks, partitions] = [tables.tasks.len() / 4, tables.partitions()];
+            tables.tasks = tables::tasks(&mut trial.rng, tasks, partitions, 100);
         }
         let text = compare(trial, &tables.bytes());
         refused += u64::from(text == "refused 9\n");
