@@ -139,6 +139,12 @@ merkazobi_answer merkazobi_check(const uint16_t *plan, size_t ticks, const uint1
 merkazobi_answer merkazobi_verdict(const uint16_t *plan, size_t ticks, const uint16_t *parts, size_t part_numbers,
                                    const uint16_t *tasks, size_t task_numbers, size_t place);
 
+/* The same by the plain engine: "every tick t from 1 to D, no scheduling points". Lent, asked and refused as the verdict;
+   it passes, fails and refuses exactly where that does. first: the smallest tick that holds, which is never above the
+   scheduling point and may be below it, or 0 where the task fails. */
+merkazobi_answer merkazobi_plain(const uint16_t *plan, size_t ticks, const uint16_t *parts, size_t part_numbers,
+                                 const uint16_t *tasks, size_t task_numbers, size_t place);
+
 /* ---- Running counts kept beside the plan: "for each partition the count of own ticks before each tick from 0 to F, in a
    list the caller lends", partition by partition. Partition p's count before tick k stands at (p - 1) * (F + 1) + k, so
    the list has partitions * (F + 1) numbers. What stands behind them in a longer list is neither read nor written. A plan

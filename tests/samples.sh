@@ -36,7 +36,8 @@ is "no file for a refusal" "$(ls "$made/full.plan" 2>/dev/null)" ""
 # ---- as long as they may be
 
 # The largest plan file: 16 partitions by turns, a tick each, with 8 tasks of one tick each. Such a task and k - 1 higher
-# ones need k ticks, which any 16 k ticks hold; of the deadlines every second is one tick shorter, and fails.
+# ones need k ticks, which any 16 k ticks hold and some 16 k - 1 don't; of the deadlines every second is one tick
+# shorter, and fails.
 largest() {
     awk 'BEGIN {
         print 1, 4096, 16, 16, 112, 128, 1136, 4096
@@ -49,8 +50,10 @@ largest_listing() {
     awk 'BEGIN {
         print "frame 4096"
         for (i = 1; i <= 16; i++) print "partition " i " wants 1 in 16 least 1"
-        for (i = 0; i < 128; i++)
-            print "task " i + 1 " partition " 1 + i % 16 (i % 2 ? " fail" : " pass " 16 * (1 + int(i / 16)))
+        for (i = 0; i < 128; i++) {
+            t = 16 * (1 + int(i / 16))
+            print "task " i + 1 " partition " 1 + i % 16 (i % 2 ? " fail" : " pass " t " tick " t)
+        }
     }'
 }
 # Numbers of two bytes, high byte first.

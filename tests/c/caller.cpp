@@ -12,7 +12,7 @@ static const char listing[] = "frame 8\n"
                               "partition 1 wants 1 in 4 least 1\n"
                               "partition 2 wants 3 in 8 least 3\n"
                               "partition 3 wants 1 in 8 least 1\n"
-                              "task 1 partition 2 pass 8\n"
+                              "task 1 partition 2 pass 8 tick 7\n"
                               "task 2 partition 2 fail\n";
 
 int main()
@@ -23,6 +23,8 @@ int main()
     expect("accepted", merkazobi_check(plan, frame, parts, 9).number, MERKAZOBI_GOOD);
     expect("V1", merkazobi_verdict(plan, frame, parts, 9, tasks, 8, 1).first, 8);
     expect("V2", merkazobi_verdict(plan, frame, parts, 9, tasks, 8, 2).first, 0);
+    expect("V1, tick by tick", merkazobi_plain(plan, frame, parts, 9, tasks, 8, 1).first, 7);
+    expect("V2, tick by tick", merkazobi_plain(plan, frame, parts, 9, tasks, 8, 2).first, 0);
 
     static uint8_t file[MERKAZOBI_FILE_BYTES];
     static uint8_t text[MERKAZOBI_LISTING_BYTES];

@@ -17,8 +17,8 @@ static const char listing[] = "frame 8\n"
                               "partition 1 wants 1 in 4 least 1\n"
                               "partition 2 wants 3 in 8 least 3\n"
                               "partition 3 wants 1 in 8 least 1\n"
-                              "task 1 partition 2 pass 8\n"
-                              "task 2 partition 2 pass 14\n";
+                              "task 1 partition 2 pass 8 tick 7\n"
+                              "task 2 partition 2 pass 14 tick 14\n";
 
 /* Partition 2 wants 5 in 7 ticks, and from tick 3 on it has only 4: four values of which no two are equal. */
 static const uint16_t short_parts[] = {10, 1, 10, 7, 5, 7};
@@ -29,7 +29,7 @@ static const uint8_t w1[] = {0, 1, 0, 4, 0, 16, 0, 2, 0, 28, 0, 1, 0, 36, 0, 2, 
 static const char w1_listing[] = "frame 4\n"
                                  "partition 1 wants 2 in 4 least 2\n"
                                  "partition 2 wants 2 in 4 least 2\n"
-                                 "task 1 partition 1 pass 4\n";
+                                 "task 1 partition 1 pass 4 tick 3\n";
 
 /* All that is lent, with room behind. */
 typedef struct {
@@ -153,32 +153,35 @@ static void checks(void)
     ends("check, 9", check(10, 6), (merkazobi_answer){9, 2, 3, 4, 5});
 }
 
-static merkazobi_answer verdict(size_t task_numbers, size_t place)
+/* Either engine. */
+typedef merkazobi_answer engine(const uint16_t *, size_t, const uint16_t *, size_t, const uint16_t *, size_t, size_t);
+
+static merkazobi_answer judged(engine *judge, size_t task_numbers, size_t place)
 {
-    return merkazobi_verdict(lent.plan, TICKS, lent.parts, PARTS, lent.tasks, task_numbers, place);
+    return judge(lent.plan, TICKS, lent.parts, PARTS, lent.tasks, task_numbers, place);
 }
 
-static void verdicts(void)
+/* v1 and v2: where the tasks of V1 and V2 pass. */
+static void verdicts(engine *judge, size_t v1, size_t v2)
 {
     begin();
-    ends("V1", verdict(TASKS, 1), told(0, 8));
-    ends("V2", verdict(TASKS, 2), told(0, 14));
-    ends("a place behind the table", verdict(TASKS, 3), told(7, 0));
-    ends("place 0", verdict(TASKS, 0), told(7, 0));
+    ends("V1", judged(judge, TASKS, 1), told(0, v1));
+    ends("V2", judged(judge, TASKS, 2), told(0, v2));
+    ends("a place behind the table", judged(judge, TASKS, 3), told(7, 0));
+    ends("place 0", judged(judge, TASKS, 0), told(7, 0));
     SET(tasks[6], 13);
-    ends("V2, fail", verdict(TASKS, 2), told(0, 0));
-    ends("verdict, 3", verdict(TASKS - 1, 1), told(3, 0));
+    ends("V2, fail", judged(judge, TASKS, 2), told(0, 0));
+    ends("verdict, 3", judged(judge, TASKS - 1, 1), told(3, 0));
     SET(plan[6], 4);
-    ends("verdict, 8", verdict(TASKS, 1), told(8, 7));
+    ends("verdict, 8", judged(judge, TASKS, 1), told(8, 7));
     SET(tasks[5], 14);
-    ends("verdict, 7", verdict(TASKS, 1), told(7, 2));
+    ends("verdict, 7", judged(judge, TASKS, 1), told(7, 2));
     SET(parts[6], 0);
-    ends("verdict, 6", verdict(TASKS, 1), told(6, 3));
+    ends("verdict, 6", judged(judge, TASKS, 1), told(6, 3));
     begin();
     PUT(plan, short_plan);
     PUT(parts, short_parts);
-    ends("verdict, 9", merkazobi_verdict(lent.plan, 10, lent.parts, 6, lent.tasks, TASKS, 1),
-         (merkazobi_answer){9, 2, 3, 4, 5});
+    ends("verdict, 9", judge(lent.plan, 10, lent.parts, 6, lent.tasks, TASKS, 1), (merkazobi_answer){9, 2, 3, 4, 5});
 }
 
 /* ---- The plan file. */
@@ -417,7 +420,8 @@ int main(void)
     builds();
     build_refusals();
     checks();
-    verdicts();
+    verdicts(merkazobi_verdict, 8, 14);
+    verdicts(merkazobi_plain, 7, 14);
     reads();
     writes();
     write_refusals();

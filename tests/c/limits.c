@@ -53,7 +53,10 @@ static size_t built(uint16_t cycle, uint16_t num, uint16_t den)
 
 static size_t judged(uint16_t c, uint16_t d, uint16_t t)
 {
-    return merkazobi_verdict(plan, FRAME, parts, PARTS, (uint16_t[]){1, c, d, t}, 4, 1).number;
+    const uint16_t task[] = {1, c, d, t};
+    const size_t number = merkazobi_verdict(plan, FRAME, parts, PARTS, task, 4, 1).number;
+    expect("the plain engine's number", merkazobi_plain(plan, FRAME, parts, PARTS, task, 4, 1).number, number);
+    return number;
 }
 
 static size_t written(size_t frame, size_t part_numbers, size_t task_numbers, size_t run_numbers, size_t bytes)
@@ -179,6 +182,7 @@ static void nulls(void)
     expect("null table", merkazobi_build(NULL, 0, NULL, 0).number, MERKAZOBI_LIMITS);
     expect("null output", merkazobi_build(parts, 3, NULL, 0).number, MERKAZOBI_OUTPUT);
     expect("null tasks", merkazobi_verdict(plan, FRAME, parts, PARTS, NULL, 0, 1).number, MERKAZOBI_TASK);
+    expect("null tasks, plain", merkazobi_plain(plan, FRAME, parts, PARTS, NULL, 0, 1).number, MERKAZOBI_TASK);
     expect("null file", merkazobi_read(NULL, 0).number, MERKAZOBI_FILE_SHORT);
     expect("null part", merkazobi_section(NULL, 0, 0).number, MERKAZOBI_FILE_SHORT);
     expect("null listing", merkazobi_list(NULL, 0, NULL, 0).number, MERKAZOBI_OUTPUT);
@@ -220,6 +224,7 @@ enum {
     BUILD_STACK = 256,
     CHECK_STACK = 320,
     VERDICT_STACK = 576,
+    PLAIN_STACK = 640,
     COUNTS_FILL_STACK = 256,
     COUNTS_HELD_STACK = 704,
     COUNTS_HELD_MANY_STACK = 704,
@@ -286,6 +291,7 @@ static void stack(void)
     STACK(BUILD_STACK, MERKAZOBI_STACK, merkazobi_build(parts, PARTS, plan, FRAME));
     STACK(CHECK_STACK, MERKAZOBI_STACK, merkazobi_check(plan, FRAME, parts, PARTS));
     STACK(VERDICT_STACK, MERKAZOBI_STACK, merkazobi_verdict(plan, FRAME, parts, PARTS, tasks, TASKS, MERKAZOBI_TASKS));
+    STACK(PLAIN_STACK, MERKAZOBI_STACK, merkazobi_plain(plan, FRAME, parts, PARTS, tasks, TASKS, MERKAZOBI_TASKS));
     STACK(WRITE_STACK, MERKAZOBI_STACK,
           merkazobi_write(FRAME, parts, PARTS, tasks, TASKS, runs, RUNS, file, sizeof file));
     STACK(READ_STACK, MERKAZOBI_READ_STACK, merkazobi_read(file, sizeof file));

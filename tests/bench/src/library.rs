@@ -31,6 +31,15 @@ extern "C" {
         task_numbers: usize,
         place: usize,
     ) -> Answer;
+    fn merkazobi_plain(
+        plan: *const u16,
+        ticks: usize,
+        parts: *const u16,
+        part_numbers: usize,
+        tasks: *const u16,
+        task_numbers: usize,
+        place: usize,
+    ) -> Answer;
     fn merkazobi_counts_held_many(
         plan: *const u16,
         ticks: usize,
@@ -73,6 +82,20 @@ pub fn check(plan: &[u16], parts: &[u16]) -> Answer {
 pub fn verdict(plan: &[u16], parts: &[u16], tasks: &[u16], place: usize) -> Answer {
     unsafe {
         merkazobi_verdict(
+            plan.as_ptr(),
+            plan.len(),
+            parts.as_ptr(),
+            parts.len(),
+            tasks.as_ptr(),
+            tasks.len(),
+            place,
+        )
+    }
+}
+
+pub fn plain(plan: &[u16], parts: &[u16], tasks: &[u16], place: usize) -> Answer {
+    unsafe {
+        merkazobi_plain(
             plan.as_ptr(),
             plan.len(),
             parts.as_ptr(),

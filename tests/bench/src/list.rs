@@ -1,5 +1,5 @@
 //! The listing: of sixteen partitions and 128 tasks in the longest frame, and of tasks that try every
-//! tick of it.
+//! tick of it, by one engine or by both.
 
 use second::inputs::files::Tables;
 use second::inputs::{plans, tables};
@@ -27,16 +27,27 @@ fn largest() -> Vec<u8> {
     tables.bytes()
 }
 
-/// A file of 1,050 bytes: every task but the first tries every tick of the frame, and fails.
-fn every_tick() -> Vec<u8> {
-    let first = [1, 1, 1, 1];
+/// A file of 1,050 bytes: one partition has the whole frame.
+fn all_own(first: [u16; 4], second: [u16; 4]) -> Vec<u8> {
+    let others = [1, 1, 4096, 4096].repeat(126);
     let tables = Tables {
         frame: 4096,
         parts: vec![1, 1, 1],
-        tasks: [&first[..], &[1, 1, 4096, 4096].repeat(127)].concat(),
+        tasks: [&first[..], &second[..], &others[..]].concat(),
         runs: vec![1, 4096],
     };
     tables.bytes()
+}
+
+/// Every task but the first tries every tick of the frame, each a point, and fails.
+fn every_tick() -> Vec<u8> {
+    all_own([1, 1, 1, 1], [1, 1, 4096, 4096])
+}
+
+/// Every task but the first passes, and not before tick 3,800: so far the plain engine tries every
+/// tick, the other every second.
+fn late() -> Vec<u8> {
+    all_own([1, 1, 2, 2], [1, 1900, 4096, 4096])
 }
 
 fn listed(file: &[u8]) -> Result<String, Answer> {
@@ -47,7 +58,12 @@ fn listed(file: &[u8]) -> Result<String, Answer> {
 }
 
 pub fn run() {
-    for (name, file) in [("16, 128, 4096", largest()), ("every tick", every_tick())] {
+    let files = [
+        ("16, 128, 4096", largest()),
+        ("every tick", every_tick()),
+        ("late", late()),
+    ];
+    for (name, file) in files {
         let library = || listed(&file);
         line(&format!("list {name}"), library, || {
             Ok(listing::text(&file))

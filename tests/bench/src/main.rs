@@ -1,6 +1,7 @@
 //! Times the library's entries beside the second program's:
-//! `NAME  library ns/call  second ns/call  ratio`, one line each; where the name ends in `walk`, the
-//! library's own method in Rust stands in the second program's place, of `counts` what it says.
+//! `NAME  library ns/call  second ns/call  ratio`, one line each. Where the name ends in `walk`, the
+//! library's own method in Rust stands in the second program's place; where it ends in `points`, the
+//! library's other engine; of `counts` what it says.
 //! The entries are named as arguments; all, where none is named.
 
 mod build;

@@ -1,5 +1,6 @@
-//! The verdict: a failing task of deadline 4,096, so that every scheduling point is tried; of the
-//! last one every tick is a point.
+//! The verdict, by both engines: a failing task of deadline 4,096, so that every scheduling point, and
+//! by the plain engine every tick, is tried; of the last one every tick is a point. The lines that
+//! end in `points` have the library's other engine in the second program's place.
 
 use second::verdict;
 
@@ -33,5 +34,13 @@ pub fn run() {
         line(&format!("verdict {name}, walk"), library, || {
             walk::verdict(&plan, &parts, tasks, 4)
         });
+        let plain = || library::plain(&plan, &parts, tasks, 4);
+        line(&format!("plain {name}"), plain, || {
+            verdict::plain(&plan, &parts, tasks, 4)
+        });
+        line(&format!("plain {name}, walk"), plain, || {
+            walk::plain(&plan, &parts, tasks, 4)
+        });
+        line(&format!("plain {name}, points"), plain, library);
     }
 }

@@ -63,31 +63,54 @@ pub fn check(plan: &[u16], parts: &[u16]) -> Answer {
     served.map_or_else(|refusal| refusal, |()| Answer::good([0; 4]))
 }
 
-/// The smallest scheduling point that holds, or 0.
-fn point(plan: &[u16], tasks: &[Task], place: usize) -> u64 {
+/// The higher tasks of the same partition.
+fn rivals(tasks: &[Task], place: usize) -> impl Iterator<Item = &Task> {
+    let partition = tasks[place - 1].partition;
+    let higher = tasks[..place - 1].iter();
+    higher.filter(move |rival| rival.partition == partition)
+}
+
+/// The smallest t up to D that is tried and holds, or 0.
+fn earliest(plan: &[u16], tasks: &[Task], place: usize, tried: impl Fn(u64) -> bool) -> u64 {
     let task = &tasks[place - 1];
-    let rivals = || {
-        let higher = tasks[..place - 1].iter();
-        higher.filter(|rival| rival.partition == task.partition)
-    };
-    let is_point = |t: u64| t == task.d || rivals().any(|rival| t % rival.t == 0);
     let asked = |t: u64| {
-        rivals()
+        rivals(tasks, place)
             .map(|rival| rival.c * t.div_ceil(rival.t))
             .sum::<u64>()
     };
-    let holds =
-        |&t: &u64| is_point(t) && task.c + asked(t) <= least(plan, task.partition, t as usize);
+    let holds = |&t: &u64| tried(t) && task.c + asked(t) <= least(plan, task.partition, t as usize);
     (1..=task.d).find(holds).unwrap_or(0)
 }
 
-pub fn verdict(plan: &[u16], parts: &[u16], tasks: &[u16], place: usize) -> Answer {
+/// The smallest scheduling point that holds, or 0.
+fn point(plan: &[u16], tasks: &[Task], place: usize) -> u64 {
+    let d = tasks[place - 1].d;
+    let multiple = |t: u64| rivals(tasks, place).any(|rival| t % rival.t == 0);
+    earliest(plan, tasks, place, |t| t == d || multiple(t))
+}
+
+/// The smallest tick that holds, or 0.
+fn tick(plan: &[u16], tasks: &[Task], place: usize) -> u64 {
+    earliest(plan, tasks, place, |_| true)
+}
+
+type Engine = fn(&[u16], &[Task], usize) -> u64;
+
+fn judged(plan: &[u16], parts: &[u16], tasks: &[u16], place: usize, engine: Engine) -> Answer {
     let served = check(plan, parts);
     match records::tasks(tasks) {
-        Ok(tasks) if served.number == 0 => Answer::good([point(plan, &tasks, place), 0, 0, 0]),
+        Ok(tasks) if served.number == 0 => Answer::good([engine(plan, &tasks, place), 0, 0, 0]),
         Ok(_) => served,
         Err(refusal) => refusal,
     }
+}
+
+pub fn verdict(plan: &[u16], parts: &[u16], tasks: &[u16], place: usize) -> Answer {
+    judged(plan, parts, tasks, place, point)
+}
+
+pub fn plain(plan: &[u16], parts: &[u16], tasks: &[u16], place: usize) -> Answer {
+    judged(plan, parts, tasks, place, tick)
 }
 
 pub fn list(bytes: &[u8]) -> Result<String, Answer> {
@@ -103,7 +126,7 @@ pub fn list(bytes: &[u8]) -> Result<String, Answer> {
     for (task, place) in file.tasks.iter().zip(1..) {
         let end = match point(&plan, &file.tasks, place) {
             0 => String::from("fail"),
-            point => format!("pass {point}"),
+            point => format!("pass {point} tick {}", tick(&plan, &file.tasks, place)),
         };
         text += &format!("task {place} partition {} {end}\n", task.partition);
     }
