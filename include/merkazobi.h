@@ -13,10 +13,11 @@
    Cost: `merkazobi_read` and `merkazobi_section` take up to MERKAZOBI_READ_STACK bytes of stack, `merkazobi_list` up
    to MERKAZOBI_LIST_STACK, every other call up to MERKAZOBI_STACK. At the limits a build, check, read or write takes
    under a millisecond; a call over running counts walks plan, list (65,552 numbers at most) and questions;
-   merkazobi_held walks at most a frame, merkazobi_least two. A verdict walks as much for each scheduling point: some ten
-   to twenty microseconds in a frame of 4,096, and of D 4,096 nearly every tick may be a point. A listing judges every
-   task: with 128 such tasks it takes some seconds. (What is said of check, verdict and listing is reckoned from counted
-   instructions, not timed.) A call of the desk goes through its 64 places a few times:
+   merkazobi_held walks at most a frame, merkazobi_least two. A verdict walks as much for each scheduling point, the plain
+   engine for each tick up to the one that holds: some ten to twenty microseconds in a frame of 4,096, where D may be
+   4,096 and nearly every tick a point. A listing judges every task, and those that pass by both engines: with 128 such
+   tasks it takes some seconds, up to twice as many where they pass late. (What is said of check, verdict and listing is
+   reckoned from counted instructions, not timed.) A call of the desk goes through its 64 places a few times:
    microseconds, whatever is asked. */
 #ifndef MERKAZOBI_H
 #define MERKAZOBI_H

@@ -9,8 +9,8 @@ named() {
     is "$1 in docs/PROMISES.md" "$(grep -c -m 1 -F -e "$2" docs/PROMISES.md)" 1
 }
 
-# statements: types without parameters
-for name in $(sed -n 's/^abbrev pub \([A-Z][A-Za-z]*\) : Type 0$/\1/p' crates/*/specs/Theorems.antt crates/theory/specs/Generality.antt); do
+# statements: types without parameters of their own
+for name in $(sed -n 's/^ *abbrev pub \([A-Z][A-Za-z]*\) : Type 0$/\1/p' crates/*/specs/Theorems.antt crates/theory/specs/Generality.antt); do
     named "$name" "\`$name\`"
 done
 for name in $(sed -n 's/^pub record \([A-Z][A-Za-z0-9]*\).*/\1/p' crates/demands/specs/Demands.antt | grep -v '^Demands$'); do
