@@ -39,7 +39,7 @@ use Rattle.rules.specs.Walk.{listed}
 use Rattle.counts.specs.Counts.{runningCounts, FillsCounts, HoldsOne, toldHolding, answerAt, questions, HoldsMany}
 use Rattle.counts.proofs.Changes as counts
 use Rattle.task_verdict.specs.Verdict.{Judges, JudgesPlainly, toldJudged}
-use Rattle.task_verdict.proofs.Answers as verdict
+use Rattle.task_verdict.proofs.Engines as verdict
 use Rattle.file_tables.proofs.Chain.{file-holds}
 use Rattle.file_read.specs.declared.Reading.{Reading}
 use Rattle.file_read.specs.declared.Reading.the-variants as reading

@@ -27,10 +27,11 @@ use Rattle.share_plan.specs.Answer.{planFile, writeBuiltOf, writePlanOf, fileOr
 use Rattle.file_listing.specs.Listing.{tablesLines, listingOf, listOf}
 use Rattle.desk.specs.Table.{openOf}
 use Rattle.desk.specs.Request.{requestOf}
-use Rattle.demands.specs.EachRefusal.{EachPlan, EachCount, EachFile, EachText, EachDesk, EachLimit, EachRefusal}
+use Rattle.api.specs.Answers.{TellsVerdict, TellsPlain}
+use Rattle.demands.specs.EachRefusal.{EachPlan, EachVerdict, EachCount, EachFile, EachText, EachDesk, EachLimit, EachRefusal}
 
 plans : EachPlan
-unfolding only fails first sum count smallest largest walk gathered roundUp wants countedIn withinLimits tablesOf goodShare goodTimes owner owned least pairs frame allWanted sooner rank give turn planned listed shortAt scanOf planCheckOf checkOf unharmonic laidOf buildOf placeOf answerableOf verdictBy
+unfolding only fails first sum count smallest largest walk gathered roundUp wants countedIn withinLimits tablesOf goodShare owner owned least pairs frame allWanted sooner rank give turn planned listed shortAt scanOf planCheckOf checkOf unharmonic laidOf buildOf
 plans = record {
   check-3 = (_, refl, refl);
   check-6 = (_, refl, refl);
@@ -41,6 +42,24 @@ plans = record {
   build-10 = (_, (refl, refl), refl);
   build-11 = (_, (refl, refl), refl);
   build-12 = (_, (refl, refl), refl);
+}
+
+verdicts : EachVerdict TellsVerdict
+unfolding only fails first sum count smallest largest walk gathered roundUp wants countedIn withinLimits tablesOf goodShare goodTimes owner owned least shortAt scanOf planCheckOf checkOf placeOf answerableOf verdictBy
+verdicts = record {
+  verdict-3 = (_, refl, refl);
+  verdict-6 = (_, refl, refl);
+  verdict-7 = (_, refl, refl);
+  verdict-7-first = (_, refl, refl);
+  verdict-7-0 = (_, refl, refl);
+  verdict-7-past = (_, refl, refl);
+  verdict-8 = (_, refl, refl);
+  verdict-9 = (_, refl, refl);
+}
+
+plain-verdicts : EachVerdict TellsPlain
+unfolding only fails first sum count smallest largest walk gathered roundUp wants countedIn withinLimits tablesOf goodShare goodTimes owner owned least shortAt scanOf planCheckOf checkOf placeOf answerableOf verdictBy
+plain-verdicts = record {
   verdict-3 = (_, refl, refl);
   verdict-6 = (_, refl, refl);
   verdict-7 = (_, refl, refl);
@@ -191,4 +210,4 @@ limits = record {
 }
 
 pub each-refusal : EachRefusal
-each-refusal = record { plans = plans; counts = counts; files = files; texts = texts; desks = desks; limits = limits }
+each-refusal = record { plans = plans; verdicts = verdicts; plain-verdicts = plain-verdicts; counts = counts; files = files; texts = texts; desks = desks; limits = limits }

@@ -1,7 +1,6 @@
 -- The demands of the checker's and both engines' entries, from what is told to the rule's answer. Assumes nothing.
 use Prim.Native.Nat.{ℕ, _-_, _≤_}
 use mathlib.Core.Path.{_≡_, refl}
-use mathlib.Core.Logic.{_↔_}
 use mathlib.Core.Bool.{Bool, true, false, _&&_}
 use mathlib.Core.List.{List, [], _∷_}
 use native.Mathlib.Omega.{arith}
@@ -26,9 +25,9 @@ use Rattle.task_verdict.specs.declared.Judged.{Judged}
 use Rattle.task_verdict.specs.declared.Judged.the-variants as judged
 use Rattle.task_verdict.specs.Verdict.{placeOf, answerableOf, passAt, verdictBy, verdictOf, plainOf, toldJudged}
 use Rattle.task_verdict.specs.Theorems as verdict
-use Rattle.task_verdict.proofs.Answers.{proved}
+use Rattle.task_verdict.proofs.Engines.{proved}
 use Rattle.api.specs.Answers.{TellsCheck, TellsVerdict, TellsPlain}
-use Rattle.demands.specs.Demands.{Numbered, Refused, EndsInTime, EndsInTimeForEver}
+use Rattle.demands.specs.Demands.{Numbered, ToldAlike, EndsInTime, EndsInTimeForEver}
 
 -- ---- the numbers, whatever the tests give: one case for each answer
 
@@ -97,10 +96,6 @@ module _ (engine : List ℕ → List ℕ → ℕ → ℕ) where
         well .ends-in-time-for-ever plan ps ts place (u .first) (accepted-is plan ps t p e) (passed-is plan ps ts place u q f h)
 
 -- ---- of both
-
--- what is told of two answers that are alike but for the tick
-abbrev ToldAlike : Told → Told → Type 0
-ToldAlike t u = (u .number ≡ t .number) × (Refused t → u ≡ t) × ((1 ≤ u .first) ↔ (1 ≤ t .first)) × (u .first ≤ t .first)
 
 told-same : (t : Told) → ToldAlike t t
 told-same t = (refl, λ n. refl, (λ h. h, λ h. h), omega arith)

@@ -142,6 +142,10 @@ pub record OneOutcome : Type 0 where
       (k k₁ k₂ : Desk) (l l₁ l₂ : List Job) (time c d : ℕ) (t t′ : Told) → TellsRequest k l time c d k₁ l₁ t → TellsRequest k l time c d k₂ l₂ t′
       → (t ≡ t′) × (k₁ ≡ k₂) × (l₁ ≡ l₂)
 
+-- of the verdict's t and the plain engine's u: refused alike, in all values; else both pass, with u's tick never above t's point, or both fail
+abbrev pub ToldAlike : Told → Told → Type 0
+ToldAlike t u = (u .number ≡ t .number) × (Refused t → u ≡ t) × ((1 ≤ u .first) ↔ (1 ≤ t .first)) × (u .first ≤ t .first)
+
 -- each flexibility in the table is the rule's own, worked out from nothing
 abbrev pub Afresh : Desk → List Job → Type 0
 Afresh k l = flexes (take (k .count) l) ≡ take (k .count) l
@@ -181,7 +185,7 @@ pub record Demand2 : Type 0 where
   -- document 02, ask 4: "both give pass or fail alike for every plan and task table", and refuse alike; the tick is never above the point
   pub engines-alike :
       (plan ps ts : List ℕ) (place : ℕ) (t u : Told) → TellsVerdict plan ps ts place t → TellsPlain plan ps ts place u
-      → (u .number ≡ t .number) × (Refused t → u ≡ t) × ((1 ≤ u .first) ↔ (1 ≤ t .first)) × (u .first ≤ t .first)
+      → ToldAlike t u
   pub open-afresh : (k k′ : Desk) (l l′ : List Job) (t : Told) → TellsOpen k l k′ l′ t → ¬ (t .number ≡ 13) → Afresh k′ l′
   pub request-afresh :
       (k k′ : Desk) (l l′ : List Job) (time c d : ℕ) (t : Told) → TellsRequest k l time c d k′ l′ t → ¬ (t .number ≡ 13) → Afresh k′ l′

@@ -1,4 +1,5 @@
--- The worked examples of document 01, D6 and W1's last line as document 02 has them, under one statement: each is what its entry tells and leaves. Assumes nothing.
+-- The worked examples of document 01, D6 and W1's last line as document 02 has them, and V1 and V2 by the plain engine too, under one statement: each is what its
+-- entry tells and leaves. Assumes nothing.
 use Prim.Native.Nat.{ℕ}
 use mathlib.Core.Path.{_≡_}
 use mathlib.Core.List.{List, [], _∷_, _++_}

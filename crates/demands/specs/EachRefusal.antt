@@ -4,11 +4,12 @@ use Prim.Native.Nat.{ℕ, zero, suc, _+_}
 use mathlib.Core.List.{List, [], _∷_, _++_}
 use lib.ListN.{take, drop, replicate}
 use Rattle.rules.specs.Refusals.{placed, questioned, telling}
+use Rattle.rules.specs.declared.Told.{Told}
 use Rattle.output.specs.Text.{bytes}
 use Rattle.share_plan.specs.Answer.{Plans}
 use Rattle.desk.specs.declared.Job.{Job}
 use Rattle.desk.specs.Table.{job, filled, flexes}
-use Rattle.api.specs.Answers.{TellsCheck, TellsBuild, TellsFill, TellsHeld, TellsMany, TellsChange, TellsVerdict, TellsRead, TellsSection, TellsWrite, TellsList, TellsOpen, TellsRequest}
+use Rattle.api.specs.Answers.{TellsCheck, TellsBuild, TellsFill, TellsHeld, TellsMany, TellsChange, TellsVerdict, TellsPlain, TellsRead, TellsSection, TellsWrite, TellsList, TellsOpen, TellsRequest}
 use Rattle.demands.specs.Document01.{three, eight, plan1, plan5, two, desk, opened, file, page}
 
 -- a partition of cycle 4 that wants 2, and one like it with share 0
@@ -42,7 +43,7 @@ file-room = replicate 44 7
 abbrev pub line : List ℕ
 line = replicate 10 7
 
--- the checker's, the builder's and the verdict's
+-- the checker's and the builder's
 pub record EachPlan : Type 0 where
   pub check-3 : TellsCheck [] half (placed 3 0)
   pub check-6 : TellsCheck plan5 (half ++ nothing) (placed 6 2)
@@ -53,15 +54,18 @@ pub record EachPlan : Type 0 where
   pub build-10 : TellsBuild (half ++ (10 ∷ 1 ∷ 2 ∷ [])) eight eight (placed 10 0)
   pub build-11 : TellsBuild (1 ∷ 1 ∷ 1 ∷ 1 ∷ 1 ∷ 1 ∷ []) eight eight (placed 11 0)
   pub build-12 : TellsBuild (three 1 100) (take 7 eight) (take 7 eight) (placed 12 0)
-  pub verdict-3 : TellsVerdict [] (three 1 100) (two 14) 1 (placed 3 0)
-  pub verdict-6 : TellsVerdict plan1 (three 0 100) (two 14) 1 (placed 6 3)
-  pub verdict-7 : TellsVerdict plan1 (three 1 100) (two 33) 1 (placed 7 2)
+
+-- the verdict's, by either engine: `tells` is what its entry tells
+pub record EachVerdict (tells : List ℕ → List ℕ → List ℕ → ℕ → Told → Type 0) : Type 0 where
+  pub verdict-3 : tells [] (three 1 100) (two 14) 1 (placed 3 0)
+  pub verdict-6 : tells plan1 (three 0 100) (two 14) 1 (placed 6 3)
+  pub verdict-7 : tells plan1 (three 1 100) (two 33) 1 (placed 7 2)
   -- a place outside the table comes after a bad record, and before 8
-  pub verdict-7-first : TellsVerdict plan1 (three 1 100) (two 33) 3 (placed 7 2)
-  pub verdict-7-0 : TellsVerdict plan1 (three 1 100) (two 14) 0 (placed 7 0)
-  pub verdict-7-past : TellsVerdict (4 ∷ drop 1 plan1) (three 1 100) (two 14) 3 (placed 7 0)
-  pub verdict-8 : TellsVerdict (4 ∷ drop 1 plan1) (three 1 100) (two 14) 1 (placed 8 1)
-  pub verdict-9 : TellsVerdict plan1 (three 1 2) (two 14) 1 (telling 9 3 0 1 4)
+  pub verdict-7-first : tells plan1 (three 1 100) (two 33) 3 (placed 7 2)
+  pub verdict-7-0 : tells plan1 (three 1 100) (two 14) 0 (placed 7 0)
+  pub verdict-7-past : tells (4 ∷ drop 1 plan1) (three 1 100) (two 14) 3 (placed 7 0)
+  pub verdict-8 : tells (4 ∷ drop 1 plan1) (three 1 100) (two 14) 1 (placed 8 1)
+  pub verdict-9 : tells plan1 (three 1 2) (two 14) 1 (telling 9 3 0 1 4)
 
 -- a plan of two partitions that doesn't serve them, its running counts with one number behind them, and the same with the last count off by one
 abbrev pub unserved : List ℕ
@@ -166,7 +170,7 @@ pub record EachFile : Type 0 where
   pub list-7 : TellsList (file-with 31 0) line (bytes "refused 7\n") (placed 0 10)
   pub list-8 : TellsList (file-with 41 3) line (bytes "refused 8\n") (placed 0 10)
   pub list-9 : TellsList unfair line (bytes "refused 9\n") (placed 0 10)
-  pub list-12 : TellsList file (take 99 page) (take 99 page) (placed 12 0)
+  pub list-12 : TellsList file (take 106 page) (take 106 page) (placed 12 0)
 
 -- the planner's, as the line that it writes
 pub record EachText : Type 0 where
@@ -243,6 +247,8 @@ pub record EachLimit : Type 0 where
 
 pub record EachRefusal : Type 0 where
   pub plans : EachPlan
+  pub verdicts : EachVerdict TellsVerdict
+  pub plain-verdicts : EachVerdict TellsPlain
   pub counts : EachCount
   pub files : EachFile
   pub texts : EachText

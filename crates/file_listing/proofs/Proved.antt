@@ -1,7 +1,7 @@
 -- Every promise of specs/Theorems.antt, proved. Assumes nothing.
 use Prim.Native.Nat.{ℕ, _+_, _-_, _<_}
 use mathlib.Core.Path.{_≡_, refl, sym, ap, _∙_}
-use mathlib.Core.Logic.{_⊎_, inl, inr}
+use mathlib.Core.Logic.{inl, inr}
 use mathlib.Core.Bool.{Bool, true, false}
 use mathlib.Core.List.{List}
 use native.Mathlib.Omega.{arith}
@@ -9,7 +9,7 @@ use lib.ListN.{take}
 use lib.Seq.{take-all}
 use lib.Dec.{ltb, leb}
 use borrow.Author.Tests.{leb-true, leb-false}
-use Rattle.rules.specs.Table.{partitions, partition, deadline}
+use Rattle.rules.specs.Table.{partitions, deadline}
 use Rattle.rules.specs.Refusals.{told}
 use Rattle.rules.specs.declared.Refusal.{Refusal}
 use Rattle.rules.proofs.Tests.{pick-first}
@@ -17,15 +17,13 @@ use Rattle.rules.specs.declared.Finding.the-variants as found
 use Rattle.theory.specs.Plan.{own}
 use Rattle.theory.specs.Task.{taskLoad, taskPoint, taskTick}
 use Rattle.theory.specs.Contracts.{leastFor}
-use Rattle.theory.proofs.Points.{tick-below-point}
+use Rattle.theory.proofs.Points.{tick-at-most-point}
 use Rattle.plan_check.specs.Check.{checkOf, scanOf}
 use Rattle.plan_check.proofs.Orders.{shortPart, shortStart, shortfall}
 use Rattle.task_verdict.specs.Theorems.{Answered}
-use Rattle.task_verdict.specs.declared.Judged.the-variants.{Pass, Fail}
-use Rattle.task_verdict.specs.Verdict.{passAt, verdictBy, verdictOf, plainOf}
+use Rattle.task_verdict.specs.Verdict.{passAt, verdictBy}
 use Rattle.task_verdict.proofs.Orders.{is-pass, is-fail, answer}
-use Rattle.task_verdict.proofs.Answers as verdicts
-use Rattle.file_lines.specs.Lines.{passLine, failLine}
+use Rattle.task_verdict.proofs.Engines as verdicts
 use Rattle.file_page.specs.Page.{taskLine}
 use Rattle.file_read.specs.declared.Reading.{Reading}
 use Rattle.file_read.specs.declared.Reading.the-variants.{Contents, Refused}
@@ -34,7 +32,7 @@ use Rattle.file_read.specs.Reader.{readOf, tableOf}
 use Rattle.file_read.proofs.Reader.{accepted, contents-short}
 use Rattle.file_read.proofs.Proved as reader
 use Rattle.file_listing.specs.Listing.{readLines, listingOf}
-use Rattle.file_listing.specs.Theorems.{planIn, ListingFirst, Proved}
+use Rattle.file_listing.specs.Theorems.{planIn, LineOfBoth, ListingFirst, Proved}
 use Rattle.file_listing.proofs.Tables.{fit, scanned}
 
 listed-verdict : (b : List ℕ) (frame np nt nr : ℕ) → readOf b ≡ Contents frame np nt nr → (j : ℕ) → checkOf (planIn b) (tableOf b Partitions) ≡ found.Good → j < nt
@@ -51,18 +49,14 @@ module _ (plan ps ts : List ℕ) (j : ℕ) (a : Answered plan ps ts (j + 1)) whe
   said : (engine : List ℕ → List ℕ → ℕ → ℕ) → verdictBy engine plan ps ts (j + 1) ≡ passAt (deadline ts j) (engine plan ts j)
   said engine = let z : j + 1 - 1 ≡ j = omega arith in rw z at (answer plan ps ts (j + 1) engine a)
 
-  listed-line :
-      ((t : ℕ) × (u : ℕ) × (verdictOf plan ps ts (j + 1) ≡ Pass t) × (plainOf plan ps ts (j + 1) ≡ Pass u) × (taskLine plan ts j ≡ passLine (j + 1) (partition ts j) t u))
-      ⊎ ((verdictOf plan ps ts (j + 1) ≡ Fail) × (plainOf plan ps ts (j + 1) ≡ Fail) × (taskLine plan ts j ≡ failLine (j + 1) (partition ts j)))
+  listed-line : LineOfBoth plan ps ts j
   unfolding taskLine
   listed-line = at (leb (taskPoint own plan ts j) (deadline ts j)) refl
     where
-      at : (b : Bool) → leb (taskPoint own plan ts j) (deadline ts j) ≡ b
-          → ((t : ℕ) × (u : ℕ) × (verdictOf plan ps ts (j + 1) ≡ Pass t) × (plainOf plan ps ts (j + 1) ≡ Pass u) × (taskLine plan ts j ≡ passLine (j + 1) (partition ts j) t u))
-          ⊎ ((verdictOf plan ps ts (j + 1) ≡ Fail) × (plainOf plan ps ts (j + 1) ≡ Fail) × (taskLine plan ts j ≡ failLine (j + 1) (partition ts j)))
+      at : (b : Bool) → leb (taskPoint own plan ts j) (deadline ts j) ≡ b → LineOfBoth plan ps ts j
       at true e =
           let h = leb-true (taskPoint own plan ts j) (deadline ts j) e in
-          let g = tick-below-point (taskLoad ts) (leastFor own plan ts j) j in
+          let g = tick-at-most-point (taskLoad ts) (leastFor own plan ts j) j in
           inl (
             taskPoint own plan ts j,
             taskTick own plan ts j,

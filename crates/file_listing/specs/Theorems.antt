@@ -32,16 +32,18 @@ ListingCounts =
     (b : List ℕ) (frame np nt nr : ℕ) → readOf b ≡ Contents frame np nt nr
     → (length (planIn b) ≡ frame) × (partitions (tableOf b Partitions) ≡ np) × (tasks (tableOf b Tasks) ≡ nt)
 
--- in a file whose plan serves, each task's line is that of both engines' answers: they pass at the point and the tick that it says, or both fail
+-- the line of the task at place j from 0 is that of both engines' answers: they pass at the point and the tick that it says, or both fail
+abbrev pub LineOfBoth : List ℕ → List ℕ → List ℕ → ℕ → Type 0
+LineOfBoth plan ps ts j =
+    ((t : ℕ) × (u : ℕ) × (verdictOf plan ps ts (j + 1) ≡ judged.Pass t) × (plainOf plan ps ts (j + 1) ≡ judged.Pass u)
+    × (taskLine plan ts j ≡ passLine (j + 1) (partition ts j) t u))
+    ⊎ ((verdictOf plan ps ts (j + 1) ≡ judged.Fail) × (plainOf plan ps ts (j + 1) ≡ judged.Fail) × (taskLine plan ts j ≡ failLine (j + 1) (partition ts j)))
+
+-- in a file whose plan serves every task's line is so
 abbrev pub ListingVerdicts : Type 0
 ListingVerdicts =
     (b : List ℕ) (frame np nt nr j : ℕ) → readOf b ≡ Contents frame np nt nr → checkOf (planIn b) (tableOf b Partitions) ≡ found.Good → j < nt
-    → ((t : ℕ) × (u : ℕ) × (verdictOf (planIn b) (tableOf b Partitions) (tableOf b Tasks) (j + 1) ≡ judged.Pass t)
-    × (plainOf (planIn b) (tableOf b Partitions) (tableOf b Tasks) (j + 1) ≡ judged.Pass u)
-    × (taskLine (planIn b) (tableOf b Tasks) j ≡ passLine (j + 1) (partition (tableOf b Tasks) j) t u))
-    ⊎ ((verdictOf (planIn b) (tableOf b Partitions) (tableOf b Tasks) (j + 1) ≡ judged.Fail)
-    × (plainOf (planIn b) (tableOf b Partitions) (tableOf b Tasks) (j + 1) ≡ judged.Fail)
-    × (taskLine (planIn b) (tableOf b Tasks) j ≡ failLine (j + 1) (partition (tableOf b Tasks) j)))
+    → LineOfBoth (planIn b) (tableOf b Partitions) (tableOf b Tasks) j
 
 -- after a good read only 9 can follow
 abbrev pub OnlyNine : Type 0

@@ -12,7 +12,7 @@ use Rattle.file_lines.specs.Lines.{frameLine, partitionLine, passLine, failLine
 unfoldable pub partLine : List ℕ → List ℕ → ℕ → List ℕ
 partLine plan ps k = partitionLine (k + 1) (wanted ps k) (cycle ps k) (least own plan (k + 1) (cycle ps k))
 
--- "A pass reports the smallest scheduling point that holds", and its tick; "A failing task ends in `fail`."
+-- "A pass reports the smallest scheduling point that holds", and by ask 4 "the smallest tick that holds"; "A failing task ends in `fail`."
 unfoldable pub taskLine : List ℕ → List ℕ → ℕ → List ℕ
 taskLine plan ts j =
     pick (leb (taskPoint own plan ts j) (deadline ts j))

@@ -12,18 +12,16 @@ use Rattle.theory.specs.Plan.{own}
 use Rattle.theory.specs.Load.{demand, holds}
 use Rattle.theory.specs.Task.{taskLoad}
 use Rattle.theory.specs.Contracts.{leastFor}
+use Rattle.theory.proofs.Search.{test}
 
 module _ (plan ts : List ℕ) (i : ℕ) where
-  abbrev test : ℕ → Bool
-  test = holds (leb 1) (taskLoad ts) (leastFor own plan ts i) i
-
-  pub tick-holds : (t : ℕ) (b : Bool) → 1 ≤ t → leb (demand (taskLoad ts) i t) (leastFor own plan ts i t) ≡ b → test t ≡ b
+  pub tick-holds : (t : ℕ) (b : Bool) → 1 ≤ t → leb (demand (taskLoad ts) i t) (leastFor own plan ts i t) ≡ b → test (leb 1) plan ts i t ≡ b
   unfolding holds
   tick-holds t b l e = rw (le-leb 1 t l) e
 
-  no-tick-0 : test 0 ≡ false
+  no-tick-0 : test (leb 1) plan ts i 0 ≡ false
   unfolding holds
   no-tick-0 = rw (lt-leb 1 0 (omega arith))
 
-  pub from-1 : first test 1 ≡ 1
-  from-1 = first-more test 0 (first-zero test) no-tick-0
+  pub from-1 : first (test (leb 1) plan ts i) 1 ≡ 1
+  from-1 = first-more _ 0 (first-zero _) no-tick-0

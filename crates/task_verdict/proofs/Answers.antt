@@ -1,4 +1,4 @@
--- What the answers of both engines mean, and that they are alike. Assumes nothing.
+-- What the answers of an engine mean, whichever it is. Assumes nothing.
 use Prim.Native.Nat.{ℕ, _+_, _-_, _≤_, _<_}
 use mathlib.Core.Path.{_≡_, refl, sym, ap, _∙_}
 use mathlib.Core.Logic.{_↔_}
@@ -19,9 +19,8 @@ use Rattle.rules.proofs.Known.{named, by-told}
 use Rattle.tables.proofs.Chain.{unless-given, unless-good}
 use Rattle.rules.proofs.Tests.{pick-first, pick-second}
 use Rattle.theory.specs.Plan.{own}
-use Rattle.theory.specs.Task.{taskLoad, TaskPasses, taskPoint, taskTick}
-use Rattle.theory.proofs.Points.{point-smallest, tick-smallest, tick-below-point}
-use Rattle.theory.proofs.Tasks.{task-last, points-enough, ticks-exactly, run-theorem, endless-theorem}
+use Rattle.theory.specs.Task.{TaskPasses}
+use Rattle.theory.proofs.Tasks.{run-theorem, endless-theorem}
 use Rattle.rules.specs.declared.Finding.{Finding}
 use Rattle.rules.specs.declared.Finding.the-variants as found
 use Rattle.plan_check.specs.Check.{scanOf, planCheckOf}
@@ -30,15 +29,14 @@ use Rattle.plan_check.proofs.Orders.{shortPart}
 use Rattle.tables.specs.Contracts.{firstBadTick}
 use Rattle.task_verdict.specs.declared.Judged.{Judged}
 use Rattle.task_verdict.specs.declared.Judged.the-variants.{Pass, Fail, Refused}
-use Rattle.task_verdict.specs.Verdict.{placeOf, answerableOf, passAt, verdictBy, plainOf, toldJudged}
-use Rattle.task_verdict.specs.Theorems.{Answered, AnsweredExactly, OutsideTable, PassExactly, FailExactly, EndsInTime, EndsInTimeForEver, Engine, PassPoint, SmallestTick, PassTick, withoutTick, EnginesAlike, TickAtMostPoint, Proved}
+use Rattle.task_verdict.specs.Verdict.{placeOf, answerableOf, passAt, verdictBy, toldJudged}
+use Rattle.task_verdict.specs.Theorems.{Answered, AnsweredExactly, OutsideTable, PassExactly, FailExactly, EndsInTime, EndsInTimeForEver, Engine}
 use Rattle.task_verdict.proofs.Orders.{is-pass, is-fail, answerable, judged-refused, answer}
-use Rattle.theory.specs.Contracts.{leastFor}
 
 -- ---- a pass at t, unless that is past d
 
 module _ (d t : ℕ) where
-  pass-at : (u : ℕ) → passAt d t ≡ Pass u → (u ≡ t) × (t ≤ d)
+  pub pass-at : (u : ℕ) → passAt d t ≡ Pass u → (u ≡ t) × (t ≤ d)
   unfolding passAt
   pass-at u e =
       let a = pick-first (leb t d) (Pass t) Fail (Pass u) (λ q. let z : _≡_ {A = ℕ} 0 1 = cc in absurd (omega arith)) e in
@@ -60,10 +58,10 @@ module _ (d t : ℕ) where
       at false e = let z : _≡_ {A = ℕ} 0 1 = cc in absurd (omega arith)
 
 -- no refusal
-abbrev Given : Judged → Type 0
+abbrev pub Given : Judged → Type 0
 Given z = (r : Refusal) → ¬ (_≡_ {A = Judged} (Refused r) z)
 
-pass-given : (t : ℕ) → Given (Pass t)
+pub pass-given : (t : ℕ) → Given (Pass t)
 pass-given t r e = let z : _≡_ {A = ℕ} 0 1 = cc in absurd (omega arith)
 
 fail-given : Given Fail
@@ -111,7 +109,7 @@ module _ (plan ps ts : List ℕ) (place : ℕ) where
 
 -- ---- of an engine whose t is at most D exactly where the task passes
 
-abbrev Enough : (List ℕ → List ℕ → ℕ → ℕ) → Type 0
+abbrev pub Enough : (List ℕ → List ℕ → ℕ → ℕ) → Type 0
 Enough engine =
     (plan ts : List ℕ) (parts : ℕ) → Every (goodTask parts ts) (tasks ts) → (i : ℕ) → i < tasks ts
     → TaskPasses own plan ts i ↔ (engine plan ts i ≤ deadline ts i)
@@ -128,7 +126,7 @@ module _ (engine : List ℕ → List ℕ → ℕ → ℕ) (enough : Enough engin
     t = engine plan ts (place - 1)
 
     -- what a verdict that is given says of the input
-    given : (z : Judged) → Given z → judge plan ps ts place ≡ z → Answered plan ps ts place × (passAt d t ≡ z)
+    pub given : (z : Judged) → Given z → judge plan ps ts place ≡ z → Answered plan ps ts place × (passAt d t ≡ z)
     unfolding verdictBy
     given z g e = let s = after-given (answerableOf plan ps ts place) (passAt d t) z g e in (answerable plan ps ts place (s .0), s .1)
 
@@ -140,13 +138,13 @@ module _ (engine : List ℕ → List ℕ → ℕ → ℕ) (enough : Enough engin
         at found.Good e = absurd (not-refused d t r e)
         at (found.Refused q) e = let f : q ≡ r = cc e in ap found.Refused f
 
-    reached : Answered plan ps ts place → TaskPasses own plan ts (place - 1) ↔ (t ≤ d)
+    pub reached : Answered plan ps ts place → TaskPasses own plan ts (place - 1) ↔ (t ≤ d)
     reached a = enough plan ts (partitions ps) (a .good .tasks) (place - 1) (within plan ps ts place a)
 
     passed : (u : ℕ) → judge plan ps ts place ≡ Pass u → Answered plan ps ts place × TaskPasses own plan ts (place - 1)
     passed u e = let w = given (Pass u) (pass-given u) e in (w .0, reached (w .0) .1 (pass-at d t u (w .1) .1))
 
-    passes : Answered plan ps ts place × TaskPasses own plan ts (place - 1) → (u : ℕ) × (judge plan ps ts place ≡ Pass u)
+    pub passes : Answered plan ps ts place × TaskPasses own plan ts (place - 1) → (u : ℕ) × (judge plan ps ts place ≡ Pass u)
     passes (a, p) = (t, answer plan ps ts place engine a ∙ is-pass d t (reached a .0 p))
 
     failed : judge plan ps ts place ≡ Fail → Answered plan ps ts place × ¬ TaskPasses own plan ts (place - 1)
@@ -196,7 +194,7 @@ module _ (engine : List ℕ → List ℕ → ℕ → ℕ) (enough : Enough engin
       let w = passed plan ps ts place u v in
       endless-theorem own plan ts (partitions ps) (frame-some ps ts (w .0 .good)) (w .0 .good .tasks) (place - 1) (within plan ps ts place (w .0)) (w .1) start work ran legal r
 
-  engine-proved : Engine judge
+  pub engine-proved : Engine judge
   engine-proved = record {
     answered-exactly = answered-exactly;
     outside-table = outside-table;
@@ -205,78 +203,3 @@ module _ (engine : List ℕ → List ℕ → ℕ → ℕ) (enough : Enough engin
     ends-in-time = ends-in-time;
     ends-in-time-for-ever = ends-in-time-for-ever;
   }
-
--- ---- the two engines
-
-points : Enough (taskPoint own)
-points plan ts parts good i h = points-enough own plan ts parts good i h
-
-ticks : Enough (taskTick own)
-ticks plan ts parts good i h = ticks-exactly own plan ts i
-
-pub pass-point : PassPoint
-pass-point plan ps ts place u e =
-    let w = given (taskPoint own) points plan ps ts place (Pass u) (pass-given u) e in
-    let p = pass-at (deadline ts (place - 1)) (taskPoint own plan ts (place - 1)) u (w .1) in
-    rw (p .0) (point-smallest (taskLoad ts) (leastFor own plan ts (place - 1)) (place - 1) (omega (arith, p .1, task-last ts (place - 1))))
-
-module _ (plan ps ts : List ℕ) (place : ℕ) where
-  passed-tick : (u : ℕ) → plainOf plan ps ts place ≡ Pass u → Answered plan ps ts place × SmallestTick plan ts (place - 1) u
-  passed-tick u e =
-      let w = given (taskTick own) ticks plan ps ts place (Pass u) (pass-given u) e in
-      let p = pass-at (deadline ts (place - 1)) (taskTick own plan ts (place - 1)) u (w .1) in
-      let s = tick-smallest (taskLoad ts) (leastFor own plan ts (place - 1)) (place - 1) (omega (arith, p .1, task-last ts (place - 1))) in
-      rw (p .0) (w .0, record { from-1 = s .0; to-deadline = p .1; holds = s .1; smallest = s .2 })
-
-  tick-passed : (u : ℕ) → Answered plan ps ts place × SmallestTick plan ts (place - 1) u → plainOf plan ps ts place ≡ Pass u
-  tick-passed u (a, s) =
-      let w = passes (taskTick own) ticks plan ps ts place (a, (u, s .from-1, omega (arith, s .to-deadline, task-last ts (place - 1)), s .holds)) in
-      let q = passed-tick (w .0) (w .1) .1 in
-      let e : w .0 ≡ u = omega (arith, q .smallest u (s .from-1) (s .holds), s .smallest (w .0) (q .from-1) (q .holds)) in
-      w .1 ∙ ap Pass e
-
-pub pass-tick : PassTick
-pass-tick plan ps ts place u = (passed-tick plan ps ts place u, tick-passed plan ps ts place u)
-
--- two that are at most d alike are said alike
-said-alike : (d t u : ℕ) → (t ≤ d → u ≤ d) → (u ≤ d → t ≤ d) → withoutTick (passAt d u) ≡ withoutTick (passAt d t)
-unfolding passAt
-said-alike d t u f g = at (leb t d) (leb u d) refl refl
-  where
-    at : (b c : Bool) → leb t d ≡ b → leb u d ≡ c → withoutTick (pick c (Pass u) Fail) ≡ withoutTick (pick b (Pass t) Fail)
-    at true true e h = refl
-    at true false e h = absurd (omega (arith, f (leb-true t d e), leb-false u d h))
-    at false true e h = absurd (omega (arith, g (leb-true u d h), leb-false t d e))
-    at false false e h = refl
-
-pub engines-alike : EnginesAlike
-unfolding verdictBy
-engines-alike plan ps ts place = at (answerableOf plan ps ts place) refl
-  where
-    at : (c : Finding) → answerableOf plan ps ts place ≡ c
-        → withoutTick (unless Refused c (passAt (deadline ts (place - 1)) (taskTick own plan ts (place - 1))))
-        ≡ withoutTick (unless Refused c (passAt (deadline ts (place - 1)) (taskPoint own plan ts (place - 1))))
-    at found.Good e =
-        let a = answerable plan ps ts place e in
-        let p = reached (taskPoint own) points plan ps ts place a in
-        let q = reached (taskTick own) ticks plan ps ts place a in
-        said-alike _ _ _ (λ h. q .0 (p .1 h)) (λ h. p .0 (q .1 h))
-    at (found.Refused r) e = refl
-
-pub tick-at-most-point : TickAtMostPoint
-tick-at-most-point plan ps ts place u v e f =
-    let a = pass-at (deadline ts (place - 1)) (taskPoint own plan ts (place - 1)) u (given (taskPoint own) points plan ps ts place (Pass u) (pass-given u) e .1) in
-    let b = pass-at (deadline ts (place - 1)) (taskTick own plan ts (place - 1)) v (given (taskTick own) ticks plan ps ts place (Pass v) (pass-given v) f .1) in
-    omega (arith, a .0, b .0, tick-below-point (taskLoad ts) (leastFor own plan ts (place - 1)) (place - 1))
-
-pub proved : Proved
-proved = record {
-  by-points = engine-proved (taskPoint own) points;
-  by-ticks = engine-proved (taskTick own) ticks;
-  pass-point = pass-point;
-  pass-tick = pass-tick;
-  engines-alike = engines-alike;
-  tick-at-most-point = tick-at-most-point;
-  verdict-one = λ plan ps ts place r r′ e f. e ∙ sym f;
-  plain-one = λ plan ps ts place r r′ e f. e ∙ sym f;
-}

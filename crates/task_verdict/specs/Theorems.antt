@@ -81,7 +81,7 @@ PassPoint =
     × ((u : ℕ) → point (taskLoad ts) (place - 1) u ≡ true → demand (taskLoad ts) (place - 1) u ≤ least own plan (partition ts (place - 1)) u → t ≤ u)
 
 -- document 02, ask 4: "every tick t from 1 to D .. It reports the smallest tick that holds"
-pub record SmallestTick (plan ts : List ℕ) (i t : ℕ) : Type 0 where
+pub record EarliestTick (plan ts : List ℕ) (i t : ℕ) : Type 0 where
   pub from-1 : 1 ≤ t
   pub to-deadline : t ≤ deadline ts i
   pub holds : demand (taskLoad ts) i t ≤ least own plan (partition ts i) t
@@ -90,7 +90,7 @@ pub record SmallestTick (plan ts : List ℕ) (i t : ℕ) : Type 0 where
 abbrev pub PassTick : Type 0
 PassTick =
     (plan ps ts : List ℕ) (place t : ℕ)
-    → (plainOf plan ps ts place ≡ Pass t) ↔ (Answered plan ps ts place × SmallestTick plan ts (place - 1) t)
+    → (plainOf plan ps ts place ≡ Pass t) ↔ (Answered plan ps ts place × EarliestTick plan ts (place - 1) t)
 
 -- ==== of both
 

@@ -27,11 +27,11 @@ placeOf plan ps ts place = pick (leb 1 place && leb place (tasks ts)) (planCheck
 unfoldable pub answerableOf : List ℕ → List ℕ → List ℕ → ℕ → Finding
 answerableOf plan ps ts place = unless found.Refused (tablesOf (length plan) ps ts) (placeOf plan ps ts place)
 
--- a pass at t, unless that is past D
+-- a pass at t, or a fail where t is past D
 unfoldable pub passAt : ℕ → ℕ → Judged
 passAt d t = pick (leb t d) (Pass t) Fail
 
--- a refusal, or what is said of the task whose smallest t that holds the engine finds
+-- a refusal, or else a pass at the t that the engine finds, unless it is past D
 unfoldable pub verdictBy : (List ℕ → List ℕ → ℕ → ℕ) → List ℕ → List ℕ → List ℕ → ℕ → Judged
 verdictBy engine plan ps ts place = unless Refused (answerableOf plan ps ts place) (passAt (deadline ts (place - 1)) (engine plan ts (place - 1)))
 

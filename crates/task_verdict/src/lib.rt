@@ -1,4 +1,4 @@
-// The verdict: whether a task meets its deadline in every legal run, by either engine.
+// The verdict: whether a task passes, by either engine. One that passes meets its deadline in every legal run.
 use rules::Finding;
 use rules::Refusal;
 ghost use mathlib.Core.Path.{_≡_};
@@ -45,7 +45,7 @@ fn pass_at(d: u16, t: usize) -> Judged
     Judged::Fail
 }
 
-// Whether the task at a place, counted from 1, meets its deadline in every legal run, by its scheduling points.
+// Whether the task at a place, counted from 1, passes: by its scheduling points.
 pub fn verdict(plan: &[u16], parts: &[u16], table: &[u16], place: usize) -> Judged
     ensures { λ r. ⌜ Judges (now (plan .entry)) (now (parts .entry)) (now (table .entry)) place r ⌝ }
 {

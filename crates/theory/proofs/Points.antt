@@ -13,7 +13,7 @@ use Rattle.rules.proofs.Sum.{only-le, sum-le}
 use Rattle.rules.proofs.Round.{round-suc}
 use Rattle.rules.proofs.Tests.{of-T, and-parts, and-intro, or-left, or-right, any-or-none}
 use Rattle.theory.specs.Load.{Load, asked, demand, lastPoint, Passes, multiple, point, holds, earliest, firstPoint, firstTick}
-use Rattle.theory.specs.Theorems.{PointSmallest, TickSmallest, TickBelowPoint}
+use Rattle.theory.specs.Theorems.{PointSmallest, TickSmallest, TickAtMostPoint}
 use Rattle.theory.specs.Generality.{LoadPoints}
 
 module _ (L : Load) (i : ℕ) where
@@ -87,8 +87,8 @@ point-smallest L low i h = let a = earliest-holds (point L i) L low i h in (a .0
 pub tick-smallest : TickSmallest
 tick-smallest L low i h = let a = earliest-holds (leb 1) L low i h in (leb-true 1 (firstTick L low i) (a .0), a .1, tick-upto L low i)
 
-pub tick-below-point : TickBelowPoint
-tick-below-point L low i = at (leb (firstPoint L low i) (lastPoint L i)) refl
+pub tick-at-most-point : TickAtMostPoint
+tick-at-most-point L low i = at (leb (firstPoint L low i) (lastPoint L i)) refl
   where
     at : (b : Bool) → leb (firstPoint L low i) (lastPoint L i) ≡ b → firstTick L low i ≤ firstPoint L low i
     at true e =

@@ -5,7 +5,7 @@ use Rattle.theory.proofs.Wants.{wants-smallest, wants-range}
 use Rattle.theory.proofs.Plan.{least-is-least, least-attained, least-zero, least-bounds, least-grows, serves-in-frame}
 use Rattle.theory.proofs.Tasks.{points-enough, ticks-exactly, run-theorem, endless-theorem}
 use Rattle.theory.proofs.Load.{load-theorem}
-use Rattle.theory.proofs.Points.{load-points, point-smallest, tick-smallest, tick-below-point}
+use Rattle.theory.proofs.Points.{load-points, point-smallest, tick-smallest, tick-at-most-point}
 use Rattle.theory.proofs.Exists.{legal-exists, legal-one}
 use Rattle.theory.proofs.Order.{pairs-divide, taken-once, taken-rises}
 use Rattle.theory.proofs.Built.{harmonic-serves, harmonic-refused, harmonic-plan-good}
@@ -28,7 +28,7 @@ proved = record {
   point-smallest = point-smallest;
   ticks-exactly = ticks-exactly;
   tick-smallest = tick-smallest;
-  tick-below-point = tick-below-point;
+  tick-at-most-point = tick-at-most-point;
   run-theorem = run-theorem;
   endless-theorem = endless-theorem;
   load-theorem = load-theorem;

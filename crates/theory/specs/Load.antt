@@ -41,7 +41,7 @@ point L i t = leb 1 t && leb t (lastPoint L i) && (eqb t (lastPoint L i) || some
 unfoldable pub holds : (ℕ → Bool) → Load → (ℕ → ℕ) → ℕ → ℕ → Bool
 holds tried L low i t = tried t && leb (demand L i t) (low t)
 
--- the smallest t up to D that is tried and holds: past D where none does
+-- the smallest t that is tried and holds, up to the last point: one past that where none does
 unfoldable pub earliest : (ℕ → Bool) → Load → (ℕ → ℕ) → ℕ → ℕ
 earliest tried L low i = first (holds tried L low i) (suc (lastPoint L i))
 

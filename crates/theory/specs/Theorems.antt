@@ -89,8 +89,8 @@ TickSmallest =
     × ((t : ℕ) → 1 ≤ t → demand L i t ≤ low t → firstTick L low i ≤ t)
 
 -- "which may be below the scheduling point", and is never above it
-abbrev pub TickBelowPoint : Type 0
-TickBelowPoint = (L : Load) (low : ℕ → ℕ) (i : ℕ) → firstTick L low i ≤ firstPoint L low i
+abbrev pub TickAtMostPoint : Type 0
+TickAtMostPoint = (L : Load) (low : ℕ → ℕ) (i : ℕ) → firstTick L low i ≤ firstPoint L low i
 
 -- ==== demand 3, first half: the run theorem
 
@@ -181,7 +181,7 @@ pub record Proved : Type 0 where
   pub point-smallest : PointSmallest
   pub ticks-exactly : TicksExactly
   pub tick-smallest : TickSmallest
-  pub tick-below-point : TickBelowPoint
+  pub tick-at-most-point : TickAtMostPoint
   pub run-theorem : RunTheorem
   pub endless-theorem : EndlessTheorem
   pub load-theorem : LoadTheorem

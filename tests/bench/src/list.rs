@@ -44,7 +44,7 @@ fn every_tick() -> Vec<u8> {
     all_own([1, 1, 1, 1], [1, 1, 4096, 4096])
 }
 
-/// Every task but the first passes, and not before tick 3,800: so far the plain engine tries every
+/// Every task passes, but for the first not before tick 3,800: so far the plain engine tries every
 /// tick, the other every second.
 fn late() -> Vec<u8> {
     all_own([1, 1, 2, 2], [1, 1900, 4096, 4096])

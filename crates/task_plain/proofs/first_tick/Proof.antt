@@ -3,18 +3,14 @@ use mathlib.Core.Path.{_≡_, sym, _∙_}
 use lib.Dec.{leb}
 use Rattle.rules.specs.Walk.{first}
 use Rattle.rules.proofs.First.{first-more}
-use Rattle.theory.specs.Plan.{own}
-use Rattle.theory.specs.Load.{holds}
-use Rattle.theory.specs.Task.{taskLoad}
-use Rattle.theory.specs.Contracts.{leastFor}
-use Rattle.task_demand.proofs.Search.{search-found, search-done}
+use Rattle.theory.proofs.Search.{test, search-found, search-done}
 use Rattle.task_plain.proofs.Ticks.{tick-holds, from-1}
 use borrow.Author.Needs.{needs}
 use Rattle.task_plain.proofs.first_tick.Statement.{statement}
 use Rattle.task_plain.proofs.first_tick.Tie as tie
 
 abbrev Inv-loop : tie.InvT-loop
-Inv-loop plan tasks i d t₀ t = (1 ≤ t) × (t ≤ d + 1) × (first (holds (leb 1) (taskLoad tasks) (leastFor own plan tasks i) i) t ≡ t)
+Inv-loop plan tasks i d t₀ t = (1 ≤ t) × (t ≤ d + 1) × (first (test (leb 1) plan tasks i) t ≡ t)
 
 abbrev μ-loop : tie.MeasureT-loop
 μ-loop plan tasks i d t₀ t = d + 1 - t

@@ -2,17 +2,15 @@ use Prim.Native.Nat.{_≤_, _-_}
 use mathlib.Core.Path.{_≡_, sym, _∙_}
 use Rattle.rules.specs.Walk.{first}
 use Rattle.rules.proofs.First.{first-zero, first-more}
-use Rattle.theory.specs.Plan.{own}
-use Rattle.theory.specs.Load.{point, holds}
+use Rattle.theory.specs.Load.{point}
 use Rattle.theory.specs.Task.{taskLoad}
-use Rattle.task_demand.proofs.Search.{search-found, search-done}
+use Rattle.theory.proofs.Search.{test, search-found, search-done}
 use borrow.Author.Needs.{needs}
 use Rattle.task_points.proofs.first_point.Statement.{statement}
 use Rattle.task_points.proofs.first_point.Tie as tie
-use Rattle.theory.specs.Contracts.{leastFor}
 
 abbrev Inv-loop : tie.InvT-loop
-Inv-loop plan tasks i end t₀ t = (t ≤ end) × (first (holds (point (taskLoad tasks) i) (taskLoad tasks) (leastFor own plan tasks i) i) t ≡ t)
+Inv-loop plan tasks i end t₀ t = (t ≤ end) × (first (test (point (taskLoad tasks) i) plan tasks i) t ≡ t)
 
 abbrev μ-loop : tie.MeasureT-loop
 μ-loop plan tasks i end t₀ t = end - t

@@ -50,13 +50,12 @@ pub fn ask(trial: &mut Trial, engine: Engine, input: &Input, place: usize) -> An
     answer
 }
 
-/// Asks both engines. They refuse alike, "both give pass or fail alike for every plan and task
-/// table", and the tick is never above the point.
+/// Asks both engines. The second program's, with which the library's are compared, refuse by one
+/// chain; "both give pass or fail alike", and the tick is never above the point.
 pub fn compare(trial: &mut Trial, input: &Input, place: usize) -> Judged {
     let [verdict, plain] = [VERDICT, PLAIN].map(|engine| ask(trial, engine, input, place));
     let asked = (input, place, verdict, plain);
     if verdict.number != 0 {
-        trial.same((asked, "refused alike"), plain, verdict);
         return Judged::Refused(verdict);
     }
     let [point, tick] = [verdict.first, plain.first];
