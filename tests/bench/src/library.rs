@@ -79,9 +79,12 @@ pub fn check(plan: &[u16], parts: &[u16]) -> Answer {
     unsafe { merkazobi_check(plan.as_ptr(), plan.len(), parts.as_ptr(), parts.len()) }
 }
 
-pub fn verdict(plan: &[u16], parts: &[u16], tasks: &[u16], place: usize) -> Answer {
+type Engine =
+    unsafe extern "C" fn(*const u16, usize, *const u16, usize, *const u16, usize, usize) -> Answer;
+
+fn judged(engine: Engine, plan: &[u16], parts: &[u16], tasks: &[u16], place: usize) -> Answer {
     unsafe {
-        merkazobi_verdict(
+        engine(
             plan.as_ptr(),
             plan.len(),
             parts.as_ptr(),
@@ -93,18 +96,12 @@ pub fn verdict(plan: &[u16], parts: &[u16], tasks: &[u16], place: usize) -> Answ
     }
 }
 
+pub fn verdict(plan: &[u16], parts: &[u16], tasks: &[u16], place: usize) -> Answer {
+    judged(merkazobi_verdict, plan, parts, tasks, place)
+}
+
 pub fn plain(plan: &[u16], parts: &[u16], tasks: &[u16], place: usize) -> Answer {
-    unsafe {
-        merkazobi_plain(
-            plan.as_ptr(),
-            plan.len(),
-            parts.as_ptr(),
-            parts.len(),
-            tasks.as_ptr(),
-            tasks.len(),
-            place,
-        )
-    }
+    judged(merkazobi_plain, plan, parts, tasks, place)
 }
 
 pub fn counts_held_many(
