@@ -1,15 +1,17 @@
 -- Every refusal of every entry, by computation. Assumes nothing.
+use Prim.Native.Nat.{ℕ}
 use mathlib.Core.Path.{refl}
+use mathlib.Core.List.{List}
 use Rattle.rules.specs.Walk.{only, fails, first, sum, count, smallest, largest, walk, gathered, listed, roundUp}
 use Rattle.rules.specs.Table.{wants, goodShare, goodTimes}
 use Rattle.tables.specs.Tables.{countedIn, withinLimits, tablesOf}
-use Rattle.theory.specs.Plan.{owner, owned, least}
+use Rattle.theory.specs.Plan.{own, owner, owned, least}
 use Rattle.theory.specs.Harmonic.{pairs, frame, allWanted, sooner, rank, give, turn, planned}
 use Rattle.plan_check.specs.Check.{shortAt, scanOf, planCheckOf, checkOf}
 use Rattle.plan_build.specs.Build.{unharmonic, laidOf, buildOf}
 use Rattle.counts.specs.Counts.{countAt, agreesAt, planJudged, listJudged, countsJudged, goodName, goodStretch, fillOf, heldOf, namesOne, withinFrame, answerAt, manyOf, changeOf}
 use Rattle.theory.specs.Load.{asked, demand, multiple, point, holds, earliest}
-use Rattle.theory.specs.Task.{rival, taskLoad}
+use Rattle.theory.specs.Task.{rival, taskLoad, taskPoint, taskTick}
 use Rattle.task_verdict.specs.Verdict.{placeOf, answerableOf, verdictBy}
 use Rattle.file_codec.specs.Bytes.{numsOf, bytesOf}
 use Rattle.file_tables.specs.Runs.{runOwner, runLength, repeats, goodRun, runsJudged, fileTablesOf}
@@ -27,7 +29,7 @@ use Rattle.share_plan.specs.Answer.{planFile, writeBuiltOf, writePlanOf, fileOr
 use Rattle.file_listing.specs.Listing.{tablesLines, listingOf, listOf}
 use Rattle.desk.specs.Table.{openOf}
 use Rattle.desk.specs.Request.{requestOf}
-use Rattle.api.specs.Answers.{TellsVerdict, TellsPlain}
+use Rattle.demands.proofs.Judging.{TellsBy}
 use Rattle.demands.specs.EachRefusal.{EachPlan, EachVerdict, EachCount, EachFile, EachText, EachDesk, EachLimit, EachRefusal}
 
 plans : EachPlan
@@ -44,22 +46,10 @@ plans = record {
   build-12 = (_, (refl, refl), refl);
 }
 
-verdicts : EachVerdict TellsVerdict
-unfolding only fails first sum count smallest largest walk gathered roundUp wants countedIn withinLimits tablesOf goodShare goodTimes owner owned least shortAt scanOf planCheckOf checkOf placeOf answerableOf verdictBy
-verdicts = record {
-  verdict-3 = (_, refl, refl);
-  verdict-6 = (_, refl, refl);
-  verdict-7 = (_, refl, refl);
-  verdict-7-first = (_, refl, refl);
-  verdict-7-0 = (_, refl, refl);
-  verdict-7-past = (_, refl, refl);
-  verdict-8 = (_, refl, refl);
-  verdict-9 = (_, refl, refl);
-}
-
-plain-verdicts : EachVerdict TellsPlain
-unfolding only fails first sum count smallest largest walk gathered roundUp wants countedIn withinLimits tablesOf goodShare goodTimes owner owned least shortAt scanOf planCheckOf checkOf placeOf answerableOf verdictBy
-plain-verdicts = record {
+-- a refusal is told before the engine is asked
+verdicts : (engine : List ℕ → List ℕ → ℕ → ℕ) → EachVerdict (TellsBy engine)
+unfolding only fails first sum count roundUp wants countedIn withinLimits tablesOf goodShare goodTimes owner owned shortAt scanOf planCheckOf placeOf answerableOf verdictBy
+verdicts engine = record {
   verdict-3 = (_, refl, refl);
   verdict-6 = (_, refl, refl);
   verdict-7 = (_, refl, refl);
@@ -210,4 +200,4 @@ limits = record {
 }
 
 pub each-refusal : EachRefusal
-each-refusal = record { plans = plans; verdicts = verdicts; plain-verdicts = plain-verdicts; counts = counts; files = files; texts = texts; desks = desks; limits = limits }
+each-refusal = record { plans = plans; verdicts = verdicts (taskPoint own); plain-verdicts = verdicts (taskTick own); counts = counts; files = files; texts = texts; desks = desks; limits = limits }

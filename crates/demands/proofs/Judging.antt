@@ -71,7 +71,7 @@ pass-told (judged.Refused r) e h = absurd (not-0 r e)
 
 module _ (engine : List ℕ → List ℕ → ℕ → ℕ) where
   -- what the engine's entry tells
-  abbrev TellsBy : List ℕ → List ℕ → List ℕ → ℕ → Told → Type 0
+  abbrev pub TellsBy : List ℕ → List ℕ → List ℕ → ℕ → Told → Type 0
   TellsBy plan ps ts place = Tells toldJudged (λ (r : Judged). r ≡ verdictBy engine plan ps ts place)
 
   module _ (plan ps ts : List ℕ) (place : ℕ) (t : Told) (p : TellsBy plan ps ts place t) where

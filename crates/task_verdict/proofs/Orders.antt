@@ -73,7 +73,7 @@ module _ (plan ps ts : List ℕ) (place : ℕ) where
       }
 
   -- and where they do, nothing is
-  pub is-answerable : Answered plan ps ts place → answerableOf plan ps ts place ≡ found.Good
+  is-answerable : Answered plan ps ts place → answerableOf plan ps ts place ≡ found.Good
   unfolding answerableOf placeOf
   is-answerable a =
       unless-good (length plan) ps ts found.Refused (placeOf plan ps ts place) (a .good)

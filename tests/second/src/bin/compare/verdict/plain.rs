@@ -40,28 +40,25 @@ fn no_slack(trial: &mut Trial, mut input: Input, place: usize, c: u16, seen: &mu
     trial.same((&input, place), judged, wanted);
 }
 
-pub fn deadline_1(trial: &mut Trial) {
+/// Budgets are told from the task's period.
+fn all_without_slack(trial: &mut Trial, budget: fn(&mut Rng, u16) -> u16) {
     let mut seen = Seen::default();
     for _ in trial.cases(4000) {
         let count = trial.rng.pick(&[1, 1, 2, 3]);
         let input = nearly_own(&mut trial.rng, count);
         let place = trial.rng.between(1, count);
-        no_slack(trial, input, place, 1, &mut seen);
+        let c = budget(&mut trial.rng, input.tasks[4 * place - 1]);
+        no_slack(trial, input, place, c, &mut seen);
     }
     seen.share(trial, &["pass", "fail"], [1, 5]);
 }
 
+pub fn deadline_1(trial: &mut Trial) {
+    all_without_slack(trial, |_, _| 1);
+}
+
 pub fn deadline_c(trial: &mut Trial) {
-    let mut seen = Seen::default();
-    for _ in trial.cases(4000) {
-        let count = trial.rng.pick(&[1, 1, 2, 3]);
-        let input = nearly_own(&mut trial.rng, count);
-        let place = trial.rng.between(1, count);
-        let period = input.tasks[4 * place - 1];
-        let c = trial.rng.between(1, period.into()) as u16;
-        no_slack(trial, input, place, c, &mut seen);
-    }
-    seen.share(trial, &["pass", "fail"], [1, 5]);
+    all_without_slack(trial, |rng, period| rng.between(1, period.into()) as u16);
 }
 
 /// F 1: the tick is a partition's, idle, or out of the table; one partition at most can be served.
