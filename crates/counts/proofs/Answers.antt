@@ -6,7 +6,7 @@ use mathlib.Core.Bool.{Bool, true, false, true≢false}
 use mathlib.Core.List.{List, [], _++_}
 use native.Mathlib.Nat.{mul-le-mul-right}
 use native.Mathlib.Omega.{arith}
-use lib.ListN.{length, getD, drop, length-append, length-drop, List·getD-append}
+use lib.ListN.{length, getD, drop, length-append, List·getD-append}
 use borrow.Author.Tests.{leb-true, leb-false, eqb-true, eq-eqb}
 use Rattle.rules.specs.Walk.{pick}
 use Rattle.rules.specs.Table.{partitions, goodPart, goodTask, goodTick}
@@ -18,7 +18,7 @@ use Rattle.rules.specs.declared.Finding.{Finding}
 use Rattle.rules.specs.declared.Finding.the-variants.{Good, Refused}
 use Rattle.rules.specs.declared.Filling.{Filling}
 use Rattle.rules.specs.declared.Filling.the-variants as filling
-use Rattle.rules.proofs.Named.{listed-length, listed-at, behind-new, named-list}
+use Rattle.rules.proofs.Named.{listed-length, listed-at, new-tail, named-list}
 use Rattle.tables.specs.Tables.{withinLimits, lowest, unless, tablesOf, ticksJudged}
 use Rattle.tables.proofs.Chain.{lowest-at}
 use Rattle.plan_check.specs.Check.{scanOf, planCheckOf, checkOf}
@@ -105,13 +105,6 @@ fill-answers plan ps room = go (planJudged plan ps) refl (longEnough plan ps roo
 
 pub fill-counted : FillCounted
 fill-counted plan ps list o n f = (filled plan ps (length list) n (sym (f .0)) .0, counted-from plan ps o (drop n list) (f .1))
-
--- what new numbers leave of an output behind them
-pub new-tail : (new old o : List ℕ) (n : ℕ) → o ≡ new ++ drop n old → length new ≡ n → n ≤ length old → (length o ≡ length old) × ((i : ℕ) → n ≤ i → getD o i 0 ≡ getD old i 0)
-new-tail new old o n e m l = (long, λ i h. ap (λ (x : List ℕ). getD x i 0) e ∙ behind-new new old n i m h)
-  where
-    long : length o ≡ length old
-    long = let z : length o ≡ length new + length (drop n old) = ap length e ∙ length-append new (drop n old) in omega (arith, z, length-drop n old)
 
 pub fill-keeps : FillKeeps
 fill-keeps plan ps list o r f = go r (f .0) (f .1)

@@ -15,7 +15,7 @@ use Rattle.rules.specs.Table.{partitions, goodTick}
 use Rattle.rules.specs.declared.Refusal.the-variants.{Asked, Beyond}
 use Rattle.rules.specs.declared.Finding.{Finding}
 use Rattle.rules.specs.declared.Finding.the-variants.{Good, Refused}
-use Rattle.rules.proofs.Named.{listed-length}
+use Rattle.rules.proofs.Named.{listed-length, new-tail}
 use Rattle.rules.proofs.Sum.{only-true, only-false}
 use Rattle.rules.proofs.Tests.{and-none}
 use Rattle.theory.specs.Plan.{own, held}
@@ -25,7 +25,7 @@ use Rattle.counts.specs.Theorems.{numberOf, HasNumber, Planned, Counted,
 use Rattle.counts.proofs.Orders.{tested, untested, is-called, Judging, at-plan, at-name, at-length, at-counts, at-stretch, at-none, judging}
 use Rattle.counts.proofs.Asking.{kept-row}
 use Rattle.counts.proofs.Changing.{moved, Changeable, changeable}
-use Rattle.counts.proofs.Answers.{list-is, counted-from, counted-is, plan-exactly, plan-as-checked, plan-places, fill-answers, fill-counted, new-tail, fill-keeps, held-answers, is-held, fill-one, held-one}
+use Rattle.counts.proofs.Answers.{list-is, counted-from, counted-is, plan-exactly, plan-as-checked, plan-places, fill-answers, fill-counted, fill-keeps, held-answers, is-held, fill-one, held-one}
 use Rattle.counts.proofs.Many.{many-answers, many-each, many-keeps, many-one}
 
 is-changed : (plan ps list : List ℕ) (tick owner : ℕ) → Planned plan ps → Counted plan ps list → owner ≤ partitions ps → tick < length plan → changeOf plan ps list tick owner ≡ Good

@@ -17,7 +17,7 @@ use Rattle.rules.specs.declared.Finding.{Finding}
 use Rattle.rules.specs.declared.Finding.the-variants.{Good}
 use Rattle.rules.specs.declared.Filling.{Filling}
 use Rattle.rules.specs.declared.Filling.the-variants as filling
-use Rattle.rules.proofs.Named.{listed-length, listed-at}
+use Rattle.rules.proofs.Named.{listed-length, listed-at, new-tail}
 use Rattle.tables.specs.Tables.{lowest, unless}
 use Rattle.tables.proofs.Chain.{lowest-good, lowest-at}
 use Rattle.theory.specs.Plan.{own, held}
@@ -25,7 +25,7 @@ use Rattle.counts.specs.Counts.{countsJudged, asked, start, span, questi
 use Rattle.counts.specs.Theorems.{NamedIn, WithinIn, All, ManyBy, many-questions, many-plan, many-name, many-length, many-counts, many-stretch, many-done, ManyAnswers, ManyEach, ManyKeeps, ManyOne}
 use Rattle.counts.proofs.Orders.{name-is, is-name, stretch-is, is-stretch, Judging, at-plan, at-name, at-length, at-counts, at-stretch, at-none, judging}
 use Rattle.counts.proofs.Asking.{many-called, many-asks, many-looks}
-use Rattle.counts.proofs.Answers.{is-held, new-tail}
+use Rattle.counts.proofs.Answers.{is-held}
 
 module _ (plan ps list qs : List ℕ) (room : ℕ) where
   abbrev names : Finding

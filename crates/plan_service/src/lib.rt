@@ -7,7 +7,7 @@ ghost use Rattle.rules.specs.Walk.{only};
 ghost use Rattle.theory.specs.Plan.{own, held, HeldIs, LeastIs};
 
 // 1 where the tick at a place of the frame is p's, else 0.
-fn own_at(plan: &[u16], p: usize, at: usize) -> usize
+pub fn own_at(plan: &[u16], p: usize, at: usize) -> usize
     requires { ⌜ at < length (now plan) ⌝ }
     ensures { λ r. ⌜ (r ≤ 1) × (r ≡ only (eqb (getD (now (plan .entry)) at 0) p) 1) ⌝ }
 {

@@ -69,6 +69,13 @@ behind-new new old n t m l =
     let s : n + (t - n) ≡ t = omega arith in
     ap (λ (x : ℕ). getD (new ++ drop n old) x 0) e ∙ getD-append-add new (drop n old) (t - n) 0 ∙ getD-drop n old (t - n) 0 ∙ ap (λ (x : ℕ). getD old x 0) s
 
+-- what new numbers leave of an output behind them
+pub new-tail : (new old o : List ℕ) (n : ℕ) → o ≡ new ++ drop n old → length new ≡ n → n ≤ length old → (length o ≡ length old) × ((i : ℕ) → n ≤ i → getD o i 0 ≡ getD old i 0)
+new-tail new old o n e m l = (long, λ i h. ap (λ (x : List ℕ). getD x i 0) e ∙ behind-new new old n i m h)
+  where
+    long : length o ≡ length old
+    long = let z : length o ≡ length new + length (drop n old) = ap length e ∙ length-append new (drop n old) in omega (arith, z, length-drop n old)
+
 -- all that is left is determined
 pub named-list : (o : ℕ → ℕ) (h : ℕ) (before after : List ℕ) → h ≤ length before → AsNamed o h before after → after ≡ listed o h ++ drop h before
 named-list o h before after l w =

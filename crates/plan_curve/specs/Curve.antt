@@ -1,0 +1,24 @@
+-- The curve of least service, and what the call answers. Assumes nothing.
+use Prim.Native.Nat.{ℕ, _+_}
+use mathlib.Core.Path.{_≡_}
+use mathlib.Core.List.{List}
+use lib.ListN.{length}
+use lib.Dec.{ltb}
+use Rattle.rules.specs.Walk.{pick, listed}
+use Rattle.rules.specs.Filling.{leftBy}
+use Rattle.rules.specs.declared.Refusal.the-variants.{Output}
+use Rattle.rules.specs.declared.Filling.{Filling}
+use Rattle.rules.specs.declared.Filling.the-variants.{Fills, Refused}
+use Rattle.theory.specs.Plan.{Rule, own, least}
+
+-- least(0) .. least(n) of one partition
+abbrev pub leastCurve : Rule → List ℕ → ℕ → ℕ → List ℕ
+leastCurve rule plan p n = listed (least rule plan p) (n + 1)
+
+-- "output shorter than needed", for a list of room numbers, or how many are written
+unfoldable pub curveOf : ℕ → ℕ → Filling
+curveOf n room = pick (ltb room (n + 1)) (Refused Output) (Fills (n + 1))
+
+-- the answer r of the call, and o what the list then holds: a longer one keeps its tail
+abbrev pub DrawsCurve : List ℕ → ℕ → ℕ → List ℕ → List ℕ → Filling → Type 0
+DrawsCurve plan p n list o r = (r ≡ curveOf n (length list)) × (o ≡ leftBy r (leastCurve own plan p n) list)

@@ -1,0 +1,54 @@
+-- What is proved of the curve beyond its contract. Assumes nothing.
+use Prim.Native.Nat.{ℕ, _+_, _≤_, _<_}
+use mathlib.Core.Path.{_≡_}
+use mathlib.Core.Bool.{true}
+use mathlib.Core.List.{List}
+use lib.ListN.{length, getD}
+use Rattle.rules.specs.declared.Refusal.the-variants.{Output}
+use Rattle.rules.specs.declared.Filling.{Filling}
+use Rattle.rules.specs.declared.Filling.the-variants.{Fills, Refused}
+use Rattle.theory.specs.Plan.{Rule, own, held, least}
+use Rattle.plan_curve.specs.Curve.{leastCurve, curveOf, DrawsCurve}
+use Rattle.plan_curve.specs.Contracts.{behindRun}
+
+-- "a worst stretch can be taken to start right behind one of the partition's runs": any stretch holds at least as much as one that starts there, or at
+-- the frame's first tick (a partition that has every tick, or none, has no start behind a run)
+abbrev pub WorstStart : Type 0
+WorstStart =
+    (rule : Rule) (plan : List ℕ) (p t s : ℕ) → s < length plan
+    → (c : ℕ) × (c < length plan) × (behindRun rule plan p c ≡ true) × (held rule plan p t c ≤ held rule plan p t s)
+
+-- "each number is `least`": n + 1 numbers
+abbrev pub CurveIs : Type 0
+CurveIs =
+    (rule : Rule) (plan : List ℕ) (p n : ℕ)
+    → (length (leastCurve rule plan p n) ≡ n + 1) × ((t : ℕ) → t ≤ n → getD (leastCurve rule plan p n) t 0 ≡ least rule plan p t)
+
+-- 12 exactly for a list with fewer numbers; nothing else is refused
+pub data CurveBy (n room : ℕ) : Filling → Type 0 where
+  curve-length : room < n + 1 → CurveBy n room (Refused Output)
+  curve-done : n + 1 ≤ room → CurveBy n room (Fills (n + 1))
+
+abbrev pub CurveAnswers : Type 0
+CurveAnswers = (n room : ℕ) → CurveBy n room (curveOf n room)
+
+-- each number that the call leaves is least service, and the list's tail stays as it was
+abbrev pub CurveLeaves : Type 0
+CurveLeaves =
+    (plan : List ℕ) (p n m : ℕ) (list o : List ℕ) → DrawsCurve plan p n list o (Fills m)
+    → (m ≡ n + 1) × (length o ≡ length list)
+    × ((t : ℕ) → t ≤ n → getD o t 0 ≡ least own plan p t)
+    × ((t : ℕ) → n < t → getD o t 0 ≡ getD list t 0)
+
+-- "any two outcomes it permits are equal"
+abbrev pub CurveOne : Type 0
+CurveOne =
+    (plan : List ℕ) (p n : ℕ) (list o o′ : List ℕ) (r r′ : Filling) → DrawsCurve plan p n list o r → DrawsCurve plan p n list o′ r′
+    → (r ≡ r′) × (o ≡ o′)
+
+pub record Proved : Type 0 where
+  pub worst-start : WorstStart
+  pub curve-is : CurveIs
+  pub curve-answers : CurveAnswers
+  pub curve-leaves : CurveLeaves
+  pub curve-one : CurveOne

@@ -1,0 +1,107 @@
+// The curve of least service: least(0) .. least(n) of one partition, worked out together. A worst stretch can be taken to
+// start right behind one of the partition's runs, so each of these starts is walked once, for all lengths.
+ghost use mathlib.Core.Path.{_≡_};
+ghost use Prim.Native.Nat.{_^_, _≤_, _<_};
+ghost use lib.ListN.{length};
+ghost use Rattle.rules.specs.Contracts.{AsNamed};
+ghost use Rattle.theory.specs.Plan.{own, least};
+ghost use Rattle.plan_curve.specs.Curve.{curveOf, DrawsCurve};
+ghost use Rattle.plan_curve.specs.Contracts.{behindRun, most, lowerAt, lowerFrom};
+use plan_service::own_at;
+use rules::Filling;
+use rules::Refusal;
+use rules::numbers::after;
+use rules::numbers::smaller;
+use rules::numbers::wide;
+use rules::numbers::wide32;
+
+// Whether tick s of the frame is its first, or stands right behind one of p's runs.
+fn behind_run(plan: &[u16], p: usize, s: usize) -> bool
+    requires { ⌜ s < length (now plan) ⌝ }
+    ensures { λ r. ⌜ r ≡ behindRun own (now (plan .entry)) p s ⌝ }
+{
+    if s == 0 {
+        return true;
+    }
+    if wide(plan[s]) == p {
+        return false;
+    }
+    wide(plan[s - 1]) == p
+}
+
+// What t ticks of a plan with f can hold of p's at most; of an empty one every tick is idle.
+fn most(f: usize, p: usize, t: usize) -> usize
+    ensures { λ r. ⌜ (r ≤ t) × (r ≡ most f p t) ⌝ }
+{
+    if f == 0 {
+        return if p == 0 { t } else { 0 };
+    }
+    t
+}
+
+// The first n numbers before any start is tried.
+fn begin(f: usize, p: usize, list: &mut [u32], n: usize)
+    requires { ⌜ (n ≤ 2 ^ 32) × (n ≤ length (now list)) ⌝ }
+    ensures { λ _. ⌜ AsNamed (most f p) n (now (list .entry)) (now (list .exit)) ⌝ }
+{
+    let mut t = 0;
+    while t < n {
+        list[t] = most(f, p, t) as u32;
+        t += 1;
+    }
+}
+
+// Each of the first n numbers lowered to what as many ticks from tick s on hold.
+fn lower_from(plan: &[u16], p: usize, s: usize, list: &mut [u32], n: usize)
+    requires { ⌜ (s < length (now plan)) × (n ≤ 2 ^ 32) × (n ≤ length (now list)) ⌝ }
+    ensures { λ _. ⌜ AsNamed (lowerFrom own (now (plan .entry)) p s (now (list .entry))) n
+        (now (list .entry)) (now (list .exit)) ⌝ }
+{
+    let f = plan.len();
+    let mut h = 0;
+    let mut at = s;
+    let mut t = 0;
+    while t < n {
+        list[t] = smaller(wide32(list[t]), h) as u32;
+        h = h + own_at(plan, p, at);
+        at = after(at, f);
+        t += 1;
+    }
+}
+
+// The same, where a worst stretch may start at s.
+fn lower_at(plan: &[u16], p: usize, s: usize, list: &mut [u32], n: usize)
+    requires { ⌜ (s < length (now plan)) × (n ≤ 2 ^ 32) × (n ≤ length (now list)) ⌝ }
+    ensures { λ _. ⌜ AsNamed (lowerAt own (now (plan .entry)) p s (now (list .entry))) n
+        (now (list .entry)) (now (list .exit)) ⌝ }
+{
+    if behind_run(plan, p, s) {
+        lower_from(plan, p, s, list, n);
+    }
+}
+
+// least(0) .. least(n - 1), into the first n numbers of the list.
+pub fn draw(plan: &[u16], p: usize, list: &mut [u32], n: usize)
+    requires { ⌜ (n ≤ 2 ^ 32) × (n ≤ length (now list)) ⌝ }
+    ensures { λ _. ⌜ AsNamed (least own (now (plan .entry)) p) n (now (list .entry)) (now (list .exit)) ⌝ }
+{
+    let f = plan.len();
+    begin(f, p, list, n);
+    let mut s = 0;
+    while s < f {
+        lower_at(plan, p, s, list, n);
+        s += 1;
+    }
+}
+
+// least(0) .. least(n) of partition p, at the start of the list.
+pub fn curve(plan: &[u16], p: u16, n: u32, list: &mut [u32]) -> Filling
+    ensures { λ r. ⌜ DrawsCurve (now (plan .entry)) p n (now (list .entry)) (now (list .exit)) r ⌝ }
+{
+    let needed = (n as usize) + 1;
+    if list.len() < needed {
+        return Filling::Refused(Refusal::Output);
+    }
+    draw(plan, wide(p), list, needed);
+    Filling::Fills(needed)
+}
