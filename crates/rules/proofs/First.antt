@@ -126,3 +126,9 @@ every-first p n g = first-none (fails p) n (λ k l. rw (g k l))
 pub first-every : (p : ℕ → Bool) (n : ℕ) → n ≤ first (fails p) n → Every p n
 unfolding fails
 first-every p n h k l = not-false _ (first-past (fails p) n h k l)
+
+-- two tests that agree below n find the same
+pub first-ext : (n : ℕ) (p q : ℕ → Bool) → ((k : ℕ) → k < n → p k ≡ q k) → first p n ≡ first q n
+unfolding first
+first-ext zero p q h = refl
+first-ext (suc n) p q h = rw (first-ext n p q (λ k l. h k (omega arith)), h n (omega arith))

@@ -1,6 +1,6 @@
 // Numbers: widened, the smaller and the larger, a test as a number, and the place after in a round.
 ghost use mathlib.Core.Path.{_≡_};
-ghost use Prim.Native.Nat.{_+_, _%_, _≤_, _<_, min, max};
+ghost use Prim.Native.Nat.{_+_, _%_, _^_, _≤_, _<_, min, max};
 ghost use Rattle.rules.specs.Walk.{only};
 
 pub fn wide(x: u16) -> usize
@@ -10,7 +10,7 @@ pub fn wide(x: u16) -> usize
 }
 
 pub fn wide32(x: u32) -> usize
-    ensures { λ r. ⌜ r ≡ x ⌝ }
+    ensures { λ r. ⌜ (r < 2 ^ 32) × (r ≡ x) ⌝ }
 {
     x as usize
 }

@@ -1,89 +1,64 @@
 // The engine over scheduling points: the smallest of them that holds.
+use rules::numbers::wide;
+use task_demand::TICKS;
+use task_demand::draw_task;
 use task_demand::fits;
-use task_demand::rival;
 ghost use mathlib.Core.Path.{_≡_};
-ghost use Prim.Native.Nat.{_%_, _≤_};
-ghost use lib.Dec.{eqb};
-ghost use Rattle.rules.specs.Limits.{mostTasks};
-ghost use Rattle.rules.specs.Walk.{some};
+ghost use Prim.Native.Nat.{_+_, _≤_, _<_};
+ghost use lib.ListN.{length};
+ghost use Rattle.rules.specs.Walk.{first};
 ghost use Rattle.theory.specs.Plan.{own};
-ghost use Rattle.theory.specs.Load.{multiple, point, holds};
-ghost use Rattle.theory.specs.Task.{taskLoad, taskPoint};
-ghost use Rattle.theory.specs.Contracts.{leastFor};
+ghost use Rattle.theory.specs.Task.{taskPoint};
+ghost use Rattle.task_demand.specs.Contracts.{Judgeable};
+ghost use Rattle.task_points.specs.Contracts.{pointAt, pointFits};
 
-// Whether t is a multiple of the period.
-fn multiple_of(t: u32, period: u16) -> bool
-    ensures { λ r. ⌜ r ≡ eqb (t % period) 0 ⌝ }
+// Whether t is a scheduling point, of a task with deadline d: t is d itself, or a multiple of a higher task's period. Behind
+// these alone more is asked.
+fn point_at(asks: &[u32], d: usize, t: usize) -> bool
+    requires { ⌜ (t ≤ d) × (d < length (now asks)) ⌝ }
+    ensures { λ r. ⌜ r ≡ pointAt (now (asks .entry)) d t ⌝ }
 {
-    if period == 0 {
-        return t == 0;
-    }
-    t % (period as u32) == 0
-}
-
-// Whether t is a multiple of the period of j, a higher task of the same partition.
-fn multiple(tasks: &[u16], i: usize, t: u32, j: usize) -> bool
-    ensures { λ r. ⌜ r ≡ multiple (taskLoad (now (tasks .entry))) i t j ⌝ }
-{
-    if rival(tasks, i, j) {
-        return multiple_of(t, rules::records::period(tasks, j));
-    }
-    false
-}
-
-fn some_multiple(tasks: &[u16], i: usize, t: u32) -> bool
-    ensures { λ r. ⌜ r ≡ some (multiple (taskLoad (now (tasks .entry))) i t) i ⌝ }
-{
-    let mut j = 0;
-    while j < i {
-        if multiple(tasks, i, t, j) {
-            return true;
-        }
-        j += 1;
-    }
-    false
-}
-
-// Whether t is a scheduling point of task i.
-fn point(tasks: &[u16], i: usize, t: u32) -> bool
-    ensures { λ r. ⌜ r ≡ point (taskLoad (now (tasks .entry))) i t ⌝ }
-{
-    let d = rules::records::deadline(tasks, i);
-    if t < 1 {
-        return false;
-    }
-    if (d as u32) < t {
-        return false;
-    }
-    if t == (d as u32) {
+    if t == d {
         return true;
     }
-    some_multiple(tasks, i, t)
+    asks[t] < asks[t + 1]
 }
 
-fn point_fits(plan: &[u16], tasks: &[u16], i: usize, t: u32) -> bool
-    requires { ⌜ i ≤ mostTasks ⌝ }
-    ensures { λ r. ⌜ r ≡ holds (point (taskLoad (now (tasks .entry))) i) (taskLoad (now (tasks .entry)))
-        (leastFor own (now (plan .entry)) (now (tasks .entry)) i) i t ⌝ }
+fn point_fits(curve: &[u32], asks: &[u32], c: u16, d: usize, t: usize) -> bool
+    requires { ⌜ (1 ≤ t) × (t ≤ d) × (d < length (now curve)) × (d < length (now asks)) ⌝ }
+    ensures { λ r. ⌜ r ≡ pointFits (now (curve .entry)) (now (asks .entry)) c d t ⌝ }
 {
-    if point(tasks, i, t) {
-        return fits(plan, tasks, i, t);
+    if point_at(asks, d, t) {
+        return fits(curve, asks, c, t);
     }
     false
+}
+
+// By the lists: the smallest scheduling point that holds, of a task with budget c and deadline d, or one past the deadline.
+pub fn point_in(curve: &[u32], asks: &[u32], c: u16, d: u16) -> usize
+    requires { ⌜ (d < length (now curve)) × (d < length (now asks)) ⌝ }
+    ensures { λ r. ⌜ r ≡ first (pointFits (now (curve .entry)) (now (asks .entry)) c d) (d + 1) ⌝ }
+{
+    let end = wide(d);
+    let mut t = 1;
+    while t <= end {
+        if point_fits(curve, asks, c, end, t) {
+            return t;
+        }
+        t += 1;
+    }
+    end + 1
 }
 
 // The smallest scheduling point that holds, or one past the deadline.
 pub fn first_point(plan: &[u16], tasks: &[u16], i: usize) -> usize
-    requires { ⌜ i ≤ mostTasks ⌝ }
+    requires { ⌜ Judgeable (now tasks) i ⌝ }
     ensures { λ r. ⌜ r ≡ taskPoint own (now (plan .entry)) (now (tasks .entry)) i ⌝ }
 {
-    let end = (rules::records::deadline(tasks, i) as u32) + 1;
-    let mut t = 0;
-    while t < end {
-        if point_fits(plan, tasks, i, t) {
-            return t as usize;
-        }
-        t += 1;
-    }
-    end as usize
+    let mut curve = [0u32; TICKS];
+    let mut asks = [0u32; TICKS];
+    draw_task(plan, tasks, i, &mut curve, &mut asks);
+    let c = rules::records::budget(tasks, i);
+    let d = rules::records::deadline(tasks, i);
+    point_in(&curve, &asks, c, d)
 }

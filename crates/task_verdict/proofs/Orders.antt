@@ -7,8 +7,7 @@ use native.Mathlib.Omega.{arith}
 use lib.Dec.{leb}
 use lib.ListN.{length}
 use borrow.Author.Tests.{lt-leb, le-leb, leb-true}
-use Rattle.rules.specs.Limits.{mostTasks}
-use Rattle.rules.specs.Table.{tasks, deadline}
+use Rattle.rules.specs.Table.{partitions, tasks, deadline}
 use Rattle.rules.proofs.Tests.{pick-first, and-parts}
 use Rattle.tables.specs.Tables.{tablesOf, GoodTables}
 use Rattle.rules.specs.declared.Refusal.{Refusal}
@@ -17,6 +16,8 @@ use Rattle.tables.proofs.Chain.{within, not-good, without-tasks, unless-given, 
 use Rattle.rules.specs.declared.Finding.{Finding}
 use Rattle.rules.specs.declared.Finding.the-variants as found
 use Rattle.plan_check.specs.Check.{planCheckOf, checkOf}
+use Rattle.task_demand.specs.Contracts.{Judgeable}
+use Rattle.task_demand.proofs.Lists.{judgeable}
 use Rattle.task_verdict.specs.declared.Judged.{Judged}
 use Rattle.task_verdict.specs.declared.Judged.the-variants.{Pass, Fail, Refused}
 use Rattle.task_verdict.specs.Verdict.{placeOf, answerableOf, passAt, verdictBy}
@@ -82,10 +83,10 @@ module _ (plan ps ts : List ℕ) (place : ℕ) where
   pub place-from-1 : answerableOf plan ps ts place ≡ found.Good → 1 ≤ place
   place-from-1 e = answerable e .from-1
 
-  pub few-places : answerableOf plan ps ts place ≡ found.Good → place - 1 ≤ mostTasks
-  few-places e =
+  pub place-judgeable : answerableOf plan ps ts place ≡ found.Good → Judgeable ts (place - 1)
+  place-judgeable e =
       let a = answerable e in
-      omega (arith, a .listed, within (length plan) (length ps) (length ts) (a .good .limits) .few-tasks)
+      judgeable ts (partitions ps) (place - 1) (within (length plan) (length ps) (length ts) (a .good .limits) .few-tasks) (a .good .tasks) (omega (arith, a .from-1, a .listed))
 
   -- either engine's answer
   module _ (engine : List ℕ → List ℕ → ℕ → ℕ) where

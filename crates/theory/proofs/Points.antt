@@ -2,16 +2,17 @@
 use mathlib.Core.Path.{_≡_, refl, sym, _∙_}
 use mathlib.Core.Logic.{_⊎_, inl, inr, _↔_}
 use mathlib.Core.Bool.{Bool, true, false, true≢false, _&&_, _||_}
-use Prim.Native.Nat.{ℕ, zero, suc, _+_, _-_, _%_, _≤_, _<_}
-use native.Mathlib.Nat.{mul-le-mul-left}
+use Prim.Native.Nat.{ℕ, zero, suc, _+_, _-_, _*_, _%_, _≤_, _<_}
+use native.Mathlib.Nat.{mul-le-mul-left, mul-suc}
+use native.Mathlib.Numerals.{add-one}
 use native.Mathlib.Omega.{arith}
-use lib.Dec.{T, eqb, leb}
-use borrow.Author.Tests.{leb-true, leb-false, le-leb, eq-eqb}
-use Rattle.rules.specs.Walk.{some}
-use Rattle.rules.proofs.First.{first-le, first-at, first-upto, some-at}
-use Rattle.rules.proofs.Sum.{only-le, sum-le}
-use Rattle.rules.proofs.Round.{round-suc}
-use Rattle.rules.proofs.Tests.{of-T, and-parts, and-intro, or-left, or-right, any-or-none}
+use lib.Dec.{T, eqb, ltb, leb}
+use borrow.Author.Tests.{leb-true, leb-false, le-leb, lt-ltb, le-ltb, eq-eqb, eqb-true}
+use Rattle.rules.specs.Walk.{only, some, sum, roundUp}
+use Rattle.rules.proofs.First.{first-le, first-at, first-upto, first-none, some-at, some-done}
+use Rattle.rules.proofs.Sum.{only-le, sum-le, sum-lt}
+use Rattle.rules.proofs.Round.{round-mono, round-multiple, round-due, round-suc}
+use Rattle.rules.proofs.Tests.{to-T, of-T, and-parts, and-intro, or-left, or-right, any-or-none}
 use Rattle.theory.specs.Load.{Load, asked, demand, lastPoint, Passes, multiple, point, holds, earliest, firstPoint, firstTick}
 use Rattle.theory.specs.Theorems.{PointSmallest, TickSmallest, TickAtMostPoint}
 use Rattle.theory.specs.Generality.{LoadPoints}
@@ -96,15 +97,15 @@ tick-at-most-point L low i = at (leb (firstPoint L low i) (lastPoint L i)) refl
         tick-upto L low i (firstPoint L low i) (point-range L i (firstPoint L low i) (a .0) .0) (a .1)
     at false e = omega (arith, leb-false (firstPoint L low i) (lastPoint L i) e, earliest-range (leb 1) L low i)
 
--- ---- and a pass has one
+-- ---- demand rises exactly behind a multiple
 
-module _ (L : Load) (low : ℕ → ℕ) (grows : (t : ℕ) → low t ≤ low (suc t)) (i : ℕ) (periods : (j : ℕ) → j < i → T (L .rival i j) → 0 < L .period j) where
+module _ (L : Load) (i : ℕ) (periods : (j : ℕ) → j < i → T (L .rival i j) → 0 < L .period j) where
   no-multiple : (t j : ℕ) → multiple L i t j ≡ false → T (L .rival i j) → ¬ ((t + L .jitter j) % L .period j ≡ 0)
   unfolding multiple
   no-multiple t j e b z =
       true≢false (sym (and-intro (L .rival i j) (eqb ((t + L .jitter j) % L .period j) 0) (of-T (L .rival i j) b) (eq-eqb ((t + L .jitter j) % L .period j) 0 z)) ∙ e)
 
-  -- demand rises only behind a multiple
+  -- it rises only behind one
   demand-suc : (t : ℕ) → ((j : ℕ) → j < i → multiple L i t j ≡ false) → demand L i (suc t) ≤ demand L i t
   unfolding demand asked
   demand-suc t none =
@@ -116,6 +117,36 @@ module _ (L : Load) (low : ℕ → ℕ) (grows : (t : ℕ) → low t ≤ low (su
             mul-le-mul-left (L .cost j) (rw e (round-suc (t + L .jitter j) (L .period j) (periods j l b) (no-multiple t j (none j l) b))))),
       )
 
+  -- a rival asks no less of more ticks
+  asked-grows : (t j : ℕ) → j < i → asked L i t j ≤ asked L i (suc t) j
+  unfolding asked
+  asked-grows t j l = only-le (L .rival i j) _ _ (λ b. mul-le-mul-left (L .cost j) (round-mono (t + L .jitter j) (suc t + L .jitter j) (L .period j) (periods j l b) (omega arith)))
+
+  -- and more, behind a multiple of its period
+  asked-more : (t j : ℕ) → j < i → 0 < L .cost j → multiple L i t j ≡ true → asked L i t j < asked L i (suc t) j
+  unfolding asked multiple only
+  asked-more t j l c e =
+      let a = and-parts (L .rival i j) (eqb ((t + L .jitter j) % L .period j) 0) e in
+      let h = periods j l (to-T (L .rival i j) (a .0)) in
+      let x = t + L .jitter j in
+      let z : suc t + L .jitter j ≡ suc x = omega arith in
+      let r : roundUp (suc x) (L .period j) ≡ roundUp x (L .period j) + 1 = round-due x (L .period j) h (round-multiple x (L .period j) h (eqb-true _ _ (a .1))) in
+      let m : L .cost j * (roundUp x (L .period j) + 1) ≡ L .cost j * roundUp x (L .period j) + L .cost j = rw (add-one (roundUp x (L .period j))) (mul-suc (L .cost j) (roundUp x (L .period j))) in
+      rw (a .0, z, r) (omega (arith, m))
+
+  pub demand-rises : ((j : ℕ) → j < i → 0 < L .cost j) → (t : ℕ) → some (multiple L i t) i ≡ ltb (demand L i t) (demand L i (suc t))
+  unfolding demand
+  demand-rises costs t = go (any-or-none (multiple L i t) i)
+    where
+      go : ((j : ℕ) × (j < i) × (multiple L i t j ≡ true)) ⊎ ((j : ℕ) → j < i → multiple L i t j ≡ false) → some (multiple L i t) i ≡ ltb (demand L i t) (demand L i (suc t))
+      go (inl (j, h, m)) =
+          let s : sum (asked L i t) i < sum (asked L i (suc t)) i = sum-lt i (asked L i t) (asked L i (suc t)) (asked-grows t) j h (asked-more t j h (costs j h) m) in
+          some-at (multiple L i t) i j h m ∙ sym (lt-ltb (demand L i t) (demand L i (suc t)) (omega arith))
+      go (inr none) = some-done (multiple L i t) i i (omega arith) (omega arith) (first-none (multiple L i t) i none) ∙ sym (le-ltb (demand L i t) (demand L i (suc t)) (demand-suc t none))
+
+-- ---- and a pass has one
+
+module _ (L : Load) (low : ℕ → ℕ) (grows : (t : ℕ) → low t ≤ low (suc t)) (i : ℕ) (periods : (j : ℕ) → j < i → T (L .rival i j) → 0 < L .period j) where
   -- from t that holds up to the next point
   up : (g t : ℕ) → t + g ≡ lastPoint L i → 1 ≤ t → demand L i t ≤ low t → firstPoint L low i ≤ lastPoint L i
   up zero t e l d =
@@ -125,7 +156,7 @@ module _ (L : Load) (low : ℕ → ℕ) (grows : (t : ℕ) → low t ≤ low (su
     where
       go : (demand L i (suc t) ≤ low (suc t) → firstPoint L low i ≤ lastPoint L i) → ((j : ℕ) × (j < i) × (multiple L i t j ≡ true)) ⊎ ((j : ℕ) → j < i → multiple L i t j ≡ false) → firstPoint L low i ≤ lastPoint L i
       go ih (inl (j, h, m)) = omega (arith, earliest-upto (point L i) L low i t (point-multiple L i t j l (omega arith) h m) d)
-      go ih (inr none) = ih (omega (arith, demand-suc t none, grows t))
+      go ih (inr none) = ih (omega (arith, demand-suc L i periods t none, grows t))
 
 pub load-points : LoadPoints
 load-points L low grows i periods = (λ (t, l, u, d). up L low grows i periods (lastPoint L i - t) t (omega arith) l d, point-passes L low i)

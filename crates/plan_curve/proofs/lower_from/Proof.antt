@@ -74,7 +74,7 @@ loop-again c =
       c .after .ensures .0,
       place-after _ _ _ _ _ (l .inv .4) (c .after .ensures .1),
       held-turn _ _ _ _ _ _ _ (l .inv .4) (l .inv .5) (c .before .own-at .ensures .1),
-      lower-turn own _ _ _ _ _ _ _ _ _ (l .inv .6) (search needs) (l .inv .5) (c .before .before .smaller .ensures ∙ ap₂ min (c .before .before .before .wide32 .ensures) refl) refl,
+      lower-turn own _ _ _ _ _ _ _ _ _ (l .inv .6) (search needs) (l .inv .5) (c .before .before .smaller .ensures ∙ ap₂ min (c .before .before .before .wide32 .ensures .1) refl) refl,
     )
 
 same-length : tie.Need-same-length Inv-loop μ-loop

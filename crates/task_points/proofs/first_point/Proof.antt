@@ -1,71 +1,49 @@
-use Prim.Native.Nat.{_≤_, _-_}
-use mathlib.Core.Path.{_≡_, sym, _∙_}
-use Rattle.rules.specs.Walk.{first}
-use Rattle.rules.proofs.First.{first-zero, first-more}
-use Rattle.theory.specs.Load.{point}
-use Rattle.theory.specs.Task.{taskLoad}
-use Rattle.theory.proofs.Search.{test, search-found, search-done}
+use Prim.Native.Nat.{_+_}
+use mathlib.Core.Path.{_∙_}
+use Rattle.rules.specs.Limits.{longest}
+use Rattle.task_demand.proofs.Asking.{zeros-all}
+use Rattle.task_points.proofs.Points.{point-is}
 use borrow.Author.Needs.{needs}
 use Rattle.task_points.proofs.first_point.Statement.{statement}
 use Rattle.task_points.proofs.first_point.Tie as tie
 
-abbrev Inv-loop : tie.InvT-loop
-Inv-loop plan tasks i end t₀ t = (t ≤ end) × (first (test (point (taskLoad tasks) i) plan tasks i) t ≡ t)
+slice-aggregate-draw-task : tie.Need-slice-aggregate-draw-task
+slice-aggregate-draw-task c = search needs
 
-abbrev μ-loop : tie.MeasureT-loop
-μ-loop plan tasks i end t₀ t = end - t
+slice-aggregate-draw-task-2 : tie.Need-slice-aggregate-draw-task-2
+slice-aggregate-draw-task-2 c = search needs
 
-deadline-requires : tie.Need-deadline-requires Inv-loop μ-loop
+draw-task-requires : tie.Need-draw-task-requires
+draw-task-requires c κs = (search needs, zeros-all (longest + 1), search needs, search needs)
+
+budget-requires : tie.Need-budget-requires
+budget-requires c κs = search needs
+
+deadline-requires : tie.Need-deadline-requires
 deadline-requires c κs = search needs
 
-cast-end : tie.Need-cast-end Inv-loop μ-loop
-cast-end c = search needs
+slice-aggregate-point-in : tie.Need-slice-aggregate-point-in
+slice-aggregate-point-in c = search needs
 
-add-end : tie.Need-add-end Inv-loop μ-loop
-add-end c = search needs
+slice-aggregate-point-in-2 : tie.Need-slice-aggregate-point-in-2
+slice-aggregate-point-in-2 c = search needs
 
-loop-holds : tie.Need-loop-holds Inv-loop μ-loop
-loop-holds c = (search needs, first-zero _)
+point-in-requires : tie.Need-point-in-requires
+point-in-requires c κs = search needs
 
-point-fits-requires : tie.Need-point-fits-requires Inv-loop μ-loop
-point-fits-requires c κs = search needs
-
-cast-result : tie.Need-cast-result Inv-loop μ-loop
-cast-result c = search needs
-
-returns : tie.Need-returns Inv-loop μ-loop
-returns c = search-found _ _ _ _ _ (c .before .before .before .before .deadline .ensures) _ (search needs) (c .before .before .before .loop .inv .1) (sym (c .before .point-fits .ensures) ∙ c .if1 .taken)
-
-add-t : tie.Need-add-t Inv-loop μ-loop
-add-t c = search needs
-
-loop-less : tie.Need-loop-less Inv-loop μ-loop
-loop-less c = search needs
-
-loop-again : tie.Need-loop-again Inv-loop μ-loop
-loop-again c = (search needs, first-more _ _ (c .before .before .before .loop .inv .1) (sym (c .before .point-fits .ensures) ∙ c .if1 .left))
-
-cast-result-2 : tie.Need-cast-result-2 Inv-loop μ-loop
-cast-result-2 c = search needs
-
-returns-2 : tie.Need-returns-2 Inv-loop μ-loop
-returns-2 c = search-done _ _ _ _ _ (c .before .before .deadline .ensures) _ (c .before .loop .inv .0) (search needs) (c .before .loop .inv .1)
+returns : tie.Need-returns
+returns c = c .point-in .ensures ∙ point-is _ _ _ _ _ (c .before .before .before .before .before .before .before .before .before .before .before .before .pre) (c .before .before .before .before .before .before .before .draw-task .ensures) _ _ (c .before .before .before .before .budget .ensures) (c .before .before .before .deadline .ensures)
 
 pub first-point-spec : {M : Type 1} → statement M
 first-point-spec =
     tie.close
     (tie.spec
-    Inv-loop
-    μ-loop
+    slice-aggregate-draw-task
+    slice-aggregate-draw-task-2
+    draw-task-requires
+    budget-requires
     deadline-requires
-    cast-end
-    add-end
-    loop-holds
-    point-fits-requires
-    cast-result
-    returns
-    add-t
-    loop-less
-    loop-again
-    cast-result-2
-    returns-2)
+    slice-aggregate-point-in
+    slice-aggregate-point-in-2
+    point-in-requires
+    returns)

@@ -1,22 +1,20 @@
 use mathlib.Core.Path.{sym, _∙_}
-use Rattle.theory.specs.Load.{holds}
+use Rattle.task_points.proofs.Points.{point-fits, no-point}
 use borrow.Author.Needs.{needs}
 use Rattle.task_points.proofs.point_fits.Statement.{statement}
 use Rattle.task_points.proofs.point_fits.Tie as tie
 
-point-requires : tie.Need-point-requires
-point-requires c κs = search needs
+point-at-requires : tie.Need-point-at-requires
+point-at-requires c κs = search needs
 
 fits-requires : tie.Need-fits-requires
 fits-requires c κs = search needs
 
 returns : tie.Need-returns
-unfolding holds
-returns c = rw (sym (c .before .before .point .ensures) ∙ c .before .if1 .taken) (c .fits2 .ensures)
+returns c = point-fits _ _ _ _ _ _ (c .before .before .before .before .before .pre .0) (sym (c .before .before .point-at .ensures) ∙ c .before .if1 .taken) (c .fits2 .ensures)
 
 returns-2 : tie.Need-returns-2
-unfolding holds
-returns-2 c = rw (sym (c .before .point .ensures) ∙ c .if1 .left)
+returns-2 c = no-point _ _ _ _ _ (c .before .before .before .before .pre .0) (sym (c .before .point-at .ensures) ∙ c .if1 .left)
 
 pub point-fits-spec : {M : Type 1} → statement M
-point-fits-spec = tie.close (tie.spec point-requires fits-requires returns returns-2)
+point-fits-spec = tie.close (tie.spec point-at-requires fits-requires returns returns-2)

@@ -1,5 +1,5 @@
 use mathlib.Core.Path.{sym, _∙_}
-use Rattle.task_verdict.proofs.Orders.{place-from-1, few-places, judged-refused, judged-task}
+use Rattle.task_verdict.proofs.Orders.{place-from-1, place-judgeable, judged-refused, judged-task}
 use borrow.Author.Needs.{needs}
 use Rattle.task_verdict.proofs.plain.Statement.{statement}
 use Rattle.task_verdict.proofs.plain.Tie as tie
@@ -17,7 +17,7 @@ sub-first-tick : tie.Need-sub-first-tick
 sub-first-tick c = place-from-1 _ _ _ _ (sym (c .before .before .answerable .ensures) ∙ c .enum-told .given .1)
 
 first-tick-requires : tie.Need-first-tick-requires
-first-tick-requires c κs = few-places _ _ _ _ (sym (c .before .before .answerable .ensures) ∙ c .enum-told .given .1)
+first-tick-requires c κs = place-judgeable _ _ _ _ (sym (c .before .before .answerable .ensures) ∙ c .enum-told .given .1)
 
 sub-deadline : tie.Need-sub-deadline
 sub-deadline c = place-from-1 _ _ _ _ (sym (c .before .before .before .answerable .ensures) ∙ c .before .enum-told .given .1)

@@ -1,5 +1,5 @@
 use mathlib.Core.Path.{sym, _∙_}
-use Rattle.task_verdict.proofs.Orders.{place-from-1, few-places, judged-refused, judged-task}
+use Rattle.task_verdict.proofs.Orders.{place-from-1, place-judgeable, judged-refused, judged-task}
 use borrow.Author.Needs.{needs}
 use Rattle.task_verdict.proofs.verdict.Statement.{statement}
 use Rattle.task_verdict.proofs.verdict.Tie as tie
@@ -17,7 +17,7 @@ sub-first-point : tie.Need-sub-first-point
 sub-first-point c = place-from-1 _ _ _ _ (sym (c .before .before .answerable .ensures) ∙ c .enum-told .given .1)
 
 first-point-requires : tie.Need-first-point-requires
-first-point-requires c κs = few-places _ _ _ _ (sym (c .before .before .answerable .ensures) ∙ c .enum-told .given .1)
+first-point-requires c κs = place-judgeable _ _ _ _ (sym (c .before .before .answerable .ensures) ∙ c .enum-told .given .1)
 
 sub-deadline : tie.Need-sub-deadline
 sub-deadline c = place-from-1 _ _ _ _ (sym (c .before .before .before .answerable .ensures) ∙ c .before .enum-told .given .1)
