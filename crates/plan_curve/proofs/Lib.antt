@@ -1,3 +1,4 @@
 pub mod Worst
 pub mod Lowered
+pub mod Rounds
 pub mod Answers

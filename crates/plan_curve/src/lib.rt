@@ -1,12 +1,13 @@
 // The curve of least service: least(0) .. least(n) of one partition, worked out together. A worst stretch can be taken to
 // start right behind one of the partition's runs, so each of these starts is walked once, for all lengths.
 ghost use mathlib.Core.Path.{_≡_};
+ghost use mathlib.Core.Bool.{true};
 ghost use Prim.Native.Nat.{_^_, _≤_, _<_};
 ghost use lib.ListN.{length};
 ghost use Rattle.rules.specs.Contracts.{AsNamed};
 ghost use Rattle.theory.specs.Plan.{own, least};
 ghost use Rattle.plan_curve.specs.Curve.{curveOf, DrawsCurve};
-ghost use Rattle.plan_curve.specs.Contracts.{behindRun, most, lowerAt, lowerFrom};
+ghost use Rattle.plan_curve.specs.Contracts.{behindRun, most, lowerAt, lowerFrom, Repeats};
 use plan_service::own_at;
 use rules::Filling;
 use rules::Refusal;
@@ -80,8 +81,8 @@ fn lower_at(plan: &[u16], p: usize, s: usize, list: &mut [u32], n: usize)
     }
 }
 
-// least(0) .. least(n - 1), into the first n numbers of the list.
-pub fn draw(plan: &[u16], p: usize, list: &mut [u32], n: usize)
+// Of a plan as it stands: least(0) .. least(n - 1), into the first n numbers of the list.
+fn draw_frame(plan: &[u16], p: usize, list: &mut [u32], n: usize)
     requires { ⌜ (n ≤ 2 ^ 32) × (n ≤ length (now list)) ⌝ }
     ensures { λ _. ⌜ AsNamed (least own (now (plan .entry)) p) n (now (list .entry)) (now (list .exit)) ⌝ }
 {
@@ -92,6 +93,51 @@ pub fn draw(plan: &[u16], p: usize, list: &mut [u32], n: usize)
         lower_at(plan, p, s, list, n);
         s += 1;
     }
+}
+
+// Whether p's ticks repeat after m ticks, as often as these go into the frame.
+fn repeats(plan: &[u16], p: usize, m: usize) -> bool
+    requires { ⌜ (0 < m) × (m ≤ length (now plan)) ⌝ }
+    ensures { λ r. ⌜ (r ≡ true → Repeats own (now (plan .entry)) p m) ⌝ }
+{
+    if plan.len() % m != 0 {
+        return false;
+    }
+    let end = plan.len() - m;
+    let mut k = 0;
+    while k < end {
+        if own_at(plan, p, k + m) != own_at(plan, p, k) {
+            return false;
+        }
+        k += 1;
+    }
+    true
+}
+
+// The fewest ticks after which p's repeat: the frame itself at most.
+fn shortest(plan: &[u16], p: usize) -> usize
+    ensures { λ r. ⌜ (r ≤ length (now (plan .entry))) × Repeats own (now (plan .entry)) p r ⌝ }
+{
+    let f = plan.len();
+    let half = f / 2;
+    let mut m = 1;
+    while m <= half {
+        if repeats(plan, p, m) {
+            return m;
+        }
+        m += 1;
+    }
+    f
+}
+
+// least(0) .. least(n - 1), into the first n numbers of the list: of as many ticks as p's repeat after, for that plan has
+// the same curve.
+pub fn draw(plan: &[u16], p: usize, list: &mut [u32], n: usize)
+    requires { ⌜ (n ≤ 2 ^ 32) × (n ≤ length (now list)) ⌝ }
+    ensures { λ _. ⌜ AsNamed (least own (now (plan .entry)) p) n (now (list .entry)) (now (list .exit)) ⌝ }
+{
+    let m = shortest(plan, p);
+    draw_frame(&plan[..m], p, list, n);
 }
 
 // least(0) .. least(n) of partition p, at the start of the list.

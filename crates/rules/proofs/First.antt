@@ -28,6 +28,11 @@ pub gathered-more : (f : ℕ → List ℕ) (i : ℕ) → gathered f (i + 1) ≡ 
 unfolding gathered
 gathered-more f i = rw add-one
 
+pub gathered-ext : (n : ℕ) (f g : ℕ → List ℕ) → ((k : ℕ) → k < n → f k ≡ g k) → gathered f n ≡ gathered g n
+unfolding gathered
+gathered-ext zero f g h = refl
+gathered-ext (suc n) f g h = rw (gathered-ext n f g (λ k l. h k (omega arith)), h n (omega arith))
+
 module _ (p : ℕ → Bool) where
   pub first-zero : first p 0 ≡ 0
   unfolding first

@@ -20,6 +20,7 @@ use Rattle.rules.proofs.Tests.{good-times}
 use Rattle.theory.specs.Plan.{own, least}
 use Rattle.theory.specs.Task.{taskPoint, taskTick}
 use Rattle.task_demand.specs.Contracts.{allAsked, InOrder, Judgeable, Drawn}
+use Rattle.task_demand.proofs.Lists.{in-order}
 use Rattle.task_all.specs.Contracts.{deadlineIn, marked, judgedIn, JudgedIn, JudgeableAll}
 
 -- ---- one task more
@@ -150,10 +151,4 @@ module _ (ts : List ℕ) (found : ℕ → ℕ) where
         named-as _ _ (tasks ts) before after (λ j h. rw (e, le-leb (partition ts j) parts (in-table j h .1))) w
 
 pub all-judgeable : (ts : List ℕ) (parts : ℕ) → tasks ts ≤ mostTasks → Every (goodTask parts ts) (tasks ts) → JudgeableAll ts
-all-judgeable ts parts few good =
-    record {
-      few = few;
-      in-order = λ j l.
-      let g = good-times parts (partition ts j) (budget ts j) (deadline ts j) (period ts j) (good j l) in
-      record { some = g .2; in-time = g .3; in-period = g .4; short = g .5 };
-    }
+all-judgeable ts parts few good = record { few = few; in-order = λ j l. in-order ts parts j (good j l) }

@@ -2,6 +2,7 @@
 use Prim.Native.Nat.{ℕ, _+_, _≤_, _<_}
 use mathlib.Core.Path.{_≡_, sym, ap, _∙_}
 use mathlib.Core.Logic.{_⊎_, inl, inr}
+use mathlib.Core.Bool.{true}
 use mathlib.Core.List.{List}
 use native.Mathlib.Numerals.{add-one}
 use native.Mathlib.Omega.{arith}
@@ -22,15 +23,15 @@ use Rattle.theory.proofs.Tasks.{task-asked, task-demand}
 use Rattle.theory.proofs.Points.{demand-rises}
 use Rattle.task_demand.specs.Contracts.{asksOf, allAsked, InOrder, Judgeable, fitsAt, Drawn}
 
+-- "1 ≤ C ≤ D ≤ T ≤ 4,096" of a good task
+pub in-order : (ts : List ℕ) (parts j : ℕ) → goodTask parts ts j ≡ true → InOrder ts j
+in-order ts parts j e =
+    let g = good-times parts (partition ts j) (budget ts j) (deadline ts j) (period ts j) e in
+    record { some = g .2; in-time = g .3; in-period = g .4; short = g .5 }
+
 -- a table without a bad record
 pub judgeable : (ts : List ℕ) (parts i : ℕ) → tasks ts ≤ mostTasks → Every (goodTask parts ts) (tasks ts) → i < tasks ts → Judgeable ts i
-judgeable ts parts i few good l =
-    record {
-      few = omega arith;
-      in-order = λ j h.
-      let g = good-times parts (partition ts j) (budget ts j) (deadline ts j) (period ts j) (good j (omega arith)) in
-      record { some = g .2; in-time = g .3; in-period = g .4; short = g .5 };
-    }
+judgeable ts parts i few good l = record { few = omega arith; in-order = λ j h. in-order ts parts j (good j (omega arith)) }
 
 -- both lists, from what each pass leaves
 pub drawn : (plan ts : List ℕ) (i p n : ℕ) (c₀ curve a₀ asks : List ℕ) → p ≡ partition ts i → n ≡ deadline ts i + 1 → n ≤ length c₀ → n ≤ length a₀

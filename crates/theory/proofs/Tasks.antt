@@ -2,7 +2,7 @@
 use mathlib.Core.Path.{_≡_, refl, sym, ap, _∙_, subst}
 use mathlib.Core.Bool.{Bool, _&&_, _||_}
 use mathlib.Core.List.{List}
-use Prim.Native.Nat.{ℕ, suc, _+_, _*_, _%_, _≤_, _<_}
+use Prim.Native.Nat.{ℕ, suc, _+_, _*_, _≤_, _<_}
 use native.Mathlib.Nat.{add-zero, add-assoc}
 use native.Mathlib.Omega.{arith}
 use lib.Dec.{T, eqb, leb, eqb→eq, eqb-refl}
@@ -38,10 +38,6 @@ module _ (ts : List ℕ) (i : ℕ) where
   pub task-demand : (t : ℕ) → demand (taskLoad ts) i t ≡ budget ts i + sum (asked (taskLoad ts) i t) i
   unfolding demand taskLoad
   task-demand t = refl
-
-  pub task-multiple : (t j : ℕ) → multiple (taskLoad ts) i t j ≡ (rival ts i j && eqb (t % period ts j) 0)
-  unfolding multiple taskLoad
-  task-multiple t j = ap (λ (x : ℕ). rival ts i j && eqb (x % period ts j) 0) (add-zero t)
 
   pub task-point : (t : ℕ) → point (taskLoad ts) i t ≡ (leb 1 t && leb t (deadline ts i) && (eqb t (deadline ts i) || some (multiple (taskLoad ts) i t) i))
   unfolding point
