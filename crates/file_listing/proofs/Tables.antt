@@ -77,7 +77,7 @@ module _ (b : List ℕ) (frame np nt nr : ℕ) (e : readOf b ≡ Contents frame 
       let c : Reading = Contents frame np nt nr in
       let s = sizes frame (tableBy c b Partitions) (tableBy c b Tasks) (tableBy c b Runs) (a .good) in
       record {
-        few-records = (rw e (s .parts-high), rw e (s .tasks-high));
+        records = record { few-parts = rw e (s .parts-high); few-tasks = rw e (s .tasks-high); good = fit .good .tasks };
         few = rw e (omega (arith, s .runs-whole, s .runs-high));
         in-frame = s .frame-high;
         ticks = fit .ticks;

@@ -6,11 +6,11 @@ use lib.ListN.{length}
 use Rattle.rules.specs.Limits.{longest, runWidth}
 use Rattle.plan_check.specs.Check.{scanOf, checkOf}
 use Rattle.file_runs.specs.Ticks.{ticksOf}
-use Rattle.file_page.specs.Contracts.{FewRecords}
+use Rattle.file_page.specs.Contracts.{GoodRecords}
 
 -- the tables of a file that was read: of its plan only 9 is still to be judged
 pub record Listable (frame : ℕ) (ps ts rs : List ℕ) : Type 0 where
-  pub few-records : FewRecords ps ts
+  pub records : GoodRecords ps ts
   pub few : length rs ≤ runWidth * longest
   pub in-frame : frame ≤ longest
   pub ticks : length (ticksOf rs) ≡ frame

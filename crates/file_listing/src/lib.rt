@@ -20,12 +20,12 @@ ghost use Rattle.plan_check.specs.Check.{scanOf, checkOf};
 ghost use Rattle.file_runs.specs.Ticks.{ticksOf};
 ghost use Rattle.output.specs.Put.{Put};
 ghost use Rattle.file_listing.specs.Listing.{tablesLines, listingOf, Lists};
-ghost use Rattle.file_page.specs.Contracts.{FewRecords};
+ghost use Rattle.file_page.specs.Contracts.{GoodRecords};
 ghost use Rattle.file_listing.specs.Contracts.{Listable};
 
 // The file's tables are judged already: of the plan only 9 is left.
 fn put_checked(frame: usize, plan: &[u16], parts: &[u16], table: &[u16], out: &mut [u8]) -> usize
-    requires { ⌜ FewRecords (now parts) (now table) ⌝ }
+    requires { ⌜ GoodRecords (now parts) (now table) ⌝ }
     requires { ⌜ checkOf (now plan) (now parts) ≡ scanOf (now plan) (now parts) ⌝ }
     ensures { λ r. ⌜ Put (now (out .entry)) 0
         (tablesLines frame (now (plan .entry)) (now (parts .entry)) (now (table .entry))) r (now (out .exit))

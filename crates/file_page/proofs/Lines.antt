@@ -2,16 +2,19 @@
 use Prim.Native.Nat.{ℕ, _+_, _≤_, _<_}
 use mathlib.Core.Path.{_≡_}
 use mathlib.Core.List.{List}
+use lib.ListN.{getD}
 use borrow.Author.Tests.{le-leb, lt-leb}
 use Rattle.output.specs.Put.{Put}
 use Rattle.output.proofs.Put.{put-none, and-then}
-use Rattle.rules.specs.Table.{cycle, wanted, partition, deadline}
+use Rattle.rules.specs.Table.{cycle, wanted, partition, deadline, tasks}
 use Rattle.theory.specs.Plan.{own, least}
 use Rattle.theory.specs.Task.{taskPoint, taskTick}
 use Rattle.file_lines.specs.Lines.{partitionLine, passLine, failLine}
 use Rattle.rules.specs.Walk.{gathered}
-use Rattle.rules.proofs.First.{gathered-zero, gathered-more}
+use Rattle.rules.specs.Contracts.{AsNamed}
+use Rattle.rules.proofs.First.{gathered-zero, gathered-more, gathered-ext}
 use Rattle.file_page.specs.Page.{partLine, taskLine}
+use Rattle.file_page.specs.Contracts.{lineBy}
 
 pub lines-none : (f : ℕ → List ℕ) (l : List ℕ) (i : ℕ) → Put l i (gathered f 0) i l
 lines-none f l i = rw (gathered-zero f) (put-none l i)
@@ -24,12 +27,18 @@ pub part-line : (plan ps : List ℕ) (k q m w l : ℕ) → q ≡ wanted ps k →
 unfolding partLine
 part-line plan ps k q m w l eq em ew el = rw (ew, el, eq, em)
 
--- a task's line, p and d being its partition and deadline, w and e the same widened
-module _ (plan ts : List ℕ) (j p w d e t : ℕ) (ep : p ≡ partition ts j) (ew : w ≡ p) (ed : d ≡ deadline ts j) (ee : e ≡ d) (et : t ≡ taskPoint own plan ts j) where
-  pub fail-line : e < t → failLine (j + 1) w ≡ taskLine plan ts j
-  unfolding taskLine
+-- a task's line, p and d being its partition and deadline, w and e the same widened, t its number in the list of points
+module _ (ts points ticks : List ℕ) (j p w d e t : ℕ) (ep : p ≡ partition ts j) (ew : w ≡ p) (ed : d ≡ deadline ts j) (ee : e ≡ d) (et : t ≡ getD points j 0) where
+  pub fail-line : e < t → failLine (j + 1) w ≡ lineBy ts points ticks j
+  unfolding lineBy
   fail-line h = rw (← et, ← ed, ← ee, lt-leb t e h, ← ep, ew)
 
-  pub pass-line : (u : ℕ) → t ≤ e → u ≡ taskTick own plan ts j → passLine (j + 1) w t u ≡ taskLine plan ts j
-  unfolding taskLine
-  pass-line u h eu = rw (← et, ← eu, ← ed, ← ee, le-leb t e h, ← ep, ew)
+  pub pass-line : t ≤ e → passLine (j + 1) w t (getD ticks j 0) ≡ lineBy ts points ticks j
+  unfolding lineBy
+  pass-line h = rw (← et, ← ed, ← ee, le-leb t e h, ← ep, ew)
+
+-- the lines by what was found for each task are the rules'
+pub lines-are : (plan ts p₀ points t₀ ticks : List ℕ) → AsNamed (taskPoint own plan ts) (tasks ts) p₀ points → AsNamed (taskTick own plan ts) (tasks ts) t₀ ticks
+    → gathered (lineBy ts points ticks) (tasks ts) ≡ gathered (taskLine plan ts) (tasks ts)
+unfolding lineBy taskLine
+lines-are plan ts p₀ points t₀ ticks v w = gathered-ext (tasks ts) _ _ (λ j l. rw (v .done j l, w .done j l))

@@ -1,16 +1,18 @@
 // The page of a plan that serves: lines put from a place on, as far as there is room; the answer is the place
 // behind them.
 ghost use Prim.Native.Nat.{_+_, _*_, _≤_, _<_, _^_};
+ghost use lib.ListN.{length};
 ghost use Rattle.rules.specs.Limits.{mostPartitions, mostTasks, longestLine, longestListing};
 ghost use Rattle.rules.specs.Walk.{gathered};
 ghost use Rattle.rules.specs.Table.{partitions, tasks};
 ghost use Rattle.output.specs.Put.{Put};
 ghost use Rattle.file_page.specs.Page.{partLine, taskLine, pageOf};
-ghost use Rattle.file_page.specs.Contracts.{FewRecords};
+ghost use Rattle.file_page.specs.Contracts.{GoodRecords, lineBy};
 use file_lines::put_fail;
 use file_lines::put_frame;
 use file_lines::put_partition;
 use file_lines::put_pass;
+use rules::limits::MOST_TASKS;
 
 fn put_part(plan: &[u16], parts: &[u16], k: usize, out: &mut [u8], at: usize) -> usize
     requires { ⌜ (k < mostPartitions) × (at < 2 ^ 40) ⌝ }
@@ -41,25 +43,26 @@ fn put_parts(plan: &[u16], parts: &[u16], out: &mut [u8], start: usize) -> usize
     at
 }
 
-fn put_task(plan: &[u16], table: &[u16], j: usize, out: &mut [u8], at: usize) -> usize
-    requires { ⌜ (j < mostTasks) × (at < 2 ^ 40) ⌝ }
+// A task's line, by the point and the tick that were found for it.
+fn put_task(table: &[u16], points: &[usize], ticks: &[usize], j: usize, out: &mut [u8], at: usize) -> usize
+    requires { ⌜ (j < mostTasks) × (at < 2 ^ 40) × (j < length (now points)) × (j < length (now ticks)) ⌝ }
     ensures { λ r. ⌜ Put (now (out .entry)) at
-        (taskLine (now (plan .entry)) (now (table .entry)) j) r (now (out .exit))
+        (lineBy (now (table .entry)) (now (points .entry)) (now (ticks .entry)) j) r (now (out .exit))
         × (r ≤ at + longestLine) ⌝ }
 {
     let partition = rules::numbers::wide(rules::records::partition(table, j));
-    let point = task_points::first_point(plan, table, j);
+    let point = points[j];
     if rules::numbers::wide(rules::records::deadline(table, j)) < point {
         return put_fail(out, at, j + 1, partition);
     }
-    let tick = task_plain::first_tick(plan, table, j);
-    put_pass(out, at, j + 1, partition, point, tick)
+    put_pass(out, at, j + 1, partition, point, ticks[j])
 }
 
-fn put_tasks(plan: &[u16], table: &[u16], out: &mut [u8], start: usize) -> usize
-    requires { ⌜ (tasks (now table) ≤ mostTasks) × (start < 2 ^ 32) ⌝ }
+fn put_lines(table: &[u16], points: &[usize], ticks: &[usize], out: &mut [u8], start: usize) -> usize
+    requires { ⌜ (tasks (now table) ≤ mostTasks) × (start < 2 ^ 32)
+        × (mostTasks ≤ length (now points)) × (mostTasks ≤ length (now ticks)) ⌝ }
     ensures { λ r. ⌜ Put (now (out .entry)) start
-        (gathered (taskLine (now (plan .entry)) (now (table .entry))) (tasks (now (table .entry))))
+        (gathered (lineBy (now (table .entry)) (now (points .entry)) (now (ticks .entry))) (tasks (now (table .entry))))
         r (now (out .exit))
         × (r ≤ start + mostTasks * longestLine) ⌝ }
 {
@@ -67,20 +70,35 @@ fn put_tasks(plan: &[u16], table: &[u16], out: &mut [u8], start: usize) -> usize
     let mut at = start;
     let mut j = 0;
     while j < n {
-        at = put_task(plan, table, j, out, at);
+        at = put_task(table, points, ticks, j, out, at);
         j += 1;
     }
     at
 }
 
+// The tasks' lines, in the table's order: all are judged first, partition by partition.
+fn put_tasks(plan: &[u16], parts: &[u16], table: &[u16], out: &mut [u8], start: usize) -> usize
+    requires { ⌜ GoodRecords (now parts) (now table) × (start < 2 ^ 32) ⌝ }
+    ensures { λ r. ⌜ Put (now (out .entry)) start
+        (gathered (taskLine (now (plan .entry)) (now (table .entry))) (tasks (now (table .entry))))
+        r (now (out .exit))
+        × (r ≤ start + mostTasks * longestLine) ⌝ }
+{
+    let mut points = [0usize; MOST_TASKS];
+    let mut ticks = [0usize; MOST_TASKS];
+    let n = rules::records::partitions(parts);
+    task_all::judge_all(plan, table, n as u16, &mut points, &mut ticks);
+    put_lines(table, &points, &ticks, out, start)
+}
+
 // The listing of a plan that serves: at most 1 + 16 + 128 lines.
 pub fn put_page(frame: usize, plan: &[u16], parts: &[u16], table: &[u16], out: &mut [u8]) -> usize
-    requires { ⌜ FewRecords (now parts) (now table) ⌝ }
+    requires { ⌜ GoodRecords (now parts) (now table) ⌝ }
     ensures { λ r. ⌜ Put (now (out .entry)) 0
         (pageOf frame (now (plan .entry)) (now (parts .entry)) (now (table .entry))) r (now (out .exit))
         × (r ≤ longestListing) ⌝ }
 {
     let a = put_frame(out, 0, frame);
     let b = put_parts(plan, parts, out, a);
-    put_tasks(plan, table, out, b)
+    put_tasks(plan, parts, table, out, b)
 }

@@ -1,3 +1,4 @@
+use mathlib.Core.Path.{refl}
 use Rattle.file_page.proofs.Lines.{fail-line, pass-line}
 use borrow.Author.Needs.{needs}
 use Rattle.file_page.proofs.put_task.Statement.{statement}
@@ -9,8 +10,11 @@ partition-requires c κs = search needs
 wide-requires : tie.Need-wide-requires
 wide-requires c κs = search needs
 
-first-point-requires : tie.Need-first-point-requires
-first-point-requires c κs = search needs
+mul-point : tie.Need-mul-point
+mul-point c = search needs
+
+shared-slice-read-point : tie.Need-shared-slice-read-point
+shared-slice-read-point c = search needs
 
 deadline-requires : tie.Need-deadline-requires
 deadline-requires c κs = search needs
@@ -28,13 +32,16 @@ same-length : tie.Need-same-length
 same-length c = search needs
 
 returns : tie.Need-returns
-returns c = (rw (← fail-line (c .before .before .before .before .before .before .before .before .before .before .before .before .before .args .plan .now) (c .before .before .before .before .before .before .before .before .before .before .before .before .before .args .table .now) (c .before .before .before .before .before .before .before .before .before .before .before .before .before .args .j) _ _ _ _ _ (c .before .before .before .before .before .before .before .before .before .partition .ensures) (c .before .before .before .before .before .before .before .before .wide .ensures) (c .before .before .before .before .before .before .deadline .ensures) (c .before .before .before .before .before .wide2 .ensures) (c .before .before .before .before .before .before .before .first-point .ensures) (search needs)) (c .before .before .put-fail .ensures .0), search needs)
-
-first-tick-requires : tie.Need-first-tick-requires
-first-tick-requires c κs = search needs
+returns c = (rw (← fail-line (c .before .before .before .before .before .before .before .before .before .before .before .before .before .before .args .table .now) (c .before .before .before .before .before .before .before .before .before .before .before .before .before .before .args .points .now) (c .before .before .before .before .before .before .before .before .before .before .before .before .before .before .args .ticks .now) (c .before .before .before .before .before .before .before .before .before .before .before .before .before .before .args .j) _ _ _ _ _ (c .before .before .before .before .before .before .before .before .before .partition .ensures) (c .before .before .before .before .before .before .before .before .wide .ensures) (c .before .before .before .before .before .before .deadline .ensures) (c .before .before .before .before .before .wide2 .ensures) refl (search needs)) (c .before .before .put-fail .ensures .0), search needs)
 
 add-put-pass : tie.Need-add-put-pass
 add-put-pass c = search needs
+
+mul-put-pass : tie.Need-mul-put-pass
+mul-put-pass c = search needs
+
+shared-slice-read-put-pass : tie.Need-shared-slice-read-put-pass
+shared-slice-read-put-pass c = search needs
 
 put-pass-requires : tie.Need-put-pass-requires
 put-pass-requires c κs = search needs
@@ -43,7 +50,7 @@ same-length-2 : tie.Need-same-length-2
 same-length-2 c = search needs
 
 returns-2 : tie.Need-returns-2
-returns-2 c = (rw (← pass-line (c .before .before .before .before .before .before .before .before .before .before .before .before .before .before .args .plan .now) (c .before .before .before .before .before .before .before .before .before .before .before .before .before .before .args .table .now) (c .before .before .before .before .before .before .before .before .before .before .before .before .before .before .args .j) _ _ _ _ _ (c .before .before .before .before .before .before .before .before .before .before .partition .ensures) (c .before .before .before .before .before .before .before .before .before .wide .ensures) (c .before .before .before .before .before .before .before .deadline .ensures) (c .before .before .before .before .before .before .wide2 .ensures) (c .before .before .before .before .before .before .before .before .first-point .ensures) _ (search needs) (c .before .before .before .before .first-tick .ensures)) (c .before .before .put-pass .ensures .0), search needs)
+returns-2 c = (rw (← pass-line (c .before .before .before .before .before .before .before .before .before .before .before .before .before .before .before .args .table .now) (c .before .before .before .before .before .before .before .before .before .before .before .before .before .before .before .args .points .now) (c .before .before .before .before .before .before .before .before .before .before .before .before .before .before .before .args .ticks .now) (c .before .before .before .before .before .before .before .before .before .before .before .before .before .before .before .args .j) _ _ _ _ _ (c .before .before .before .before .before .before .before .before .before .before .partition .ensures) (c .before .before .before .before .before .before .before .before .before .wide .ensures) (c .before .before .before .before .before .before .before .deadline .ensures) (c .before .before .before .before .before .before .wide2 .ensures) refl (search needs)) (c .before .before .put-pass .ensures .0), search needs)
 
 pub put-task-spec : {M : Type 1} → statement M
 put-task-spec =
@@ -51,15 +58,17 @@ put-task-spec =
     (tie.spec
     partition-requires
     wide-requires
-    first-point-requires
+    mul-point
+    shared-slice-read-point
     deadline-requires
     wide-requires-2
     add-put-fail
     put-fail-requires
     same-length
     returns
-    first-tick-requires
     add-put-pass
+    mul-put-pass
+    shared-slice-read-put-pass
     put-pass-requires
     same-length-2
     returns-2)

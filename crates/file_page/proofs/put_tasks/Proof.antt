@@ -1,56 +1,49 @@
-use mathlib.Core.Path.{_≡_, refl}
-use Prim.Native.Nat.{_≤_, _+_, _-_, _*_}
-use lib.ListN.{length}
-use Rattle.output.specs.Put.{Put}
-use Rattle.rules.specs.Limits.{longestLine}
-use Rattle.rules.specs.Walk.{gathered}
-use Rattle.file_page.specs.Page.{taskLine}
-use Rattle.file_page.proofs.Lines.{lines-none, lines-more}
+use Rattle.file_page.proofs.Lines.{lines-are}
 use borrow.Author.Needs.{needs}
 use Rattle.file_page.proofs.put_tasks.Statement.{statement}
 use Rattle.file_page.proofs.put_tasks.Tie as tie
 
-abbrev Inv-loop : tie.InvT-loop
-Inv-loop plan table out₀ start n at₀ j₀ out at j = (j ≤ n) × Put out₀ start (gathered (taskLine plan table) j) at out × (at ≤ start + longestLine * j) × (length out ≡ length out₀)
+partitions-requires : tie.Need-partitions-requires
+partitions-requires c κs = search needs
 
-abbrev μ-loop : tie.MeasureT-loop
-μ-loop plan table out₀ start n at₀ j₀ out at j = n - j
+cast-judge-all : tie.Need-cast-judge-all
+cast-judge-all c = search needs
 
-tasks-requires : tie.Need-tasks-requires Inv-loop μ-loop
-tasks-requires c κs = search needs
+slice-aggregate-judge-all : tie.Need-slice-aggregate-judge-all
+slice-aggregate-judge-all c = search needs
 
-loop-holds : tie.Need-loop-holds Inv-loop μ-loop
-loop-holds c = (search needs, lines-none _ _ _, search needs, refl)
+slice-aggregate-judge-all-2 : tie.Need-slice-aggregate-judge-all-2
+slice-aggregate-judge-all-2 c = search needs
 
-put-task-requires : tie.Need-put-task-requires Inv-loop μ-loop
-put-task-requires c κs = search needs
+judge-all-requires : tie.Need-judge-all-requires
+judge-all-requires c κs = let g = c .before .before .before .before .before .before .before .pre .0 in (g .few-tasks, rw (c .before .before .partitions .ensures) (g .good), search needs, search needs)
 
-add-j : tie.Need-add-j Inv-loop μ-loop
-add-j c = search needs
+slice-aggregate-put-lines : tie.Need-slice-aggregate-put-lines
+slice-aggregate-put-lines c = search needs
 
-loop-less : tie.Need-loop-less Inv-loop μ-loop
-loop-less c = search needs
+slice-aggregate-put-lines-2 : tie.Need-slice-aggregate-put-lines-2
+slice-aggregate-put-lines-2 c = search needs
 
-loop-again : tie.Need-loop-again Inv-loop μ-loop
-loop-again c = (search needs, lines-more _ _ (c .before .before .before .before .before .loop .inv .1) (c .before .before .put-task .ensures .0), search needs, search needs)
+put-lines-requires : tie.Need-put-lines-requires
+put-lines-requires c κs = search needs
 
-same-length : tie.Need-same-length Inv-loop μ-loop
-same-length c = c .before .loop .inv .3
+same-length : tie.Need-same-length
+same-length c = search needs
 
-returns : tie.Need-returns Inv-loop μ-loop
-returns c = let e : c .before .loop .j ≡ c .before .before .tasks .result = search needs in (rw (e, c .before .before .tasks .ensures) at (c .before .loop .inv .1), search needs)
+returns : tie.Need-returns
+returns c = let judged = c .before .before .before .before .before .before .before .before .judge-all .ensures in (rw (← lines-are _ _ _ _ _ _ (judged .0) (judged .1)) (c .before .before .put-lines .ensures .0), search needs)
 
 pub put-tasks-spec : {M : Type 1} → statement M
 put-tasks-spec =
     tie.close
     (tie.spec
-    Inv-loop
-    μ-loop
-    tasks-requires
-    loop-holds
-    put-task-requires
-    add-j
-    loop-less
-    loop-again
+    partitions-requires
+    cast-judge-all
+    slice-aggregate-judge-all
+    slice-aggregate-judge-all-2
+    judge-all-requires
+    slice-aggregate-put-lines
+    slice-aggregate-put-lines-2
+    put-lines-requires
     same-length
     returns)
