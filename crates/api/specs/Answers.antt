@@ -4,6 +4,7 @@ use Prim.Native.Nat.{ℕ}
 use mathlib.Core.List.{List}
 use Rattle.rules.specs.declared.Told.{Told}
 use Rattle.rules.specs.Refusals.{toldFinding, toldFilling, Tells}
+use Rattle.plan_curve.specs.Curve.{DrawsCurve}
 use Rattle.plan_check.specs.Check.{Checks}
 use Rattle.plan_build.specs.Build.{Builds}
 use Rattle.counts.specs.Counts.{FillsCounts, HoldsOne, toldHolding, HoldsMany, Changes}
@@ -18,6 +19,9 @@ use Rattle.desk.specs.Table.{openOf}
 use Rattle.desk.specs.Request.{requestOf}
 use Rattle.desk.specs.Call.{Leaves, said}
 use Rattle.answers.specs.Parts.{toldPart}
+
+abbrev pub TellsCurve : List ℕ → ℕ → ℕ → List ℕ → List ℕ → Told → Type 0
+TellsCurve plan p n list o = Tells toldFilling (DrawsCurve plan p n list o)
 
 abbrev pub TellsCheck : List ℕ → List ℕ → Told → Type 0
 TellsCheck plan ps = Tells toldFinding (Checks plan ps)

@@ -5,7 +5,7 @@ use desk::Job;
 use rules::Told;
 ghost use Rattle.rules.specs.Table.{WantsIs};
 ghost use Rattle.theory.specs.Plan.{HeldIs, LeastIs};
-ghost use Rattle.api.specs.Answers.{TellsCheck, TellsBuild, TellsFill, TellsHeld, TellsMany, TellsChange, TellsVerdict, TellsPlain, TellsRead, TellsSection, TellsWrite, TellsList, TellsOpen, TellsRequest};
+ghost use Rattle.api.specs.Answers.{TellsCurve, TellsCheck, TellsBuild, TellsFill, TellsHeld, TellsMany, TellsChange, TellsVerdict, TellsPlain, TellsRead, TellsSection, TellsWrite, TellsList, TellsOpen, TellsRequest};
 
 #[no_mangle]
 pub extern "C" fn merkazobi_wants(m: u16, num: u16, den: u16) -> usize
@@ -26,6 +26,13 @@ pub extern "C" fn merkazobi_least(plan: &[u16], p: u16, t: u32) -> usize
     ensures { λ r. ⌜ LeastIs (now (plan .entry)) p t r ⌝ }
 {
     plan_service::least(plan, p, t)
+}
+
+#[no_mangle]
+pub extern "C" fn merkazobi_curve(plan: &[u16], p: u16, n: u32, list: &mut [u32]) -> Told
+    ensures { λ r. ⌜ TellsCurve (now (plan .entry)) p n (now (list .entry)) (now (list .exit)) r ⌝ }
+{
+    answers::tell_filling(plan_curve::curve(plan, p, n, list))
 }
 
 #[no_mangle]

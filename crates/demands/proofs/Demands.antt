@@ -64,7 +64,9 @@ use Rattle.desk.specs.Theorems.{Fits, NoLower, Ready, startAt}
 use Rattle.desk.proofs.Ready.{Comes, at-13, at-14, at-15, at-16, at-17, through, comes}
 use Rattle.desk.proofs.Proved as desk
 use Rattle.desk_lent.proofs.Proved as lent
-use Rattle.api.specs.Answers.{TellsBuild, TellsRead, TellsSection, TellsWrite, TellsList, TellsRequest}
+use Rattle.plan_curve.specs.Curve.{leastCurve, curveOf, DrawsCurve}
+use Rattle.plan_curve.proofs.Answers as curve
+use Rattle.api.specs.Answers.{TellsCurve, TellsBuild, TellsRead, TellsSection, TellsWrite, TellsList, TellsRequest}
 use Rattle.answers.specs.Parts.{toldPart}
 use Rattle.demands.specs.Demands.{among, ToldAs, Numbered, Demand1, OneOutcome, Afresh, lower, Demand2, Demand3, Demands}
 use Rattle.demands.proofs.Entries.{entries}
@@ -142,6 +144,9 @@ section-is b which t p = tells-one (toldPart which) (Reads b) (readOf b) (λ r e
 
 write-is : (f : ℕ) (ps ts rs out o : List ℕ) (t : Told) → TellsWrite f ps ts rs out o t → t ≡ toldFilling (writeOf f ps ts rs (length out))
 write-is f ps ts rs out o t p = tells-one toldFilling (Writes f ps ts rs out o) (writeOf f ps ts rs (length out)) (λ r e. e .0) t p
+
+curve-is : (plan : List ℕ) (p n : ℕ) (list o : List ℕ) (t : Told) → TellsCurve plan p n list o t → t ≡ toldFilling (curveOf n (length list))
+curve-is plan p n list o t c = tells-one toldFilling (DrawsCurve plan p n list o) (curveOf n (length list)) (λ r e. e .0) t c
 
 list-is : (b out o : List ℕ) (t : Told) → TellsList b out o t → t ≡ toldFilling (listOf b (length out))
 list-is b out o t p = tells-one toldFilling (Lists b out o) (listOf b (length out)) (λ r e. e .0) t p
@@ -306,12 +311,13 @@ a-part b which = at (readOf b)
     at (reading.Refused x) e = absurd (not-0 x e)
 
 first : Demand1
-unfolding checkOf planCheckOf scanOf buildOf laidOf readOf writeOf listOf openOf
+unfolding curveOf checkOf planCheckOf scanOf buildOf laidOf readOf writeOf listOf openOf
 first = record {
   build-numbers = λ ps out o t p.
       rw (build-is ps out o t p)
       (unless-parts-hold longest ps (λ (r : Filling). Numbered (3 ∷ 6 ∷ 10 ∷ 11 ∷ 12 ∷ []) (toldFilling r)) filling.Refused (laidOf ps (length out)) refl (λ k. refl)
       (build-told (unharmonic ps) (ltb (frame ps) (allWanted ps (frame ps))) (ltb (length out) (frame ps)) _));
+  curve-numbers = λ plan p n list o t c. rw (curve-is plan p n list o t c) (list-told (ltb (length list) (n + 1)) _);
   check-numbers = λ plan ps t p.
       rw (judging.check-is plan ps t p)
       (unless-parts-hold (length plan) ps (λ (r : Finding). Numbered (3 ∷ 6 ∷ 8 ∷ 9 ∷ []) (toldFinding r)) found.Refused (planCheckOf plan ps) refl (λ k. refl)
@@ -341,6 +347,7 @@ first = record {
   );
   build-refused = λ ps out o t p n. p .1 .1 ∙ left-refused (p .0) (harmonicPlan ps) out (λ z. n (rw (p .2) z));
   write-refused = λ f ps ts rs out o t p n. p .1 .1 ∙ left-refused (writeOf f ps ts rs (length out)) (fileOf f ps ts rs) out (λ z. n (rw (write-is f ps ts rs out o t p) z));
+  curve-refused = λ plan p n list o t c r. c .1 .1 ∙ left-refused (c .0) (leastCurve own plan p n) list (λ z. r (rw (c .2) z));
   list-refused = λ b out o t p n. p .1 .1 ∙ left-refused (listOf b (length out)) (listingOf b) out (λ z. n (rw (list-is b out o t p) z));
   fill-refused = λ plan ps list o t p n. p .1 .1 ∙ left-refused (p .0) (runningCounts plan ps) list (λ z. n (rw (p .2) z));
   many-refused = λ plan ps list qs out o t p n. p .1 .1 ∙ left-refused (p .0) (listed (answerAt plan qs) (questions qs)) out (λ z. n (rw (p .2) z));
@@ -369,6 +376,7 @@ desk-one o k₁ k₂ l₁ l₂ t t′ (r, p, e) (r′, p′, e′) =
 
 one-outcome : OneOutcome
 one-outcome = record {
+  curve-one = λ plan p n list. same-left toldFilling (DrawsCurve plan p n list) (curve.proved .curve-one plan p n list);
   check-one = λ plan ps. same-told toldFinding (Checks plan ps) (checker.proved .check-one plan ps);
   build-one = λ ps out. same-left toldFilling (Builds ps out) (builder.proved .build-one ps out);
   fill-one = λ plan ps list. same-left toldFilling (FillsCounts plan ps list) (counts.proved .fill-one plan ps list);
@@ -390,6 +398,7 @@ second = record {
   one-outcome = one-outcome;
   of-rules = theory.proved;
   of-output = output.proved;
+  of-curves = curve.proved;
   of-checker = checker.proved;
   of-builder = builder.proved;
   of-counts = counts.proved;
@@ -403,6 +412,9 @@ second = record {
   of-lent-desk = lent.proved;
   read-write = writer.proved .read-write;
   write-read = writer.proved .write-read;
+  curve-least = λ plan p n list o t (r, c, e) z u l.
+      let h : r ≡ filling.Fills (t .first) = rw e (filling-fills r (rw e at z)) in
+      curve.proved .curve-leaves plan p n (t .first) list o (subst (DrawsCurve plan p n list o) h c) .2 u l;
   counts-walked = counting.walked;
   counts-follow = counting.follow;
   engines-alike = judging.engines-alike;

@@ -7,6 +7,7 @@ use Rattle.rules.specs.Table.{wants, goodShare, goodTimes}
 use Rattle.tables.specs.Tables.{countedIn, withinLimits, tablesOf}
 use Rattle.theory.specs.Plan.{own, owner, owned, least}
 use Rattle.theory.specs.Harmonic.{pairs, frame, allWanted, sooner, rank, give, turn, planned}
+use Rattle.plan_curve.specs.Curve.{curveOf}
 use Rattle.plan_check.specs.Check.{shortAt, scanOf, planCheckOf, checkOf}
 use Rattle.plan_build.specs.Build.{unharmonic, laidOf, buildOf}
 use Rattle.counts.specs.Counts.{countAt, agreesAt, planJudged, listJudged, countsJudged, goodName, goodStretch, fillOf, heldOf, namesOne, withinFrame, answerAt, manyOf, changeOf}
@@ -33,8 +34,10 @@ use Rattle.demands.proofs.Judging.{TellsBy}
 use Rattle.demands.specs.EachRefusal.{EachPlan, EachVerdict, EachCount, EachFile, EachText, EachDesk, EachLimit, EachRefusal}
 
 plans : EachPlan
-unfolding only fails first sum count smallest largest walk gathered roundUp wants countedIn withinLimits tablesOf goodShare owner owned least pairs frame allWanted sooner rank give turn planned listed shortAt scanOf planCheckOf checkOf unharmonic laidOf buildOf
+unfolding only fails first sum count smallest largest walk gathered roundUp wants countedIn withinLimits tablesOf goodShare owner owned least pairs frame allWanted sooner rank give turn planned listed curveOf shortAt scanOf planCheckOf checkOf unharmonic laidOf buildOf
 plans = record {
+  curve-0 = (_, (refl, refl), refl);
+  curve-12 = (_, (refl, refl), refl);
   check-3 = (_, refl, refl);
   check-6 = (_, refl, refl);
   check-8 = (_, refl, refl);

@@ -18,6 +18,7 @@ module _ {M : Type 1} (𝓤 : URA M) (H : Heap 𝓤) (A : Atoms 𝓤) (mem : Mem
     of-c-wants = record { asks-nothing = λ κs a g. id⊢ 𝓤 _; ensures = λ κs a g r e. id⊢ 𝓤 _ };
     of-c-held = record { asks-nothing = λ κs a g. id⊢ 𝓤 _; ensures = λ κs a g r e. id⊢ 𝓤 _ };
     of-c-least = record { asks-nothing = λ κs a g. id⊢ 𝓤 _; ensures = λ κs a g r e. id⊢ 𝓤 _ };
+    of-c-curve = record { asks-nothing = λ κs a g. id⊢ 𝓤 _; ensures = λ κs a g r e. id⊢ 𝓤 _ };
     of-c-check = record { asks-nothing = λ κs a g. id⊢ 𝓤 _; ensures = λ κs a g r e. id⊢ 𝓤 _ };
     of-c-build = record { asks-nothing = λ κs a g. id⊢ 𝓤 _; ensures = λ κs a g r e. id⊢ 𝓤 _ };
     of-c-fill = record { asks-nothing = λ κs a g. id⊢ 𝓤 _; ensures = λ κs a g r e. id⊢ 𝓤 _ };
@@ -35,6 +36,7 @@ module _ {M : Type 1} (𝓤 : URA M) (H : Heap 𝓤) (A : Atoms 𝓤) (mem : Mem
     of-wants = record { asks-nothing = λ κs a g. id⊢ 𝓤 _; ensures = λ κs a g r e. id⊢ 𝓤 _ };
     of-held = record { asks-nothing = λ κs a g. id⊢ 𝓤 _; ensures = λ κs a g r e. id⊢ 𝓤 _ };
     of-least = record { asks-nothing = λ κs a g. id⊢ 𝓤 _; ensures = λ κs a g r e. id⊢ 𝓤 _ };
+    of-curve = record { asks-nothing = λ κs a g. id⊢ 𝓤 _; ensures = λ κs a g r e. id⊢ 𝓤 _ };
     of-check = record { asks-nothing = λ κs a g. id⊢ 𝓤 _; ensures = λ κs a g r e. id⊢ 𝓤 _ };
     of-build = record { asks-nothing = λ κs a g. id⊢ 𝓤 _; ensures = λ κs a g r e. id⊢ 𝓤 _ };
     of-fill = record { asks-nothing = λ κs a g. id⊢ 𝓤 _; ensures = λ κs a g r e. id⊢ 𝓤 _ };

@@ -20,10 +20,11 @@ use Rattle.rules.specs.Refusals.{placed}
 use Rattle.rules.specs.declared.Told.{Told}
 use Rattle.tables.specs.Tables.{GoodTables}
 use Rattle.output.specs.Theorems as output
-use Rattle.theory.specs.Plan.{Rule, own, held, HeldIs, Serves}
+use Rattle.theory.specs.Plan.{Rule, own, held, HeldIs, LeastIs, Serves}
 use Rattle.theory.specs.Harmonic.{Harmonic, frame, allWanted}
 use Rattle.theory.specs.Run.{Ran, done, LegalTo, Legal}
 use Rattle.theory.specs.Theorems as theory
+use Rattle.plan_curve.specs.Theorems as curve
 use Rattle.plan_check.specs.Theorems as checker
 use Rattle.plan_build.specs.Theorems as built-plans
 use Rattle.counts.specs.Theorems as counts
@@ -39,7 +40,7 @@ use Rattle.desk.specs.Table.{start, ends, none, filled, flexes}
 use Rattle.desk.specs.Request.{kept}
 use Rattle.desk.specs.Theorems as desk
 use Rattle.desk_lent.specs.Theorems as lent
-use Rattle.api.specs.Answers.{TellsCheck, TellsBuild, TellsFill, TellsHeld, TellsMany, TellsChange, TellsVerdict, TellsPlain, TellsRead, TellsSection, TellsWrite, TellsList, TellsOpen, TellsRequest}
+use Rattle.api.specs.Answers.{TellsCurve, TellsCheck, TellsBuild, TellsFill, TellsHeld, TellsMany, TellsChange, TellsVerdict, TellsPlain, TellsRead, TellsSection, TellsWrite, TellsList, TellsOpen, TellsRequest}
 use Rattle.demands.specs.Entries.{Entries}
 
 -- a number is one of a list
@@ -63,6 +64,8 @@ Refused t = ¬ (t .number ≡ 0)
 pub record Demand1 : Type 0 where
   -- "the builder 3, 6, 10, 11, 12"
   pub build-numbers : (ps out o : List ℕ) (t : Told) → TellsBuild ps out o t → Numbered (3 ∷ 6 ∷ 10 ∷ 11 ∷ 12 ∷ []) t
+  -- the curve is refused only for a list too short
+  pub curve-numbers : (plan : List ℕ) (p n : ℕ) (list o : List ℕ) (t : Told) → TellsCurve plan p n list o t → Numbered (12 ∷ []) t
   -- "the checker 3, 6, 8, 9"
   pub check-numbers : (plan ps : List ℕ) (t : Told) → TellsCheck plan ps t → Numbered (3 ∷ 6 ∷ 8 ∷ 9 ∷ []) t
   -- document 02, ask 2: "a list too short is 12", after "the checker's 3, 6 and 8"
@@ -95,6 +98,7 @@ pub record Demand1 : Type 0 where
   -- "refusals 1 to 12 change no output byte"
   pub build-refused : (ps out o : List ℕ) (t : Told) → TellsBuild ps out o t → Refused t → o ≡ out
   pub write-refused : (f : ℕ) (ps ts rs out o : List ℕ) (t : Told) → TellsWrite f ps ts rs out o t → Refused t → o ≡ out
+  pub curve-refused : (plan : List ℕ) (p n : ℕ) (list o : List ℕ) (t : Told) → TellsCurve plan p n list o t → Refused t → o ≡ list
   pub list-refused : (b out o : List ℕ) (t : Told) → TellsList b out o t → Refused t → o ≡ out
   -- document 02, ask 2: "None of them changes anything."
   pub fill-refused : (plan ps list o : List ℕ) (t : Told) → TellsFill plan ps list o t → Refused t → o ≡ list
@@ -117,6 +121,8 @@ pub record Demand1 : Type 0 where
 
 -- "any two outcomes it permits are equal": of each entry of the C surface, what is told and what is left (`wants`, `held`, `least`: theory's `WantsOne` ..)
 pub record OneOutcome : Type 0 where
+  pub curve-one :
+      (plan : List ℕ) (p n : ℕ) (list o o′ : List ℕ) (t t′ : Told) → TellsCurve plan p n list o t → TellsCurve plan p n list o′ t′ → (t ≡ t′) × (o ≡ o′)
   pub check-one : (plan ps : List ℕ) (t t′ : Told) → TellsCheck plan ps t → TellsCheck plan ps t′ → t ≡ t′
   pub build-one : (ps out o o′ : List ℕ) (t t′ : Told) → TellsBuild ps out o t → TellsBuild ps out o′ t′ → (t ≡ t′) × (o ≡ o′)
   pub fill-one :
@@ -160,6 +166,7 @@ pub record Demand2 : Type 0 where
   pub one-outcome : OneOutcome
   pub of-rules : theory.Proved
   pub of-output : output.Proved
+  pub of-curves : curve.Proved
   pub of-checker : checker.Proved
   pub of-builder : built-plans.Proved
   pub of-counts : counts.Proved
@@ -173,6 +180,9 @@ pub record Demand2 : Type 0 where
   pub of-lent-desk : lent.Proved
   pub read-write : writer.ReadWrite
   pub write-read : writer.WriteRead
+  -- each number of a curve is what `least` answers
+  pub curve-least :
+      (plan : List ℕ) (p n : ℕ) (list o : List ℕ) (t : Told) → TellsCurve plan p n list o t → t .number ≡ 0 → (u : ℕ) → u ≤ n → LeastIs plan p u (getD o u 0)
   -- document 02, ask 2: "Any stretch, across the frame's end too, is answered from it and equals the count by walking": what `held` answers
   pub counts-walked :
       (plan ps list : List ℕ) (p s n : ℕ) (t : Told) → TellsHeld plan ps list p s n t → t .number ≡ 0 → HeldIs plan p s n (t .first)

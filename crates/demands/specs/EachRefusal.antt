@@ -9,7 +9,7 @@ use Rattle.output.specs.Text.{bytes}
 use Rattle.share_plan.specs.Answer.{Plans}
 use Rattle.desk.specs.declared.Job.{Job}
 use Rattle.desk.specs.Table.{job, filled, flexes}
-use Rattle.api.specs.Answers.{TellsCheck, TellsBuild, TellsFill, TellsHeld, TellsMany, TellsChange, TellsVerdict, TellsPlain, TellsRead, TellsSection, TellsWrite, TellsList, TellsOpen, TellsRequest}
+use Rattle.api.specs.Answers.{TellsCurve, TellsCheck, TellsBuild, TellsFill, TellsHeld, TellsMany, TellsChange, TellsVerdict, TellsPlain, TellsRead, TellsSection, TellsWrite, TellsList, TellsOpen, TellsRequest}
 use Rattle.demands.specs.Document01.{three, eight, plan1, plan5, two, desk, opened, file, page}
 
 -- a partition of cycle 4 that wants 2, and one like it with share 0
@@ -43,8 +43,11 @@ file-room = replicate 44 7
 abbrev pub line : List ℕ
 line = replicate 10 7
 
--- the checker's and the builder's
+-- the curve's, the checker's and the builder's
 pub record EachPlan : Type 0 where
+  -- ticks 3 and 0 stand together, across the frame's end
+  pub curve-0 : TellsCurve (1 ∷ 2 ∷ 0 ∷ 1 ∷ []) 1 4 (take 6 eight) (0 ∷ 0 ∷ 0 ∷ 1 ∷ 2 ∷ drop 5 (take 6 eight)) (placed 0 5)
+  pub curve-12 : TellsCurve (1 ∷ 2 ∷ 0 ∷ 1 ∷ []) 1 4 (take 4 eight) (take 4 eight) (placed 12 0)
   pub check-3 : TellsCheck [] half (placed 3 0)
   pub check-6 : TellsCheck plan5 (half ++ nothing) (placed 6 2)
   pub check-8 : TellsCheck (1 ∷ 1 ∷ 0 ∷ 2 ∷ []) half (placed 8 4)

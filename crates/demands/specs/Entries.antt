@@ -12,6 +12,7 @@ use denote.Triple.Entry.{Args, Res}
 use denote.Triple.Clauses.{Ended, Clauses, AtExit}
 use Rattle.rules.specs.Table.{WantsIs}
 use Rattle.theory.specs.Plan.{HeldIs, LeastIs}
+use Rattle.plan_curve.specs.Curve.{DrawsCurve}
 use Rattle.plan_check.specs.Check.{Checks}
 use Rattle.plan_build.specs.Build.{Builds}
 use Rattle.counts.specs.Counts.{FillsCounts, HoldsOne, HoldsMany, Changes}
@@ -24,10 +25,11 @@ use Rattle.file_listing.specs.Listing.{Lists}
 use Rattle.share_text.specs.Table.{ReadsText}
 use Rattle.share_plan.specs.Answer.{Plans}
 use Rattle.desk.specs.Call.{callOf, Leaves}
-use Rattle.api.specs.Answers.{TellsCheck, TellsBuild, TellsFill, TellsHeld, TellsMany, TellsChange, TellsVerdict, TellsPlain, TellsRead, TellsSection, TellsWrite, TellsList, TellsOpen, TellsRequest}
+use Rattle.api.specs.Answers.{TellsCurve, TellsCheck, TellsBuild, TellsFill, TellsHeld, TellsMany, TellsChange, TellsVerdict, TellsPlain, TellsRead, TellsSection, TellsWrite, TellsList, TellsOpen, TellsRequest}
 use Rattle.api.proofs.merkazobi_wants as c-wants
 use Rattle.api.proofs.merkazobi_held as c-held
 use Rattle.api.proofs.merkazobi_least as c-least
+use Rattle.api.proofs.merkazobi_curve as c-curve
 use Rattle.api.proofs.merkazobi_check as c-check
 use Rattle.api.proofs.merkazobi_build as c-build
 use Rattle.api.proofs.merkazobi_counts_fill as c-fill
@@ -45,6 +47,7 @@ use Rattle.api.proofs.merkazobi_request as c-request
 use Rattle.rules.proofs.records.wants as wants
 use Rattle.plan_service.proofs.held as held
 use Rattle.plan_service.proofs.least as least
+use Rattle.plan_curve.proofs.curve as curve
 use Rattle.plan_check.proofs.check as check
 use Rattle.plan_build.proofs.build as build
 use Rattle.plan_counts.proofs.fill as fill
@@ -75,6 +78,8 @@ module _ {M : Type 1} (𝓤 : URA M) (H : Heap 𝓤) (A : Atoms 𝓤) (mem : Mem
     pub of-c-wants : Ensures c-wants.ended (c-wants.clauses 𝓤 H A mem run) (λ κs a r e. WantsIs (a .0) (a .1 .0) (a .1 .1 .0) r)
     pub of-c-held : Ensures c-held.ended (c-held.clauses 𝓤 H A mem run) (λ κs a r e. HeldIs (a .0 .now) (a .1 .0) (a .1 .1 .0) (a .1 .1 .1 .0) r)
     pub of-c-least : Ensures c-least.ended (c-least.clauses 𝓤 H A mem run) (λ κs a r e. LeastIs (a .0 .now) (a .1 .0) (a .1 .1 .0) r)
+    pub of-c-curve : Ensures c-curve.ended (c-curve.clauses 𝓤 H A mem run)
+        (λ κs a r e. TellsCurve (a .0 .now) (a .1 .0) (a .1 .1 .0) (a .1 .1 .1 .0 .now) (e .1 .1 .1 .0 .now) r)
     pub of-c-check : Ensures c-check.ended (c-check.clauses 𝓤 H A mem run) (λ κs a r e. TellsCheck (a .0 .now) (a .1 .0 .now) r)
     pub of-c-build : Ensures c-build.ended (c-build.clauses 𝓤 H A mem run) (λ κs a r e. TellsBuild (a .0 .now) (a .1 .0 .now) (e .1 .0 .now) r)
     pub of-c-fill : Ensures c-fill.ended (c-fill.clauses 𝓤 H A mem run) (λ κs a r e. TellsFill (a .0 .now) (a .1 .0 .now) (a .1 .1 .0 .now) (e .1 .1 .0 .now) r)
@@ -100,6 +105,8 @@ module _ {M : Type 1} (𝓤 : URA M) (H : Heap 𝓤) (A : Atoms 𝓤) (mem : Mem
     pub of-wants : Ensures wants.ended (wants.clauses 𝓤 H A mem run) (λ κs a r e. WantsIs (a .0) (a .1 .0) (a .1 .1 .0) r)
     pub of-held : Ensures held.ended (held.clauses 𝓤 H A mem run) (λ κs a r e. HeldIs (a .0 .now) (a .1 .0) (a .1 .1 .0) (a .1 .1 .1 .0) r)
     pub of-least : Ensures least.ended (least.clauses 𝓤 H A mem run) (λ κs a r e. LeastIs (a .0 .now) (a .1 .0) (a .1 .1 .0) r)
+    pub of-curve : Ensures curve.ended (curve.clauses 𝓤 H A mem run)
+        (λ κs a r e. DrawsCurve (a .0 .now) (a .1 .0) (a .1 .1 .0) (a .1 .1 .1 .0 .now) (e .1 .1 .1 .0 .now) r)
     pub of-check : Ensures check.ended (check.clauses 𝓤 H A mem run) (λ κs a r e. Checks (a .0 .now) (a .1 .0 .now) r)
     pub of-build : Ensures build.ended (build.clauses 𝓤 H A mem run) (λ κs a r e. Builds (a .0 .now) (a .1 .0 .now) (e .1 .0 .now) r)
     pub of-fill : Ensures fill.ended (fill.clauses 𝓤 H A mem run) (λ κs a r e. FillsCounts (a .0 .now) (a .1 .0 .now) (a .1 .1 .0 .now) (e .1 .1 .0 .now) r)

@@ -44,7 +44,14 @@ fn put_parts(plan: &[u16], parts: &[u16], out: &mut [u8], start: usize) -> usize
 }
 
 // A task's line, by the point and the tick that were found for it.
-fn put_task(table: &[u16], points: &[usize], ticks: &[usize], j: usize, out: &mut [u8], at: usize) -> usize
+fn put_task(
+    table: &[u16],
+    points: &[usize],
+    ticks: &[usize],
+    j: usize,
+    out: &mut [u8],
+    at: usize,
+) -> usize
     requires { ⌜ (j < mostTasks) × (at < 2 ^ 40) × (j < length (now points)) × (j < length (now ticks)) ⌝ }
     ensures { λ r. ⌜ Put (now (out .entry)) at
         (lineBy (now (table .entry)) (now (points .entry)) (now (ticks .entry)) j) r (now (out .exit))
@@ -58,7 +65,13 @@ fn put_task(table: &[u16], points: &[usize], ticks: &[usize], j: usize, out: &mu
     put_pass(out, at, j + 1, partition, point, ticks[j])
 }
 
-fn put_lines(table: &[u16], points: &[usize], ticks: &[usize], out: &mut [u8], start: usize) -> usize
+fn put_lines(
+    table: &[u16],
+    points: &[usize],
+    ticks: &[usize],
+    out: &mut [u8],
+    start: usize,
+) -> usize
     requires { ⌜ (tasks (now table) ≤ mostTasks) × (start < 2 ^ 32)
         × (mostTasks ≤ length (now points)) × (mostTasks ≤ length (now ticks)) ⌝ }
     ensures { λ r. ⌜ Put (now (out .entry)) start

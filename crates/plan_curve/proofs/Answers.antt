@@ -49,8 +49,7 @@ curve-leaves plan p n m list o (a, b) = go (curveOf n (length list)) (curve-answ
     go f (curve-done l) e =
         let z : m ≡ n + 1 = cc in
         let h : o ≡ leastCurve own plan p n ++ drop (n + 1) list = rw z at b in
-        let k = new-tail (leastCurve own plan p n) list o (n + 1) h (curve-is own plan p n .0) l in
-        (
+        let k = new-tail (leastCurve own plan p n) list o (n + 1) h (curve-is own plan p n .0) l in (
           z,
           k .0,
           λ t g. ap (λ (x : List ℕ). getD x t 0) h ∙ List·getD-append (leastCurve own plan p n) (drop (n + 1) list) 0 t (omega (arith, curve-is own plan p n .0)) ∙ curve-is own plan p n .1 t g,

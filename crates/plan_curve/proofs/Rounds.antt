@@ -105,7 +105,7 @@ again-all plan p m k pos z l g w =
       whole = z;
       some = λ h. pos;
       again = λ i h.
-      let e : owner plan (i + m) ≡ getD plan (i + m) 0 = tick-at plan (i + m) (i + m) (mod-eq-of-lt h) in
-      let f : owner plan i ≡ getD plan i 0 = tick-at plan i i (mod-eq-of-lt (omega arith)) in
-      rw (e, f) (only-same (eqb (getD plan (i + m) 0) p) (eqb (getD plan i 0) p) (w .again i (omega arith)));
+          let e : owner plan (i + m) ≡ getD plan (i + m) 0 = tick-at plan (i + m) (i + m) (mod-eq-of-lt h) in
+          let f : owner plan i ≡ getD plan i 0 = tick-at plan i i (mod-eq-of-lt (omega arith)) in
+          rw (e, f) (only-same (eqb (getD plan (i + m) 0) p) (eqb (getD plan i 0) p) (w .again i (omega arith)));
     }

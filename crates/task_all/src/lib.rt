@@ -56,9 +56,9 @@ fn judge_task(
     requires { ⌜ (deadline (now table) j ≤ longest) × (longest < length (now curve)) × (longest < length (now asks))
         × (j < length (now points)) × (j < length (now ticks)) ⌝ }
     ensures { λ _. ⌜ (now (points .exit) ≡ marked (now (table .entry)) p j
-            (pointBy (now (curve .entry)) (now (asks .entry)) (now (table .entry)) j) (now (points .entry)))
+        (pointBy (now (curve .entry)) (now (asks .entry)) (now (table .entry)) j) (now (points .entry)))
         × (now (ticks .exit) ≡ marked (now (table .entry)) p j
-            (tickBy (now (curve .entry)) (now (asks .entry)) (now (table .entry)) j) (now (ticks .entry))) ⌝ }
+        (tickBy (now (curve .entry)) (now (asks .entry)) (now (table .entry)) j) (now (ticks .entry))) ⌝ }
 {
     if rules::records::partition(table, j) == p {
         let c = rules::records::budget(table, j);
@@ -98,13 +98,7 @@ fn judge_partition(
     }
 }
 
-fn judge_next(
-    plan: &[u16],
-    table: &[u16],
-    p: u16,
-    points: &mut [usize],
-    ticks: &mut [usize],
-)
+fn judge_next(plan: &[u16], table: &[u16], p: u16, points: &mut [usize], ticks: &mut [usize])
     requires { ⌜ JudgeableAll (now table)
         × (tasks (now table) ≤ length (now points)) × (tasks (now table) ≤ length (now ticks)) ⌝ }
     ensures { λ _. ⌜ JudgedIn (now (plan .entry)) (now (table .entry)) p
@@ -116,19 +110,13 @@ fn judge_next(
 }
 
 // The point and the tick of every task, each at the task's place, one past the deadline where the task fails.
-pub fn judge_all(
-    plan: &[u16],
-    table: &[u16],
-    parts: u16,
-    points: &mut [usize],
-    ticks: &mut [usize],
-)
+pub fn judge_all(plan: &[u16], table: &[u16], parts: u16, points: &mut [usize], ticks: &mut [usize])
     requires { ⌜ (tasks (now table) ≤ mostTasks) × Every (goodTask parts (now table)) (tasks (now table))
         × (tasks (now table) ≤ length (now points)) × (tasks (now table) ≤ length (now ticks)) ⌝ }
     ensures { λ _. ⌜ AsNamed (taskPoint own (now (plan .entry)) (now (table .entry))) (tasks (now (table .entry)))
-            (now (points .entry)) (now (points .exit))
+        (now (points .entry)) (now (points .exit))
         × AsNamed (taskTick own (now (plan .entry)) (now (table .entry))) (tasks (now (table .entry)))
-            (now (ticks .entry)) (now (ticks .exit)) ⌝ }
+        (now (ticks .entry)) (now (ticks .exit)) ⌝ }
 {
     let mut p = 0;
     while p < parts {

@@ -54,8 +54,7 @@ judge-task-requires : tie.Need-judge-task-requires Inv-loop μ-loop
 judge-task-requires c κs =
     let l = c .before .before .before .before .before .loop in
     let pre = c .before .before .before .before .before .before .before .before .before .before .before .before .before .before .before .before .before .before .before .before .pre in
-    let n = c .before .before .before .before .before .before .tasks .ensures in
-    (
+    let n = c .before .before .before .before .before .before .tasks .ensures in (
       deadline-short _ (pre .0) _ (omega (arith, n)),
       omega (arith, c .before .before .before .before .before .before .before .before .before .draw .ensures .as-long, pre .2),
       omega (arith, l .inv .1, pre .3),
@@ -71,8 +70,7 @@ ask-task-requires c κs =
     let l = c .before .before .before .before .before .before .before .before .before .before .before .loop in
     let pre = c .before .before .before .before .before .before .before .before .before .before .before .before .before .before .before .before .before .before .before .before .before .before .before .before .before .before .pre in
     let n = c .before .before .before .before .before .before .before .before .before .before .before .before .tasks .ensures in
-    let d = longest-short _ (pre .0) _ _ (c .before .before .before .before .before .before .before .before .before .before .before .before .before .before .before .before .before .before .before .longest-deadline .ensures) in
-    (
+    let d = longest-short _ (pre .0) _ _ (c .before .before .before .before .before .before .before .before .before .before .before .before .before .before .before .before .before .before .before .longest-deadline .ensures) in (
       pre .0 .in-order _ (omega (arith, n)),
       omega (arith, d),
       omega (arith, d, l .inv .1, pre .3),
@@ -93,8 +91,7 @@ loop-again c =
     let e = c .before .before .before .before .before .before .before .before .before .before .before .before .before .before .before .before .before .before .before .before .before .before .longest-deadline .ensures in
     let d = longest-short _ (pre .0) _ _ e in
     let judged = c .before .before .before .before .before .before .before .before .judge-task .ensures in
-    let drawn = drawn-in _ (pre .0) _ _ _ _ _ _ _ _ _ (omega (arith, n)) e (c .before .before .before .before .before .before .before .before .before .before .before .before .before .before .before .before .before .before .before .before .wide .ensures) (omega (arith, d, pre .2)) (omega (arith, d, pre .3)) (c .before .before .before .before .before .before .before .before .before .before .before .before .before .before .before .before .before .before .draw .ensures) (l .inv .4) in
-    (
+    let drawn = drawn-in _ (pre .0) _ _ _ _ _ _ _ _ _ (omega (arith, n)) e (c .before .before .before .before .before .before .before .before .before .before .before .before .before .before .before .before .before .before .before .before .wide .ensures) (omega (arith, d, pre .2)) (omega (arith, d, pre .3)) (c .before .before .before .before .before .before .before .before .before .before .before .before .before .before .before .before .before .before .draw .ensures) (l .inv .4) in (
       search needs,
       c .before .before .ask-task .ensures .as-long ∙ l .inv .1,
       mark-long _ _ _ _ _ _ (judged .0) ∙ l .inv .2,

@@ -77,8 +77,7 @@ loop-again c =
     let l = c .before .before .before .before .before .before .before .loop in
     let pos = c .before .before .before .before .before .before .before .before .before .pre .0 in
     let all = asked-turn _ _ _ _ _ _ pos (l .inv .5) (l .inv .4) (rw (c .before .before .before .wide .ensures) at (c .before .before .if-due .ensures .1)) in
-    let next = asked-turn _ _ _ _ _ _ pos (l .inv .5) (l .inv .5) (rw (c .before .wide2 .ensures) at (c .if-due2 .ensures .1)) in
-    (
+    let next = asked-turn _ _ _ _ _ _ pos (l .inv .5) (l .inv .5) (rw (c .before .wide2 .ensures) at (c .if-due2 .ensures .1)) in (
       search needs,
       simp length-set (l .inv .1),
       small-asked _ _ _ _ pos (c .before .before .before .before .before .before .before .before .before .pre .1) all,
