@@ -1,9 +1,11 @@
-//! The rules of document 01 once more, with asks 1, 2 and 4 of document 02, and of the share table,
-//! by plain counting and trying, to compare the library and the planner against.
+//! The rules of document 01 once more, with asks 1, 2 and 4 of document 02, the curve of least
+//! service and the share table, by plain counting and trying, to compare the library and the
+//! planner against.
 
 pub mod answer;
 pub mod builder;
 pub mod counts;
+pub mod curve;
 pub mod desk;
 pub mod file;
 pub mod inputs;
