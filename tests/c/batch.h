@@ -19,6 +19,7 @@ enum {
     WANTS,
     HELD,
     LEAST,
+    CURVE,
     CHECK,
     BUILD,
     VERDICT,
@@ -42,6 +43,7 @@ enum { MOST_SLICES = 5 };
 static const size_t widths[ENTRIES][MOST_SLICES + 1] = {
     [HELD] = {2},
     [LEAST] = {2},
+    [CURVE] = {2, 4},
     [CHECK] = {2, 2},
     [BUILD] = {2, 2},
     [VERDICT] = {2, 2, 2},

@@ -49,6 +49,8 @@ static merkazobi_answer answer(size_t entry, const size_t *given, const slice *o
         return only(merkazobi_held(of[0].at, of[0].lent, (uint16_t)one, (uint32_t)two, (uint32_t)three));
     case LEAST:
         return only(merkazobi_least(of[0].at, of[0].lent, (uint16_t)one, (uint32_t)two));
+    case CURVE:
+        return merkazobi_curve(of[0].at, of[0].lent, (uint16_t)one, (uint32_t)two, of[1].at, of[1].lent);
     case BUILD:
         return merkazobi_build(of[0].at, of[0].lent, of[1].at, of[1].lent);
     case CHECK:

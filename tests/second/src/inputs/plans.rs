@@ -16,13 +16,36 @@ pub fn scattered(rng: &mut Rng, ticks: usize, partitions: usize) -> Vec<u16> {
 
 /// Owners in stretches.
 pub fn in_runs(rng: &mut Rng, ticks: usize, partitions: usize) -> Vec<u16> {
+    in_runs_up_to(rng, ticks, partitions, 6)
+}
+
+/// Owners in stretches of up to `longest` ticks.
+pub fn in_runs_up_to(rng: &mut Rng, ticks: usize, partitions: usize, longest: usize) -> Vec<u16> {
     let mut plan = Vec::new();
     while plan.len() < ticks {
         let owner = rng.between(0, partitions) as u16;
-        let length = rng.between(1, ticks.min(6));
+        let length = rng.between(1, ticks.min(longest));
         plan.extend(vec![owner; length]);
     }
     plan.truncate(ticks);
+    plan
+}
+
+/// Every plan of so many ticks with so many owners, from 0 on.
+pub fn every(ticks: u32, owners: u32) -> impl Iterator<Item = Vec<u16>> {
+    let owner = move |plan: u32, tick: u32| (plan / owners.pow(tick) % owners) as u16;
+    (0..owners.pow(ticks)).map(move |plan| (0..ticks).map(|tick| owner(plan, tick)).collect())
+}
+
+/// The owners one behind the other, again and again, for so many ticks.
+pub fn repeating(owners: &[u16], ticks: usize) -> Vec<u16> {
+    owners.iter().copied().cycle().take(ticks).collect()
+}
+
+/// One run of partition 1 from a tick on, across the frame's end too, and another owner's ticks.
+pub fn one_run(ticks: usize, start: usize, length: usize, other: u16) -> Vec<u16> {
+    let mut plan = [vec![1; length], vec![other; ticks - length]].concat();
+    plan.rotate_right(start);
     plan
 }
 

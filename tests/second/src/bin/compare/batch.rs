@@ -12,6 +12,7 @@ pub enum Entry {
     Wants,
     Held,
     Least,
+    Curve,
     Check,
     Build,
     Verdict,
@@ -55,15 +56,18 @@ impl Element for u16 {
     }
 }
 
-fn put_words(words: &[u32], bytes: &mut Vec<u8>) {
-    bytes.extend(words.iter().flat_map(|number| number.to_le_bytes()));
+impl Element for u32 {
+    const WIDTH: usize = 4;
+    fn put(elements: &[u32], bytes: &mut Vec<u8>) {
+        bytes.extend(elements.iter().flat_map(|number| number.to_le_bytes()));
+    }
 }
 
 impl Element for Desk {
     const WIDTH: usize = 8;
     fn put(elements: &[Desk], bytes: &mut Vec<u8>) {
         for desk in elements {
-            put_words(&[desk.clock, desk.count], bytes);
+            u32::put(&[desk.clock, desk.count], bytes);
         }
     }
 }
@@ -72,7 +76,7 @@ impl Element for Job {
     const WIDTH: usize = 16;
     fn put(elements: &[Job], bytes: &mut Vec<u8>) {
         for job in elements {
-            put_words(&[job.a, job.c, job.d, job.x], bytes);
+            u32::put(&[job.a, job.c, job.d, job.x], bytes);
         }
     }
 }

@@ -4,6 +4,7 @@
 mod batch;
 mod build;
 mod counts;
+mod curve;
 mod desk;
 mod file;
 mod library;
@@ -37,6 +38,7 @@ fn trials() -> Vec<Named> {
         counts::TRIALS,
         wants::TRIALS,
         service::TRIALS,
+        curve::TRIALS,
         build::TRIALS,
         verdict::TRIALS,
         file::TRIALS,

@@ -15,10 +15,11 @@ type Names = (
 const TEXT: &str = "text";
 const LINE: &str = "plan file or line";
 
-const ENTRIES: [Names; 18] = [
+const ENTRIES: [Names; 19] = [
     ("wants", &["m", "num", "den"], &[]),
     ("held", &["p", "s", "n"], &["plan"]),
     ("least", &["p", "t"], &["plan"]),
+    ("curve", &["p", "n"], &["plan", "list"]),
     ("check", &[], &["plan", "parts"]),
     ("build", &[], &["parts", "out"]),
     ("verdict", &["place"], &["plan", "parts", "tasks"]),
@@ -174,16 +175,14 @@ fn elements(bytes: &[u8], width: usize) -> String {
     shown.join(", ")
 }
 
-/// A number of one or two bytes, or a record of numbers of four.
+/// A number of one, two or four bytes, or a record of numbers of four.
 fn element(bytes: &[u8]) -> String {
     match *bytes {
         [one] => one.to_string(),
         [low, high] => u16::from_le_bytes([low, high]).to_string(),
+        [one, two, three, four] => u32::from_le_bytes([one, two, three, four]).to_string(),
         _ => {
-            let words = bytes.chunks_exact(4);
-            let numbers =
-                words.map(|word| u32::from_le_bytes([word[0], word[1], word[2], word[3]]));
-            let numbers: Vec<String> = numbers.map(|number| number.to_string()).collect();
+            let numbers: Vec<String> = bytes.chunks(4).map(element).collect();
             format!("({})", numbers.join(" "))
         }
     }
@@ -193,7 +192,7 @@ fn element(bytes: &[u8]) -> String {
 mod tests {
     use second::Answer;
 
-    use super::complaint;
+    use super::{complaint, elements};
     use crate::batch::{Batch, Entry};
 
     /// Two calls, of which the second comes back with another number at a place.
@@ -222,6 +221,15 @@ mod tests {
         let library = format!("\nlibrary number 0, values [3, 0, 0, 0]{lent}");
         let second = format!("\nsecond number 0, values [2, 0, 0, 0]{lent}");
         assert_eq!(shown(40), [input, &library, &second].concat());
+    }
+
+    #[test]
+    fn numbers_of_each_width() {
+        let record = [1, 0, 0, 0, 2, 1, 0, 0];
+        assert_eq!(elements(&record, 1), "1, 0, 0, 0, 2, 1, 0, 0");
+        assert_eq!(elements(&record, 2), "1, 0, 258, 0");
+        assert_eq!(elements(&record, 4), "1, 258");
+        assert_eq!(elements(&record, 8), "(1 258)");
     }
 
     #[test]

@@ -37,17 +37,6 @@ pub const TRIALS: &[Named] = &[
     ),
 ];
 
-/// Every plan of up to four ticks, a partition's or idle.
-fn every_plan() -> Vec<Vec<u16>> {
-    let mut plans = Vec::new();
-    for frame in 1..=4 {
-        for own in 0..1 << frame {
-            plans.push((0..frame).map(|tick| own >> tick & 1).collect());
-        }
-    }
-    plans
-}
-
 /// Every task of partition 1 with a period up to five.
 fn every_task() -> Vec<Vec<u16>> {
     let mut tasks = Vec::new();
@@ -62,7 +51,8 @@ fn every_task() -> Vec<Vec<u16>> {
 /// Every task of those, alone and behind every other.
 fn all_small(trial: &mut Trial) {
     let tasks = every_task();
-    for plan in trial.each(every_plan()) {
+    // A partition's ticks, or idle.
+    for plan in trial.each((1..=4).flat_map(|frame| plans::every(frame, 2))) {
         for higher in [&[Vec::new()], &tasks[..]].concat() {
             for task in &tasks {
                 let frame = plan.len() as u16;
