@@ -7,4 +7,5 @@ pub mod jobs;
 pub mod plans;
 pub mod requests;
 pub mod tables;
+pub mod tasks;
 pub mod texts;

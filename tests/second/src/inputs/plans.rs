@@ -74,6 +74,39 @@ pub fn served(rng: &mut Rng, count: usize, longest: usize) -> (Vec<u16>, Vec<u16
     }
 }
 
+/// A plan of one run, of runs of one tick, or of any runs; each partition has a tick in it.
+fn of_some_runs(rng: &mut Rng, frame: usize) -> (Vec<u16>, usize) {
+    let partitions = rng.between(1, frame.min(4));
+    match rng.between(0, 2) {
+        0 => (vec![1; frame], 1),
+        1 => {
+            let idle = rng.between(0, 1);
+            let owners: Vec<u16> = (0..=partitions as u16).skip(idle).collect();
+            let frame = frame.max(owners.len());
+            (repeating(&owners, frame), partitions)
+        }
+        _ => {
+            let mut plan = in_runs_up_to(rng, frame, partitions, frame);
+            let first = rng.between(0, frame - 1);
+            for p in 1..=partitions {
+                plan[(first + p) % frame] = p as u16;
+            }
+            (plan, partitions)
+        }
+    }
+}
+
+/// A plan of one of several shapes, and a table that it serves.
+pub fn of_some_shape(rng: &mut Rng, longest: usize) -> (Vec<u16>, Vec<u16>) {
+    let frame = rng.between(1, longest);
+    if rng.one_in(4) {
+        return served(rng, 4, frame);
+    }
+    let (plan, partitions) = of_some_runs(rng, frame);
+    let parts = tables::served_by(rng, &plan, partitions);
+    (plan, parts)
+}
+
 /// Another owner in one tick.
 pub fn damage(rng: &mut Rng, plan: &mut [u16], partitions: usize) {
     if plan.is_empty() {

@@ -1,5 +1,6 @@
 //! Tables of good partitions and tasks.
 
+use crate::plan;
 use crate::rng::Rng;
 use crate::shares;
 
@@ -77,6 +78,25 @@ pub fn sixteen(rng: &mut Rng) -> Vec<u16> {
         parts.extend([rng.pick(&[16, 32, 64]), 1, 16]);
     }
     parts.extend([128, 1, 16]);
+    parts
+}
+
+/// A table that the plan serves, for partitions that have a tick in it; often a partition has none
+/// beyond its share. The frame is at most 1,000 ticks.
+pub fn served_by(rng: &mut Rng, plan: &[u16], partitions: usize) -> Vec<u16> {
+    let frame = plan.len();
+    let mut parts = Vec::new();
+    for p in 1..=partitions {
+        let least = |m: usize| plan::least(plan, p as u16, m as u32) as usize;
+        let some = rng.between(1, frame);
+        let m = if least(some) > 0 { some } else { frame };
+        let q = if rng.one_in(2) {
+            least(m)
+        } else {
+            rng.between(1, least(m))
+        };
+        parts.extend([m, q, m].map(|number| number as u16));
+    }
     parts
 }
 

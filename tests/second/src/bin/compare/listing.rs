@@ -34,7 +34,7 @@ fn compare_into(trial: &mut Trial, file: &[u8], out_bytes: usize) {
 }
 
 /// An output too short, exact or longer; the listing of the second program.
-fn compare(trial: &mut Trial, file: &[u8]) -> String {
+pub fn compare(trial: &mut Trial, file: &[u8]) -> String {
     let text = listing::text(file);
     let needed = text.len();
     let out_bytes = match trial.rng.between(0, 7) {

@@ -4,6 +4,7 @@
 mod asked;
 mod long;
 mod plain;
+mod shapes;
 
 use second::inputs::{faults, plans};
 use second::{records, runs};
@@ -22,6 +23,17 @@ pub const TRIALS: &[Named] = &[
     ("verdict, demand past 16 bits", demand_past_16_bits),
     ("verdict, many frames", long::many_frames),
     ("verdict, long frames", long::long_frames),
+    ("verdict, D and the frame", shapes::deadlines_and_the_frame),
+    (
+        "verdict, one partition's many",
+        shapes::many_of_one_partition,
+    ),
+    ("verdict, interleaved", shapes::interleaved),
+    (
+        "verdict, deadlines that differ",
+        shapes::deadlines_that_differ,
+    ),
+    ("verdict, about the tick", shapes::about_the_tick),
     ("verdict, legal runs", legal_runs),
     ("plain, D 1", plain::deadline_1),
     ("plain, D = C", plain::deadline_c),

@@ -1,10 +1,12 @@
 //! A task that is asked about, and the calls of both engines in both programs.
 
+use second::inputs::files::Tables;
 use second::inputs::{plans, tables};
 use second::rng::Rng;
-use second::{verdict, Answer};
+use second::{ticks, verdict, Answer};
 
 use crate::batch::Entry;
+use crate::listing;
 use crate::seen::{kind, Seen};
 use crate::trial::Trial;
 
@@ -23,6 +25,22 @@ impl Input {
     /// How many tasks there are, which is the last one's place too.
     pub fn listed(&self) -> usize {
         self.tasks.len() / 4
+    }
+
+    /// The numbers of the task at a place.
+    pub fn task(&mut self, place: usize) -> &mut [u16] {
+        &mut self.tasks[4 * (place - 1)..][..4]
+    }
+
+    /// The bytes of the plan file.
+    pub fn file(&self) -> Vec<u8> {
+        let tables = Tables {
+            frame: self.plan.len() as u64,
+            parts: self.parts.clone(),
+            tasks: self.tasks.clone(),
+            runs: ticks::to_runs(&self.plan),
+        };
+        tables.bytes()
     }
 }
 
@@ -80,6 +98,14 @@ pub fn judge_all(trial: &mut Trial, input: &Input, seen: &mut Seen) {
     for place in 0..=input.listed() + 1 {
         judge(trial, input, place, seen);
     }
+}
+
+/// Every place of the table, and the listing of all.
+pub fn judge_listed(trial: &mut Trial, input: &Input, seen: &mut Seen) {
+    for place in 1..=input.listed() {
+        judge(trial, input, place, seen);
+    }
+    listing::compare(trial, &input.file());
 }
 
 pub const BELOW: &str = "tick below the point";
