@@ -17,7 +17,7 @@ pub fn run() {
             plan::check(&ticks, &parts)
         });
         line(
-            &format!("check 16 x 4096, m {cycle}, walk"),
+            &format!("check 16 x 4096, m {cycle}, same"),
             library,
             || walk::check(&ticks, &parts),
         );

@@ -14,7 +14,7 @@ pub fn run() {
         line(&format!("least F 4096, t {t}"), library, || {
             plan::least(&ticks, 1, t)
         });
-        line(&format!("least F 4096, t {t}, walk"), library, || {
+        line(&format!("least F 4096, t {t}, same"), library, || {
             walk::least(&ticks, 1, t as usize)
         });
     }

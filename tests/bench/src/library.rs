@@ -10,6 +10,14 @@ compile_error!("the archive is for x86-64, and a time under an emulator means no
 extern "C" {
     fn merkazobi_held(plan: *const u16, ticks: usize, p: u16, s: u32, n: u32) -> usize;
     fn merkazobi_least(plan: *const u16, ticks: usize, p: u16, t: u32) -> usize;
+    fn merkazobi_curve(
+        plan: *const u16,
+        ticks: usize,
+        p: u16,
+        n: u32,
+        list: *mut u32,
+        list_numbers: usize,
+    ) -> Answer;
     fn merkazobi_build(
         parts: *const u16,
         part_numbers: usize,
@@ -69,6 +77,19 @@ pub fn held(plan: &[u16], p: u16, s: u32, n: u32) -> u64 {
 
 pub fn least(plan: &[u16], p: u16, t: u32) -> u64 {
     unsafe { merkazobi_least(plan.as_ptr(), plan.len(), p, t) as u64 }
+}
+
+pub fn curve(plan: &[u16], p: u16, n: u32, list: &mut [u32]) -> Answer {
+    unsafe {
+        merkazobi_curve(
+            plan.as_ptr(),
+            plan.len(),
+            p,
+            n,
+            list.as_mut_ptr(),
+            list.len(),
+        )
+    }
 }
 
 pub fn build(parts: &[u16], out: &mut [u16]) -> Answer {

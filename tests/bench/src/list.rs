@@ -1,5 +1,7 @@
-//! The listing: of sixteen partitions and 128 tasks in the longest frame, and of tasks that try every
-//! tick of it, by one engine or by both.
+//! The listing: of sixteen partitions and 128 tasks in the longest frame, of one partition's tasks that
+//! try every tick of it, by one engine or by both, and of the largest file. The lines that end in
+//! `walk` have the walk for each point and each tick in the second program's place, as the library
+//! listed before it had the curve.
 
 use second::inputs::files::Tables;
 use second::inputs::{plans, tables};
@@ -7,11 +9,16 @@ use second::listing;
 use second::rng::Rng;
 use second::{ticks, Answer};
 
+use crate::anew;
+use crate::apart;
+use crate::files::{Shape, FAILING, LATE};
 use crate::library;
+use crate::steps;
 use crate::timing::line;
 use crate::walk;
 
-fn largest() -> Vec<u8> {
+/// Tasks with few points, and deadlines far below the frame.
+fn short_deadlines() -> Vec<u8> {
     let mut rng = Rng::new(1);
     let parts = tables::sixteen(&mut rng);
     let short = plans::serving(&mut rng, &parts, 128).unwrap_or_default();
@@ -50,24 +57,49 @@ fn late() -> Vec<u8> {
     all_own([1, 1, 2, 2], [1, 1900, 4096, 4096])
 }
 
-fn listed(file: &[u8]) -> Result<String, Answer> {
+/// The library's listing.
+pub fn listed(file: &[u8]) -> Result<String, Answer> {
     let mut text = vec![0; 8192];
     let answer = library::list(file, &mut text);
     text.truncate(answer.first as usize);
     String::from_utf8(text).map_err(|_| answer)
 }
 
+fn lines(name: &str, file: &[u8]) {
+    let library = || listed(file);
+    line(&format!("list {name}"), library, || Ok(listing::text(file)));
+    line(&format!("list {name}, same"), library, || steps::list(file));
+    line(&format!("list {name}, walk"), library, || {
+        apart::list(file, walk::least)
+    });
+}
+
+/// The largest file. So many of its tasks pass, and no partition's ticks repeat within the frame.
+fn largest(name: &str, shape: Shape, passing: usize) {
+    let plan = shape.plan();
+    let repeats = |p: u16| steps::repeated(&plan, p).len() < plan.len();
+    assert!(!(1..=16).any(repeats), "{name}");
+    let file = shape.bytes();
+    let text = listed(&file).unwrap_or_default();
+    assert_eq!(text.lines().count(), 1 + 16 + shape.tasks, "{name}");
+    assert_eq!(text.matches("pass").count(), passing, "{name}");
+    lines(name, &file);
+    anew::lines(name, shape);
+}
+
 pub fn run() {
-    let files = [
-        ("16, 128, 4096", largest()),
-        ("every tick", every_tick()),
-        ("late", late()),
-    ];
-    for (name, file) in files {
-        let library = || listed(&file);
-        line(&format!("list {name}"), library, || {
-            Ok(listing::text(&file))
-        });
-        line(&format!("list {name}, walk"), library, || walk::list(&file));
-    }
+    lines("16, 128, 4096", &short_deadlines());
+    lines("every tick", &every_tick());
+    lines("late", &late());
+    largest(
+        "largest, 16 runs",
+        Shape {
+            runs: 16,
+            ..FAILING
+        },
+        0,
+    );
+    largest("largest, 2048 runs", FAILING, 0);
+    largest("largest, 16 runs, late", Shape { runs: 16, ..LATE }, 112);
+    largest("largest, 2048 runs, late", LATE, 112);
 }

@@ -1,16 +1,24 @@
 //! Times the library's entries beside the second program's:
-//! `NAME  library ns/call  second ns/call  ratio`, one line each. Where the name ends in `walk`, the
+//! `NAME  library ns/call  second ns/call  ratio`, one line each. Where the name ends in `same`, the
 //! library's own method in Rust stands in the second program's place; where it ends in `points`, the
-//! library's other engine; of `counts` what it says.
+//! library's other engine; in `least`, its least service once for each t; in `walk`, the walk for each
+//! t in Rust; of `counts` what it says. Of the lines with `anew` anew.rs tells; `growth` is a table.
 //! The entries are named as arguments; all, where none is named.
 
+mod anew;
+mod apart;
 mod build;
 mod check;
 mod counts;
+mod curve;
 mod desk;
+mod files;
+mod growth;
 mod least;
 mod library;
 mod list;
+mod page;
+mod steps;
 mod timing;
 mod verdict;
 mod walk;
@@ -20,9 +28,11 @@ use std::process::ExitCode;
 const ENTRIES: &[(&str, fn())] = &[
     ("build", build::run),
     ("least", least::run),
+    ("curve", curve::run),
     ("check", check::run),
     ("verdict", verdict::run),
     ("list", list::run),
+    ("growth", growth::run),
     ("desk", desk::run),
     ("counts", counts::run),
 ];

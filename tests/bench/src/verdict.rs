@@ -5,8 +5,8 @@
 use second::verdict;
 
 use crate::library;
+use crate::steps;
 use crate::timing::line;
-use crate::walk;
 
 pub fn run() {
     let often = [
@@ -31,15 +31,15 @@ pub fn run() {
         line(&format!("verdict {name}"), library, || {
             verdict::verdict(&plan, &parts, tasks, 4)
         });
-        line(&format!("verdict {name}, walk"), library, || {
-            walk::verdict(&plan, &parts, tasks, 4)
+        line(&format!("verdict {name}, same"), library, || {
+            steps::verdict(&plan, &parts, tasks, 4)
         });
         let plain = || library::plain(&plan, &parts, tasks, 4);
         line(&format!("plain {name}"), plain, || {
             verdict::plain(&plan, &parts, tasks, 4)
         });
-        line(&format!("plain {name}, walk"), plain, || {
-            walk::plain(&plan, &parts, tasks, 4)
+        line(&format!("plain {name}, same"), plain, || {
+            steps::plain(&plan, &parts, tasks, 4)
         });
         line(&format!("plain {name}, points"), plain, library);
     }

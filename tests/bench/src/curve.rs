@@ -1,0 +1,68 @@
+//! The curve of least service, up to the frame's length. In the longest frame it stands beside the
+//! same method and, where the name ends in `least`, beside the library's least service once for each
+//! t; in shorter ones, where that can be waited for, beside the second program's once for each t.
+
+use second::rng::Rng;
+use second::{plan, Answer};
+
+use crate::library;
+use crate::steps;
+use crate::timing::line;
+
+/// So many runs of partition 1 with as many gaps, their lengths by lot. With half as many runs as
+/// ticks there would be no choice left: the plan would repeat every second tick.
+fn scattered(frame: usize, runs: usize) -> Vec<u16> {
+    let mut rng = Rng::new(1);
+    let mut lengths = vec![1; 2 * runs];
+    for _ in 2 * runs..frame {
+        lengths[rng.between(0, 2 * runs - 1)] += 1;
+    }
+    let owners = [1, 0].into_iter().cycle();
+    let ticks = owners.zip(lengths);
+    let plan: Vec<u16> = ticks
+        .flat_map(|(owner, length)| vec![owner; length])
+        .collect();
+    assert_eq!(steps::repeated(&plan, 1).len(), frame);
+    plan
+}
+
+/// Fills the list in by one least service for each t.
+fn each(list: &mut [u32], least: impl Fn(u32) -> u64) -> Answer {
+    for (smallest, t) in list.iter_mut().zip(0..) {
+        *smallest = least(t) as u32;
+    }
+    Answer::good([list.len() as u64, 0, 0, 0])
+}
+
+/// The library's curve beside another way to it.
+fn beside(name: &str, ticks: &[u16], mut other: impl FnMut(&mut [u32]) -> Answer) {
+    let [mut ours, mut theirs] = [vec![0; ticks.len() + 1], vec![0; ticks.len() + 1]];
+    let n = ticks.len() as u32;
+    line(
+        name,
+        || library::curve(ticks, 1, n, &mut ours),
+        || other(&mut theirs),
+    );
+    assert_eq!(ours, theirs, "{name}");
+}
+
+fn lines(name: &str, ticks: &[u16]) {
+    beside(&format!("curve {name}, same"), ticks, |to| {
+        steps::curve(ticks, 1, to)
+    });
+    beside(&format!("curve {name}, least"), ticks, |to| {
+        each(to, |t| library::least(ticks, 1, t))
+    });
+}
+
+pub fn run() {
+    for frame in [64, 256, 1024] {
+        let ticks = scattered(frame, frame / 32);
+        let name = format!("curve F {frame}, runs {}", frame / 32);
+        beside(&name, &ticks, |to| each(to, |t| plan::least(&ticks, 1, t)));
+    }
+    for runs in [1, 128, 2047] {
+        lines(&format!("F 4096, runs {runs}"), &scattered(4096, runs));
+    }
+    lines("F 4096, m 4", &[1, 1, 0, 1].repeat(1024));
+}

@@ -1,0 +1,162 @@
+//! The library's own method once more, in Rust: a partition's curve of least service, walked once from
+//! behind each of its runs, and what its higher tasks ask, kept up by steps. It is given good tables:
+//! of what tells against a plan only 9 is looked for.
+
+use second::records::{self, Partition, Task};
+use second::{file, ticks, Answer};
+
+use crate::page;
+use crate::walk;
+
+/// The shortest part of the plan after which the ticks of p repeat.
+pub fn repeated(plan: &[u16], p: u16) -> &[u16] {
+    let own = |owner: &u16| *owner == p;
+    let repeats = |m: usize| {
+        let mut pairs = plan.iter().zip(&plan[m..]);
+        plan.len() % m == 0 && pairs.all(|(one, later)| own(one) == own(later))
+    };
+    let shorter = (1..plan.len()).find(|&m| repeats(m));
+    &plan[..shorter.unwrap_or(plan.len())]
+}
+
+/// Each number lowered to what as many ticks from the start on hold.
+fn lower(plan: &[u16], p: u16, start: usize, list: &mut [u32]) {
+    let mut held = 0;
+    let mut at = start;
+    for least in list {
+        *least = held.min(*least);
+        held += u32::from(plan[at] == p);
+        at += 1;
+        if at == plan.len() {
+            at = 0;
+        }
+    }
+}
+
+/// The least service of as many ticks as each place of the list says.
+pub fn draw(plan: &[u16], p: u16, list: &mut [u32]) {
+    let plan = repeated(plan, p);
+    for (least, t) in list.iter_mut().zip(0..) {
+        *least = t;
+    }
+    for start in 0..plan.len() {
+        if start == 0 || plan[start] != p && plan[start - 1] == p {
+            lower(plan, p, start, list);
+        }
+    }
+}
+
+pub fn curve(plan: &[u16], p: u16, list: &mut [u32]) -> Answer {
+    draw(plan, p, list);
+    Answer::good([list.len() as u64, 0, 0, 0])
+}
+
+/// Adds what one more higher task asks of each t: its C for each release before t.
+fn add(asks: &mut [u32], task: &Task) {
+    let (c, period) = (task.c as u32, task.t as u32);
+    let [mut all, mut next] = [0, 0];
+    for (asked, t) in asks.iter_mut().zip(0..) {
+        *asked += all;
+        if next == t {
+            all += c;
+            next += period;
+        }
+    }
+}
+
+/// What is known of a partition, up to its longest deadline: the least service of each t, and what
+/// the tasks that were added ask.
+struct Known {
+    curve: Vec<u32>,
+    asks: Vec<u32>,
+}
+
+impl Known {
+    fn new(plan: &[u16], p: u16, longest: u64) -> Known {
+        let mut curve = vec![0; longest as usize + 1];
+        draw(plan, p, &mut curve);
+        let asks = vec![0; curve.len()];
+        Known { curve, asks }
+    }
+
+    /// The smallest tick up to D that is tried and holds, or 0.
+    fn earliest(&self, task: &Task, tried: impl Fn(&[u32], usize) -> bool) -> u64 {
+        let (c, end) = (task.c as u32, task.d as usize + 1);
+        let (asks, curve) = (&self.asks[..end], &self.curve[..end]);
+        let holds = |&t: &usize| tried(asks, t) && c + asks[t] <= curve[t];
+        (1..end).find(holds).unwrap_or(0) as u64
+    }
+
+    /// The smallest tick that holds, or 0.
+    fn tick(&self, task: &Task) -> u64 {
+        self.earliest(task, |_, _| true)
+    }
+
+    /// The smallest scheduling point that holds, or 0. What is asked rises right behind a multiple of
+    /// a higher task's period.
+    fn point(&self, task: &Task) -> u64 {
+        let d = task.d as usize;
+        self.earliest(task, |asks, t| t == d || asks[t] < asks[t + 1])
+    }
+}
+
+type Engine = fn(&Known, &Task) -> u64;
+
+fn earliest(plan: &[u16], tasks: &[Task], place: usize, engine: Engine) -> u64 {
+    let task = &tasks[place - 1];
+    let mut known = Known::new(plan, task.partition, task.d);
+    for higher in &tasks[..place - 1] {
+        if higher.partition == task.partition {
+            add(&mut known.asks, higher);
+        }
+    }
+    engine(&known, task)
+}
+
+fn judged(plan: &[u16], parts: &[u16], tasks: &[u16], place: usize, engine: Engine) -> Answer {
+    let served = walk::check(plan, parts);
+    match records::tasks(tasks) {
+        Ok(tasks) if served.number == 0 => {
+            Answer::good([earliest(plan, &tasks, place, engine), 0, 0, 0])
+        }
+        Ok(_) => served,
+        Err(refusal) => refusal,
+    }
+}
+
+pub fn verdict(plan: &[u16], parts: &[u16], tasks: &[u16], place: usize) -> Answer {
+    judged(plan, parts, tasks, place, Known::point)
+}
+
+pub fn plain(plan: &[u16], parts: &[u16], tasks: &[u16], place: usize) -> Answer {
+    judged(plan, parts, tasks, place, Known::tick)
+}
+
+/// Judges the tasks of one partition by one curve; each has its end at its own place.
+fn judge(plan: &[u16], p: u16, tasks: &[Task], ends: &mut [[u64; 2]]) {
+    let own = |task: &Task| task.partition == p;
+    let deadlines = tasks.iter().filter(|task| own(task)).map(|task| task.d);
+    let Some(longest) = deadlines.max() else {
+        return;
+    };
+    let mut known = Known::new(plan, p, longest);
+    for (task, end) in tasks.iter().zip(ends) {
+        if own(task) {
+            *end = [known.point(task), known.tick(task)];
+            add(&mut known.asks, task);
+        }
+    }
+}
+
+pub fn list(bytes: &[u8]) -> Result<String, Answer> {
+    let file = file::parse(bytes)?;
+    let plan = ticks::of_runs(&file.runs);
+    walk::serves(&plan, &file.partitions)?;
+    let least = |(partition, p): (&Partition, u16)| walk::least(&plan, p, partition.m());
+    let leasts: Vec<u64> = file.partitions.iter().zip(1..).map(least).collect();
+    let mut ends = vec![[0; 2]; file.tasks.len()];
+    for (_, p) in file.partitions.iter().zip(1..) {
+        judge(&plan, p, &file.tasks, &mut ends);
+    }
+    Ok(page::text(&file, &leasts, &ends))
+}
