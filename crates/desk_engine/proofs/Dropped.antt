@@ -1,5 +1,5 @@
 -- The drop pass against the desk's `kept`. Assumes nothing.
-use Prim.Native.Nat.{ℕ, suc, _-_, _<_, _≤_}
+use Prim.Native.Nat.{ℕ, suc, _+_, _-_, _<_, _≤_}
 use mathlib.Core.Path.{_≡_, refl, sym, ap, _∙_}
 use mathlib.Core.Bool.{Bool, true, false}
 use mathlib.Core.List.{List, [], _∷_, _++_, append-assoc}
@@ -20,7 +20,7 @@ abbrev pub goneBy : ℕ → List Job → ℕ
 goneBy t [] = 0
 goneBy t (j ∷ js) = pick (leb (ends j) t) (suc (goneBy t js)) (goneBy t js)
 
-gone-none : (t e : ℕ) (js : List Job) → t < e → Chain e js → (goneBy t js ≡ 0) × (kept t js ≡ js)
+pub gone-none : (t e : ℕ) (js : List Job) → t < e → Chain e js → (goneBy t js ≡ 0) × (kept t js ≡ js)
 gone-none t e [] h o = (refl, refl)
 gone-none t e (j ∷ js) h o =
     let late : t < ends j = omega (arith, h, o .0) in
@@ -43,6 +43,15 @@ gone-few t (j ∷ js) = by-end (leb (ends j) t) (gone-few t js) where
   by-end : (b : Bool) → goneBy t js ≤ length js → pick b (suc (goneBy t js)) (goneBy t js) ≤ suc (length js)
   by-end true h = omega arith
   by-end false h = omega arith
+
+-- those dropped and those left are all
+pub gone-kept : (t : ℕ) (js : List Job) → goneBy t js + length (kept t js) ≡ length js
+gone-kept t [] = omega arith
+gone-kept t (j ∷ js) = by-end (leb (ends j) t) (gone-kept t js) where
+  by-end : (b : Bool) → goneBy t js + length (kept t js) ≡ length js
+      → pick b (suc (goneBy t js)) (goneBy t js) + length (pick b (kept t js) (j ∷ kept t js)) ≡ suc (length js)
+  by-end true h = omega (arith, h)
+  by-end false h = omega (arith, h)
 
 -- after the drop pass the jobs that do not end by t stand in front, of a table of the same length
 pub drop-law : (t e : ℕ) (js z : List Job) → Chain e js

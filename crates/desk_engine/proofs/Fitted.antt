@@ -1,93 +1,72 @@
 -- The flexibility pass against the desk's `refit`. Assumes nothing.
-use Prim.Native.Nat.{ℕ, suc, _+_}
+use Prim.Native.Nat.{ℕ, suc, _+_, _-_, _≤_, min}
 use mathlib.Core.Path.{_≡_, refl, sym, ap, _∙_}
-use mathlib.Core.Bool.{Bool, true, false}
 use mathlib.Core.List.{List, [], _∷_, _++_, append-assoc}
 use native.Mathlib.Omega.{arith}
 use native.Mathlib.Nat.{add-zero}
 use lib.ListN.{length}
 use Rattle.desk.specs.declared.Job.{Job}
-use Rattle.desk.specs.Table.{job, none, xOf, refit}
+use Rattle.desk.specs.Table.{job, xOf, refit}
 use Rattle.desk_writing.specs.declared.fit.Fit.{Fit}
 use Rattle.desk_records.specs.Folds.{foldBack, back}
+use Rattle.desk_records.specs.Sums.{most32}
 use Rattle.desk_writing.specs.Writing.{fitFrom, stillFit, fitted, fitOut, fitStep, fittedAll}
 use Rattle.desk_engine.proofs.Counts.{some-more, one-less}
 
-abbrev some : List Job → Bool
-some [] = false
-some (j ∷ js) = true
+-- when the first of ks starts at the latest, far off if there is none
+abbrev pub behindOf : List Job → ℕ
+behindOf [] = most32
+behindOf (k ∷ ks) = k .flex + k .start
 
-abbrev headOf : List Job → Job
-headOf [] = none
-headOf (j ∷ js) = j
+-- no deadline is later than far off
+abbrev pub Dues : List Job → Type 0
+Dues [] = Unit {0}
+Dues (j ∷ js) = (j .deadline ≤ most32) × Dues js
 
-abbrev fitAt : ℕ → ℕ → List Job → Fit
-fitAt skip keep ks = record { still = false; skip = skip; keep = keep; has = some ks; next = headOf ks }
+fit-wait : (k h : ℕ) (j : Job) → fitStep (fitFrom (suc k) h) j ≡ fitFrom k h
+fit-wait k h j = rw (some-more k, one-less k)
 
-fit-skip : (k m : ℕ) (j : Job) → fitStep (fitAt (suc k) m []) j ≡ fitAt k m []
-fit-skip k m j = rw (some-more k, one-less k)
+fit-wait-out : (k h : ℕ) (j : Job) → fitOut (fitFrom (suc k) h) j ≡ j
+fit-wait-out k h j = rw (some-more k)
 
-fit-skip-out : (k m : ℕ) (j : Job) → fitOut (fitAt (suc k) m []) j ≡ j
-fit-skip-out k m j = rw (some-more k)
-
-fit-keep : (k : ℕ) (ks : List Job) (j : Job) → fitStep (fitAt 0 (suc k) ks) j ≡ fitAt 0 k (j ∷ ks)
-fit-keep k ks j = rw (some-more k, one-less k)
-
-fit-keep-out : (k : ℕ) (ks : List Job) (j : Job) → fitOut (fitAt 0 (suc k) ks) j ≡ j
-fit-keep-out k ks j = rw (some-more k)
-
-foldBack-skip : (z : List Job) (k m : ℕ) → foldBack fitStep (fitAt (length z + k) m []) z ≡ fitAt k m []
+foldBack-wait : (z : List Job) (k h : ℕ) → foldBack fitStep (fitFrom (length z + k) h) z ≡ fitFrom k h
 unfolding foldBack
-foldBack-skip [] k m = let e : 0 + k ≡ k = omega arith in ap (λ (i : ℕ). fitAt i m []) e
-foldBack-skip (j ∷ z) k m =
+foldBack-wait [] k h = let e : 0 + k ≡ k = omega arith in ap (λ (i : ℕ). fitFrom i h) e
+foldBack-wait (j ∷ z) k h =
     let e : suc (length z) + k ≡ length z + suc k = omega arith in
-    ap (λ (i : ℕ). fitStep (foldBack fitStep (fitAt i m []) z) j) e ∙ ap (λ (s : Fit). fitStep s j) (foldBack-skip z (suc k) m) ∙ fit-skip k m j
+    ap (λ (i : ℕ). fitStep (foldBack fitStep (fitFrom i h) z) j) e ∙ ap (λ (s : Fit). fitStep s j) (foldBack-wait z (suc k) h) ∙ fit-wait k h j
 
-back-skip : (z : List Job) (k m : ℕ) → back fitStep fitOut (fitAt (length z + k) m []) z ≡ z
+back-wait : (z : List Job) (k h : ℕ) → back fitStep fitOut (fitFrom (length z + k) h) z ≡ z
 unfolding back
-back-skip [] k m = refl
-back-skip (j ∷ z) k m =
+back-wait [] k h = refl
+back-wait (j ∷ z) k h =
     let e : suc (length z) + k ≡ length z + suc k = omega arith in
-    ap (λ (i : ℕ). fitOut (foldBack fitStep (fitAt i m []) z) j ∷ back fitStep fitOut (fitAt i m []) z) e
-    ∙ ap (λ (s : Fit). fitOut s j ∷ back fitStep fitOut (fitAt (length z + suc k) m []) z) (foldBack-skip z (suc k) m)
-    ∙ ap (λ (v : Job). v ∷ back fitStep fitOut (fitAt (length z + suc k) m []) z) (fit-skip-out k m j)
-    ∙ ap (λ (r : List Job). j ∷ r) (back-skip z (suc k) m)
+    ap (λ (i : ℕ). fitOut (foldBack fitStep (fitFrom i h) z) j ∷ back fitStep fitOut (fitFrom i h) z) e
+    ∙ ap (λ (s : Fit). fitOut s j ∷ back fitStep fitOut (fitFrom (length z + suc k) h) z) (foldBack-wait z (suc k) h)
+    ∙ ap (λ (v : Job). v ∷ back fitStep fitOut (fitFrom (length z + suc k) h) z) (fit-wait-out k h j)
+    ∙ ap (λ (r : List Job). j ∷ r) (back-wait z (suc k) h)
 
-foldBack-keep : (ks : List Job) (k : ℕ) → foldBack fitStep (fitAt 0 (length ks + k) []) ks ≡ fitAt 0 k ks
+own-least : (d m a c : ℕ) → d ≤ m → min (d - a - c) (m - a - c) ≡ d - a - c
+own-least d m a c h = omega (arith, h)
+
+fitted-is : (j : Job) (ks : List Job) → j .deadline ≤ most32 → fitted (fitFrom 0 (behindOf ks)) j ≡ job (j .start) (j .budget) (j .deadline) (xOf j ks)
+fitted-is j [] h = ap (job (j .start) (j .budget) (j .deadline)) (own-least (j .deadline) most32 (j .start) (j .budget) h)
+fitted-is j (k ∷ ks) h = refl
+
+foldBack-refit : (js ks : List Job) → Dues js → foldBack fitStep (fitFrom 0 (behindOf ks)) js ≡ fitFrom 0 (behindOf (refit js ks))
 unfolding foldBack
-foldBack-keep [] k = let e : 0 + k ≡ k = omega arith in ap (λ (i : ℕ). fitAt 0 i []) e
-foldBack-keep (j ∷ ks) k =
-    let e : suc (length ks) + k ≡ length ks + suc k = omega arith in
-    ap (λ (i : ℕ). fitStep (foldBack fitStep (fitAt 0 i []) ks) j) e ∙ ap (λ (s : Fit). fitStep s j) (foldBack-keep ks (suc k)) ∙ fit-keep k ks j
+foldBack-refit [] ks w = refl
+foldBack-refit (j ∷ js) ks w =
+    ap (λ (s : Fit). fitStep s j) (foldBack-refit js ks (w .1))
+    ∙ ap (λ (v : Job). fitFrom 0 (v .flex + v .start)) (fitted-is j (refit js ks) (w .0))
 
-back-keep : (ks : List Job) (k : ℕ) → back fitStep fitOut (fitAt 0 (length ks + k) []) ks ≡ ks
+back-refit : (js ks : List Job) → Dues js → back fitStep fitOut (fitFrom 0 (behindOf ks)) js ++ ks ≡ refit js ks
 unfolding back
-back-keep [] k = refl
-back-keep (j ∷ ks) k =
-    let e : suc (length ks) + k ≡ length ks + suc k = omega arith in
-    ap (λ (i : ℕ). fitOut (foldBack fitStep (fitAt 0 i []) ks) j ∷ back fitStep fitOut (fitAt 0 i []) ks) e
-    ∙ ap (λ (s : Fit). fitOut s j ∷ back fitStep fitOut (fitAt 0 (length ks + suc k) []) ks) (foldBack-keep ks (suc k))
-    ∙ ap (λ (v : Job). v ∷ back fitStep fitOut (fitAt 0 (length ks + suc k) []) ks) (fit-keep-out k ks j)
-    ∙ ap (λ (r : List Job). j ∷ r) (back-keep ks (suc k))
-
-fitted-is : (j : Job) (ks : List Job) → fitted (fitAt 0 0 ks) j ≡ job (j .start) (j .budget) (j .deadline) (xOf j ks)
-fitted-is j [] = refl
-fitted-is j (k ∷ ks) = refl
-
-foldBack-refit : (js ks : List Job) → foldBack fitStep (fitAt 0 0 ks) js ≡ fitAt 0 0 (refit js ks)
-unfolding foldBack
-foldBack-refit [] ks = refl
-foldBack-refit (j ∷ js) ks =
-    ap (λ (s : Fit). fitStep s j) (foldBack-refit js ks)
-    ∙ ap (λ (v : Job). record { still = false; skip = 0; keep = 0; has = true; next = v }) (fitted-is j (refit js ks))
-
-back-refit : (js ks : List Job) → back fitStep fitOut (fitAt 0 0 ks) js ++ ks ≡ refit js ks
-unfolding back
-back-refit [] ks = refl
-back-refit (j ∷ js) ks =
-    ap (λ (s : Fit). fitOut s j ∷ (back fitStep fitOut (fitAt 0 0 ks) js ++ ks)) (foldBack-refit js ks)
-    ∙ ap (λ (v : Job). v ∷ (back fitStep fitOut (fitAt 0 0 ks) js ++ ks)) (fitted-is j (refit js ks))
-    ∙ ap (λ (r : List Job). job (j .start) (j .budget) (j .deadline) (xOf j (refit js ks)) ∷ r) (back-refit js ks)
+back-refit [] ks w = refl
+back-refit (j ∷ js) ks w =
+    ap (λ (s : Fit). fitOut s j ∷ (back fitStep fitOut (fitFrom 0 (behindOf ks)) js ++ ks)) (foldBack-refit js ks (w .1))
+    ∙ ap (λ (v : Job). v ∷ (back fitStep fitOut (fitFrom 0 (behindOf ks)) js ++ ks)) (fitted-is j (refit js ks) (w .0))
+    ∙ ap (λ (r : List Job). job (j .start) (j .budget) (j .deadline) (xOf j (refit js ks)) ∷ r) (back-refit js ks (w .1))
 
 foldBack-append : (s : Fit) (xs ys : List Job) → foldBack fitStep s (xs ++ ys) ≡ foldBack fitStep (foldBack fitStep s ys) xs
 unfolding foldBack
@@ -101,25 +80,21 @@ back-append s (x ∷ xs) ys =
     ap (λ (r : Fit). fitOut r x ∷ back fitStep fitOut s (xs ++ ys)) (foldBack-append s xs ys)
     ∙ ap (λ (r : List Job). fitOut (foldBack fitStep (foldBack fitStep s ys) xs) x ∷ r) (back-append s xs ys)
 
--- z places hold nothing, ks have their x, and js get theirs
-pub fit-law : (js ks z : List Job) → fittedAll (fitFrom (length z) (length ks)) (js ++ (ks ++ z)) ≡ refit js ks ++ z
+-- ks and z stay as they are, and js get their x
+pub fit-law : (js ks z : List Job) → Dues js → fittedAll (fitFrom (length (ks ++ z)) (behindOf ks)) (js ++ (ks ++ z)) ≡ refit js ks ++ z
 unfolding fittedAll
-fit-law js ks z =
-    let ez : foldBack fitStep (fitFrom (length z) (length ks)) z ≡ fitAt 0 (length ks + 0) [] =
-    ap (λ (i : ℕ). foldBack fitStep (fitAt i (length ks) []) z) (sym (add-zero (length z))) ∙ foldBack-skip z 0 (length ks) ∙ ap (λ (i : ℕ). fitAt 0 i []) (sym (add-zero (length ks))) in
-    let ek : foldBack fitStep (fitFrom (length z) (length ks)) (ks ++ z) ≡ fitAt 0 0 ks =
-    foldBack-append (fitFrom (length z) (length ks)) ks z ∙ ap (λ (s : Fit). foldBack fitStep s ks) ez ∙ foldBack-keep ks 0 in
-    let bz : back fitStep fitOut (fitFrom (length z) (length ks)) z ≡ z =
-    ap (λ (i : ℕ). back fitStep fitOut (fitAt i (length ks) []) z) (sym (add-zero (length z))) ∙ back-skip z 0 (length ks) in
-    let bk : back fitStep fitOut (fitFrom (length z) (length ks)) (ks ++ z) ≡ ks ++ z =
-    back-append (fitFrom (length z) (length ks)) ks z
-    ∙ ap (λ (r : List Job). back fitStep fitOut (foldBack fitStep (fitFrom (length z) (length ks)) z) ks ++ r) bz
-    ∙ ap (λ (s : Fit). back fitStep fitOut s ks ++ z) ez ∙ ap (λ (r : List Job). r ++ z) (back-keep ks 0) in
-    back-append (fitFrom (length z) (length ks)) js (ks ++ z)
-    ∙ ap (λ (r : List Job). back fitStep fitOut (foldBack fitStep (fitFrom (length z) (length ks)) (ks ++ z)) js ++ r) bk
-    ∙ ap (λ (s : Fit). back fitStep fitOut s js ++ (ks ++ z)) ek
-    ∙ sym (append-assoc (back fitStep fitOut (fitAt 0 0 ks) js) ks z)
-    ∙ ap (λ (r : List Job). r ++ z) (back-refit js ks)
+fit-law js ks z w =
+    let m : ℕ = length (ks ++ z) in
+    let h : ℕ = behindOf ks in
+    let e : foldBack fitStep (fitFrom m h) (ks ++ z) ≡ fitFrom 0 h =
+    ap (λ (i : ℕ). foldBack fitStep (fitFrom i h) (ks ++ z)) (sym (add-zero m)) ∙ foldBack-wait (ks ++ z) 0 h in
+    let b : back fitStep fitOut (fitFrom m h) (ks ++ z) ≡ ks ++ z =
+    ap (λ (i : ℕ). back fitStep fitOut (fitFrom i h) (ks ++ z)) (sym (add-zero m)) ∙ back-wait (ks ++ z) 0 h in
+    back-append (fitFrom m h) js (ks ++ z)
+    ∙ ap (λ (r : List Job). back fitStep fitOut (foldBack fitStep (fitFrom m h) (ks ++ z)) js ++ r) b
+    ∙ ap (λ (s : Fit). back fitStep fitOut s js ++ (ks ++ z)) e
+    ∙ sym (append-assoc (back fitStep fitOut (fitFrom 0 h) js) ks z)
+    ∙ ap (λ (r : List Job). r ++ z) (back-refit js ks w)
 
 -- a still pass changes nothing
 foldBack-still : (l : List Job) → foldBack fitStep stillFit l ≡ stillFit

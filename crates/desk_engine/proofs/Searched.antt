@@ -1,140 +1,181 @@
--- The reading pass against the search: how many are dropped and left, busy, and the place, of the list definitions. Assumes nothing.
-use Prim.Native.Nat.{ℕ, zero, suc, _+_, _<_, _≤_}
-use mathlib.Core.Path.{_≡_, refl, sym, subst}
-use mathlib.Core.Bool.{Bool, true, false, not, _&&_, _||_}
+-- The reading pass against the search: how many are dropped, busy, the place and the job behind it, of the list definitions. Assumes nothing.
+use Prim.Native.Nat.{ℕ, suc, _+_, _-_, _<_, _≤_}
+use mathlib.Core.Path.{_≡_, refl, sym, subst, _∙_}
+use mathlib.Core.Bool.{Bool, true, false, _||_}
 use mathlib.Core.List.{List, [], _∷_}
 use native.Mathlib.Omega.{arith}
 use lib.Dec.{leb, ltb, eqb}
-use lib.ListN.{length, take}
+use lib.ListN.{length, take, drop}
 use borrow.Author.Tests.{lt-ltb, le-ltb, lt-leb, leb-true, leb-false, ne-eqb}
 use Rattle.rules.specs.Walk.{pick}
 use Rattle.desk.specs.declared.Job.{Job}
 use Rattle.desk_records.specs.Sums.{most32}
 use Rattle.desk_reading.specs.declared.searching.Searching.{Searching}
-use Rattle.desk.specs.Request.{kept, busy, early, room, findFrom, Place, At, Nowhere}
+use Rattle.desk.specs.Request.{kept, busy, early, room, findFrom, find, Place, At, Nowhere}
 use Rattle.desk.proofs.Chain.{Chain}
 use Rattle.desk.proofs.Spot.{early-late}
 use Rattle.desk_records.specs.Folds.{fold}
 use Rattle.desk_reading.specs.Reading.{searchStep}
-use Rattle.desk_engine.proofs.Counts.{some-more, one-less, sum-is}
-use Rattle.desk_engine.proofs.Dropped.{goneBy}
+use Rattle.desk_engine.proofs.Counts.{sum-is}
+use Rattle.desk_engine.proofs.Dropped.{goneBy, gone-none}
+use Rattle.desk_engine.proofs.Fitted.{behindOf}
 use Rattle.desk.specs.Table.{ends}
 
 module _ (t c d : ℕ) where
-  abbrev pub sk : ℕ → ℕ → ℕ → Bool → Bool → ℕ → ℕ → Searching
-  sk n g r b f p s = record { time = t; budget = c; deadline = d; left = n; gone = g; rest = r; busy = b; found = f; place = p; start = s }
+  -- the search goes on, and has ended
+  abbrev on : ℕ → Bool → ℕ → ℕ → Searching
+  on g b p s = record { time = t; budget = c; deadline = d; looking = true; gone = g; busy = b; found = false; place = p; start = s; behind = most32 }
 
-  abbrev foundBy : Bool → ℕ → Job → Bool
-  foundBy f s j = f || (leb (j .start) d && leb c (room s d j))
+  abbrev off : ℕ → Bool → Bool → ℕ → ℕ → ℕ → Searching
+  off g b f p s h = record { time = t; budget = c; deadline = d; looking = false; gone = g; busy = b; found = f; place = p; start = s; behind = h }
 
-  abbrev pastBy : Bool → ℕ → Job → Bool
-  pastBy f s j = not f && (leb (j .start) d && ltb (room s d j) c)
-
-  -- the search as the pass does it, over the jobs left, and its end
-  abbrev pub searchFrom : Bool → ℕ → ℕ → List Job → Place
-  searchFrom f p s [] = pick (f || leb (s + c) d) (At p s) Nowhere
-  searchFrom f p s (j ∷ ks) = searchFrom (foundBy f s j) (pick (pastBy f s j) (p + 1) p) (pick (pastBy f s j) (ends j) s) ks
-
-  abbrev pub busyFrom : ℕ → Bool → List Job → Bool
-  busyFrom r b [] = b
-  busyFrom r b (j ∷ ks) = busyFrom (r + 1) (pick (eqb r 0) (ltb (j .start) t) b) ks
-
-  abbrev pub Ends : List Job → Type 0
-  Ends [] = Unit {0}
-  Ends (j ∷ js) = (ends j ≤ most32) × Ends js
-
-  pub record Searched (g r : ℕ) (b f : Bool) (p s : ℕ) (js : List Job) (e : Searching) : Type 0 where
-    pub gone-is : e .gone ≡ g + goneBy t js
-    pub rest-is : e .rest ≡ r + length (kept t js)
-    pub busy-is : e .busy ≡ busyFrom r b (kept t js)
-    pub spot-is : pick (e .found || leb (e .start + c) d) (At (e .place) (e .start)) Nowhere ≡ searchFrom f p s (kept t js)
-
-  seek-gone : (n g r : ℕ) (b f : Bool) (p s : ℕ) (j : Job) → leb (ends j) t ≡ true → g + 1 ≤ most32 → searchStep (sk (suc n) g r b f p s) j ≡ sk n (g + 1) r b f p s
-  seek-gone n g r b f p s j e h = rw (some-more n, one-less n, e, sum-is g 1 h)
-
-  seek-kept : (n g r : ℕ) (b f : Bool) (p s : ℕ) (j : Job) → leb (ends j) t ≡ false → r + 1 ≤ most32 → p + 1 ≤ most32 → ends j ≤ most32
-      → searchStep (sk (suc n) g r b f p s) j ≡ sk n g (r + 1) (pick (eqb r 0) (ltb (j .start) t) b) (foundBy f s j) (pick (pastBy f s j) (p + 1) p) (pick (pastBy f s j) (ends j) s)
-  seek-kept n g r b f p s j e hr hp hj = rw (some-more n, one-less n, e, sum-is r 1 hr, sum-is p 1 hp, sum-is (j .start) (j .budget) hj)
-
-  idle : (g r : ℕ) (b f : Bool) (p s : ℕ) (l : List Job) → fold searchStep (sk 0 g r b f p s) l ≡ sk 0 g r b f p s
+  off-stays : (g : ℕ) (b f : Bool) (p s h : ℕ) (l : List Job) → fold searchStep (off g b f p s h) l ≡ off g b f p s h
   unfolding fold
-  idle g r b f p s [] = refl
-  idle g r b f p s (j ∷ l) = idle g r b f p s l
+  off-stays g b f p s h [] = refl
+  off-stays g b f p s h (j ∷ l) = off-stays g b f p s h l
 
-  here : (n g r : ℕ) (b f : Bool) (p s : ℕ) → Searched g r b f p s [] (sk n g r b f p s)
-  here n g r b f p s = record { gone-is = omega arith; rest-is = omega arith; busy-is = refl; spot-is = refl }
+  abbrev pub spotOf : Searching → Place
+  spotOf e = pick (e .found || leb (e .start + c) d) (At (e .place) (e .start)) Nowhere
 
-  past-le : (v : Bool) (p m : ℕ) → p + suc m ≤ most32 → pick v (p + 1) p + m ≤ most32
-  past-le true p m h = omega (arith, h)
-  past-le false p m h = omega (arith, h)
+  abbrev Asks : Searching → Type 0
+  Asks e = (e .time ≡ t) × (e .budget ≡ c) × (e .deadline ≡ d)
 
-  pub searched : (l : List Job) (n g r : ℕ) (b f : Bool) (p s : ℕ) → Ends (take n l) → g + length l ≤ most32 → r + length l ≤ most32 → p + length l ≤ most32
-      → Searched g r b f p s (take n l) (fold searchStep (sk n g r b f p s) l)
-  unfolding fold
-  searched [] zero g r b f p s w hg hr hp = here 0 g r b f p s
-  searched [] (suc n) g r b f p s w hg hr hp = here (suc n) g r b f p s
-  searched (j ∷ l) zero g r b f p s w hg hr hp = subst (Searched g r b f p s []) (sym (idle g r b f p s l)) (here 0 g r b f p s)
-  searched (j ∷ l) (suc n) g r b f p s w hg hr hp =
-      by-end (leb (ends j) t) refl
-      (searched l n (g + 1) r b f p s (w .1) (omega (arith, hg)) (omega (arith, hr)) (omega (arith, hp)))
-      (searched l n g (r + 1) (pick (eqb r 0) (ltb (j .start) t) b) (foundBy f s j) (pick (pastBy f s j) (p + 1) p) (pick (pastBy f s j) (ends j) s) (w .1) (omega (arith, hg)) (omega (arith, hr)) (past-le (pastBy f s j) p (length l) hp)) where
-        by-end : (v : Bool) → leb (ends j) t ≡ v
-            → Searched (g + 1) r b f p s (take n l) (fold searchStep (sk n (g + 1) r b f p s) l)
-            → Searched g (r + 1) (pick (eqb r 0) (ltb (j .start) t) b) (foundBy f s j) (pick (pastBy f s j) (p + 1) p) (pick (pastBy f s j) (ends j) s) (take n l)
-            (fold searchStep (sk n g (r + 1) (pick (eqb r 0) (ltb (j .start) t) b) (foundBy f s j) (pick (pastBy f s j) (p + 1) p) (pick (pastBy f s j) (ends j) s)) l)
-            → Searched g r b f p s (j ∷ take n l) (fold searchStep (searchStep (sk (suc n) g r b f p s) j) l)
-        by-end true e m₁ m₂ =
-            let step = seek-gone n g r b f p s j e (omega (arith, hg)) in
-            subst (λ (z : Searching). Searched g r b f p s (j ∷ take n l) (fold searchStep z l)) (sym step)
-            (record {
-              gone-is = rw e (omega (arith, m₁ .gone-is));
-              rest-is = rw e (m₁ .rest-is);
-              busy-is = rw e (m₁ .busy-is);
-              spot-is = rw e (m₁ .spot-is);
-            })
-        by-end false e m₁ m₂ =
-            let step = seek-kept n g r b f p s j e (omega (arith, hr)) (omega (arith, hp)) (w .0) in
-            subst (λ (z : Searching). Searched g r b f p s (j ∷ take n l) (fold searchStep z l)) (sym step)
-            (record {
-              gone-is = rw e (m₂ .gone-is);
-              rest-is = rw e (omega (arith, m₂ .rest-is));
-              busy-is = rw e (m₂ .busy-is);
-              spot-is = rw e (m₂ .spot-is);
-            })
+  -- ---- among the jobs left, on from place p and time s
 
   -- busy, of the first job left
-  busy-stays : (r : ℕ) (b : Bool) (ks : List Job) → 0 < r → busyFrom r b ks ≡ b
-  busy-stays r b [] h = refl
-  busy-stays r b (j ∷ ks) h = rw (ne-eqb r 0 (omega arith)) (busy-stays (r + 1) b ks (omega arith))
+  abbrev busyFrom : ℕ → Bool → List Job → Bool
+  busyFrom p b [] = b
+  busyFrom p b (j ∷ ks) = pick (eqb p 0) (ltb (j .start) t) b
 
-  pub busy-law : (ks : List Job) → busyFrom 0 false ks ≡ busy t ks
-  busy-law [] = refl
-  busy-law (j ∷ ks) = busy-stays (0 + 1) (ltb (j .start) t) ks (omega arith)
+  busy-stays : (p : ℕ) (b : Bool) (ks : List Job) → busyFrom (p + 1) b ks ≡ b
+  busy-stays p b [] = refl
+  busy-stays p b (j ∷ ks) = rw (ne-eqb (p + 1) 0 (omega arith))
 
-  -- the place
-  found-stays : (p s : ℕ) (ks : List Job) → searchFrom true p s ks ≡ At p s
-  found-stays p s [] = refl
-  found-stays p s (j ∷ ks) = found-stays p s ks
+  record Sought (g : ℕ) (b : Bool) (p s : ℕ) (ks : List Job) (e : Searching) : Type 0 where
+    pub asks : Asks e
+    pub gone-is : e .gone ≡ g
+    pub busy-is : e .busy ≡ busyFrom p b ks
+    pub spot-is : spotOf e ≡ findFrom p s c d (take (early d ks) ks)
+    pub from : p ≤ e .place
+    pub behind-is : e .behind ≡ behindOf (drop (e .place - p) ks)
 
-  late-stays : (p s e : ℕ) (ks : List Job) → d < e → Chain e ks → searchFrom false p s ks ≡ pick (leb (s + c) d) (At p s) Nowhere
-  late-stays p s e [] h o = refl
-  late-stays p s e (j ∷ ks) h o =
-      let late : d < j .start = omega (arith, h, o .0) in
-      rw (lt-leb (j .start) d late) (late-stays p s (ends j) ks (omega arith) (o .2))
+  -- none of ks ends by t
+  abbrev Lasting : List Job → Type 0
+  Lasting [] = Unit {0}
+  Lasting (j ∷ ks) = (t < ends j) × Lasting ks
 
-  pub place-law : (p s e : ℕ) (ks : List Job) → Chain e ks → searchFrom false p s ks ≡ findFrom p s c d (take (early d ks) ks)
-  place-law p s e [] o = refl
-  place-law p s e (j ∷ ks) o = by-early (leb (j .start) d) refl (place-law (p + 1) (ends j) (ends j) ks (o .2)) where
-    by-room : (v : Bool) → leb (j .start) d ≡ true → leb c (room s d j) ≡ v → searchFrom false (p + 1) (ends j) ks ≡ findFrom (p + 1) (ends j) c d (take (early d ks) ks)
-        → searchFrom (foundBy false s j) (pick (pastBy false s j) (p + 1) p) (pick (pastBy false s j) (ends j) s) ks
-        ≡ pick v (At p s) (findFrom (p + 1) (ends j) c d (take (early d ks) ks))
-    by-room true e₁ e₂ more = rw (e₁, e₂, le-ltb (room s d j) c (leb-true c _ e₂)) (found-stays p s ks)
-    by-room false e₁ e₂ more = rw (e₁, e₂, lt-ltb (room s d j) c (leb-false c _ e₂)) more
+  lasting-of : (e : ℕ) (ks : List Job) → t < e → Chain e ks → Lasting ks
+  lasting-of e [] h o = tt
+  lasting-of e (j ∷ ks) h o =
+      let late : t < ends j = omega (arith, h, o .0) in
+      (late, lasting-of (ends j) ks late (o .2))
 
-    by-early : (v : Bool) → leb (j .start) d ≡ v → searchFrom false (p + 1) (ends j) ks ≡ findFrom (p + 1) (ends j) c d (take (early d ks) ks)
-        → searchFrom (foundBy false s j) (pick (pastBy false s j) (p + 1) p) (pick (pastBy false s j) (ends j) s) ks
-        ≡ findFrom p s c d (take (pick v (suc (early d ks)) (early d ks)) (j ∷ ks))
-    by-early true e₁ more = by-room (leb c (room s d j)) e₁ refl more
-    by-early false e₁ more =
-        let late : d < ends j = omega (arith, leb-false (j .start) d e₁) in
-        rw (e₁, early-late d (ends j) ks late (o .2)) (late-stays p s (ends j) ks late (o .2))
+  -- the ways on from a job j left
+  module _ (g : ℕ) (b : Bool) (p s : ℕ) (j : Job) (last : t < ends j) where
+    abbrev b₂ : Bool
+    b₂ = pick (eqb p 0) (ltb (j .start) t) b
+
+    seek-late : leb (j .start) d ≡ false → searchStep (on g b p s) j ≡ off g b₂ false p s (j .flex + j .start)
+    seek-late e = rw (lt-leb (ends j) t last, lt-ltb d (j .start) (leb-false _ _ e))
+
+    seek-found : leb (j .start) d ≡ true → leb c (room s d j) ≡ true → searchStep (on g b p s) j ≡ off g b₂ true p s (j .flex + j .start)
+    seek-found e f = rw (lt-leb (ends j) t last, le-ltb d (j .start) (leb-true _ _ e), le-ltb (room s d j) c (leb-true c _ f))
+
+    seek-past : leb (j .start) d ≡ true → leb c (room s d j) ≡ false → p + 1 ≤ most32 → ends j ≤ most32 → searchStep (on g b p s) j ≡ on g b₂ (p + 1) (ends j)
+    seek-past e f hp hj = rw (lt-leb (ends j) t last, le-ltb d (j .start) (leb-true _ _ e), lt-ltb (room s d j) c (leb-false c _ f), sum-is p 1 hp, sum-is (j .start) (j .budget) hj)
+
+  none-off : (p : ℕ) → p - p ≡ 0
+  none-off p = omega arith
+
+  one-off : (p q : ℕ) → p + 1 ≤ q → q - p ≡ suc (q - (p + 1))
+  one-off p q h = omega (arith, h)
+
+  -- the place is the one before j
+  ended : (g : ℕ) (b f : Bool) (p s : ℕ) (j : Job) (ks : List Job) → pick (f || leb (s + c) d) (At p s) Nowhere ≡ findFrom p s c d (take (early d (j ∷ ks)) (j ∷ ks))
+      → Sought g b p s (j ∷ ks) (fold searchStep (off g (busyFrom p b (j ∷ ks)) f p s (j .flex + j .start)) ks)
+  ended g b f p s j ks spot = subst (Sought g b p s (j ∷ ks)) (sym (off-stays g (busyFrom p b (j ∷ ks)) f p s (j .flex + j .start) ks)) (record {
+    asks = (refl, refl, refl);
+    gone-is = refl;
+    busy-is = refl;
+    spot-is = spot;
+    from = omega arith;
+    behind-is = rw (none-off p);
+  })
+
+  sought : (ks : List Job) (g : ℕ) (b : Bool) (p s e : ℕ) → Chain e ks → Lasting ks → p + length ks ≤ most32 → Sought g b p s ks (fold searchStep (on g b p s) ks)
+  unfolding fold
+  sought [] g b p s e o w h = record {
+    asks = (refl, refl, refl);
+    gone-is = refl;
+    busy-is = refl;
+    spot-is = refl;
+    from = omega arith;
+    behind-is = rw (none-off p);
+  }
+  sought (j ∷ ks) g b p s e o w h = by-early (leb (j .start) d) refl (sought ks g (busyFrom p b (j ∷ ks)) (p + 1) (ends j) (ends j) (o .2) (w .1) (omega (arith, h))) where
+    by-room : (v : Bool) → leb c (room s d j) ≡ v → leb (j .start) d ≡ true
+        → Sought g (busyFrom p b (j ∷ ks)) (p + 1) (ends j) ks (fold searchStep (on g (busyFrom p b (j ∷ ks)) (p + 1) (ends j)) ks)
+        → Sought g b p s (j ∷ ks) (fold searchStep (searchStep (on g b p s) j) ks)
+    by-room true f i more = subst (λ (z : Searching). Sought g b p s (j ∷ ks) (fold searchStep z ks)) (sym (seek-found g b p s j (w .0) i f)) (ended g b true p s j ks (rw (i, f)))
+    by-room false f i more =
+        subst (λ (z : Searching). Sought g b p s (j ∷ ks) (fold searchStep z ks)) (sym (seek-past g b p s j (w .0) i f (omega (arith, h)) (omega (arith, o .1 .in-time, o .1 .low))))
+        (record {
+          asks = more .asks;
+          gone-is = more .gone-is;
+          busy-is = more .busy-is ∙ busy-stays p (busyFrom p b (j ∷ ks)) ks;
+          spot-is = rw (i, f) (more .spot-is);
+          from = omega (arith, more .from);
+          behind-is = rw (one-off p _ (more .from)) (more .behind-is);
+        })
+
+    by-early : (v : Bool) → leb (j .start) d ≡ v
+        → Sought g (busyFrom p b (j ∷ ks)) (p + 1) (ends j) ks (fold searchStep (on g (busyFrom p b (j ∷ ks)) (p + 1) (ends j)) ks)
+        → Sought g b p s (j ∷ ks) (fold searchStep (searchStep (on g b p s) j) ks)
+    by-early true i more = by-room (leb c (room s d j)) refl i more
+    by-early false i more =
+        let late : d < ends j = omega (arith, leb-false (j .start) d i) in
+        subst (λ (z : Searching). Sought g b p s (j ∷ ks) (fold searchStep z ks)) (sym (seek-late g b p s j (w .0) i)) (ended g b false p s j ks (rw (i, early-late d (ends j) ks late (o .2))))
+
+  -- ---- the jobs that end by t come first
+
+  pub record Searched (g : ℕ) (js : List Job) (e : Searching) : Type 0 where
+    pub asks : (e .time ≡ t) × (e .budget ≡ c) × (e .deadline ≡ d)
+    pub gone-is : e .gone ≡ g + goneBy t js
+    pub busy-is : e .busy ≡ busy t (kept t js)
+    pub spot-is : spotOf e ≡ find t c d (kept t js)
+    pub behind-is : e .behind ≡ behindOf (drop (e .place) (kept t js))
+
+  seek-gone : (g : ℕ) (j : Job) → leb (ends j) t ≡ true → g + 1 ≤ most32 → searchStep (on g false 0 t) j ≡ on (g + 1) false 0 t
+  seek-gone g j e h = rw (e, sum-is g 1 h)
+
+  from-front : (p : ℕ) → p - 0 ≡ p
+  from-front p = omega arith
+
+  all-left : (g : ℕ) (j : Job) (js : List Job) (z : Searching) → leb (ends j) t ≡ false → (goneBy t js ≡ 0) × (kept t js ≡ js) → Sought g false 0 t (j ∷ js) z → Searched g (j ∷ js) z
+  all-left g j js z i all so = record {
+    asks = so .asks;
+    gone-is = rw (i, all .0) (omega (arith, so .gone-is));
+    busy-is = rw i (so .busy-is);
+    spot-is = rw (i, all .1) (so .spot-is);
+    behind-is = rw (i, all .1) (rw (from-front (z .place)) at (so .behind-is));
+  }
+
+  pub searched : (js : List Job) (g e : ℕ) → Chain e js → g + length js ≤ most32 → Searched g js (fold searchStep (on g false 0 t) js)
+  unfolding fold
+  searched [] g e o h = record { asks = (refl, refl, refl); gone-is = omega arith; busy-is = refl; spot-is = refl; behind-is = refl }
+  searched (j ∷ js) g e o h = by-end (leb (ends j) t) refl (searched js (g + 1) (ends j) (o .2) (omega (arith, h))) where
+    by-end : (v : Bool) → leb (ends j) t ≡ v → Searched (g + 1) js (fold searchStep (on (g + 1) false 0 t) js)
+        → Searched g (j ∷ js) (fold searchStep (searchStep (on g false 0 t) j) js)
+    by-end true i more =
+        subst (λ (z : Searching). Searched g (j ∷ js) (fold searchStep z js)) (sym (seek-gone g j i (omega (arith, h))))
+        (record {
+          asks = more .asks;
+          gone-is = rw i (omega (arith, more .gone-is));
+          busy-is = rw i (more .busy-is);
+          spot-is = rw i (more .spot-is);
+          behind-is = rw i (more .behind-is);
+        })
+    by-end false i more =
+        let last : t < ends j = leb-false _ _ i in
+        let all = gone-none t (ends j) js last (o .2) in
+        all-left g j js _ i all (sought (j ∷ js) g false 0 t e o (last, lasting-of (ends j) js last (o .2)) (omega (arith, h)))

@@ -1,7 +1,7 @@
 -- The shift pass against the desk's `shift`. Assumes nothing.
 use Prim.Native.Nat.{ℕ, suc, _+_, _-_, _≤_, max}
 use mathlib.Core.Path.{_≡_, refl, ap, _∙_}
-use mathlib.Core.Bool.{Bool, true, false}
+use mathlib.Core.Bool.{false}
 use mathlib.Core.List.{List, [], _∷_, _++_}
 use native.Mathlib.Omega.{arith}
 use lib.Dec.{ltb}
@@ -17,34 +17,34 @@ use Rattle.desk_records.specs.Sums.{most32, sumTo}
 use Rattle.desk_writing.specs.Writing.{shiftFrom, stillShift, shiftOut, shiftStep, shifted}
 use Rattle.desk_engine.proofs.Counts.{some-more, one-less, sum-is}
 
-abbrev shiftAt : ℕ → Bool → ℕ → ℕ → Job → Shift
-shiftAt before put after end carry = record { still = false; before = before; put = put; after = after; end = end; carry = carry }
+abbrev shiftAt : ℕ → ℕ → ℕ → Job → Shift
+shiftAt before put end carry = record { still = false; before = before; put = put; end = end; carry = carry }
 
-shift-before : (n : ℕ) (put : Bool) (after end : ℕ) (carry j : Job) → shiftStep (shiftAt (suc n) put after end carry) j ≡ shiftAt n put after end carry
-shift-before n put after end carry j = rw (some-more n, one-less n)
+shift-before : (n put end : ℕ) (carry j : Job) → shiftStep (shiftAt (suc n) put end carry) j ≡ shiftAt n put end carry
+shift-before n put end carry j = rw (some-more n, one-less n)
 
-shift-before-out : (n : ℕ) (put : Bool) (after end : ℕ) (carry j : Job) → shiftOut (shiftAt (suc n) put after end carry) j ≡ j
-shift-before-out n put after end carry j = rw (some-more n)
+shift-before-out : (n put end : ℕ) (carry j : Job) → shiftOut (shiftAt (suc n) put end carry) j ≡ j
+shift-before-out n put end carry j = rw (some-more n)
 
-shift-after : (n e : ℕ) (k j : Job) → shiftStep (shiftAt 0 false (suc n) e k) j ≡ shiftAt 0 false n (sumTo (max e (k .start)) (k .budget)) j
-shift-after n e k j = rw (some-more n, one-less n)
+shift-put : (n e : ℕ) (k j : Job) → shiftStep (shiftAt 0 (suc n) e k) j ≡ shiftAt 0 n (sumTo (max e (k .start)) (k .budget)) j
+shift-put n e k j = rw (some-more n, one-less n)
 
-shift-after-out : (n e : ℕ) (k j : Job) → shiftOut (shiftAt 0 false (suc n) e k) j ≡ moved e k
-shift-after-out n e k j = rw (some-more n)
+shift-put-out : (n e : ℕ) (k j : Job) → shiftOut (shiftAt 0 (suc n) e k) j ≡ moved e k
+shift-put-out n e k j = rw (some-more n)
 
 forth-cons : (s s₂ : Shift) (j v : Job) (l : List Job) → shiftStep s j ≡ s₂ → shiftOut s j ≡ v → forth shiftStep shiftOut s (j ∷ l) ≡ v ∷ forth shiftStep shiftOut s₂ l
 unfolding forth
 forth-cons s s₂ j v l e f = ap (λ (r : Shift). shiftOut s j ∷ forth shiftStep shiftOut r l) e ∙ ap (λ (u : Job). u ∷ forth shiftStep shiftOut s₂ l) f
 
-forth-before : (xs ys : List Job) (put : Bool) (after end : ℕ) (carry : Job)
-    → forth shiftStep shiftOut (shiftAt (length xs) put after end carry) (xs ++ ys) ≡ xs ++ forth shiftStep shiftOut (shiftAt 0 put after end carry) ys
+forth-before : (xs ys : List Job) (put end : ℕ) (carry : Job)
+    → forth shiftStep shiftOut (shiftAt (length xs) put end carry) (xs ++ ys) ≡ xs ++ forth shiftStep shiftOut (shiftAt 0 put end carry) ys
 unfolding forth
-forth-before [] ys put after end carry = refl
-forth-before (x ∷ xs) ys put after end carry =
-    forth-cons (shiftAt (suc (length xs)) put after end carry) (shiftAt (length xs) put after end carry) x x (xs ++ ys) (shift-before (length xs) put after end carry x) (shift-before-out (length xs) put after end carry x)
-    ∙ ap (λ (r : List Job). x ∷ r) (forth-before xs ys put after end carry)
+forth-before [] ys put end carry = refl
+forth-before (x ∷ xs) ys put end carry =
+    forth-cons (shiftAt (suc (length xs)) put end carry) (shiftAt (length xs) put end carry) x x (xs ++ ys) (shift-before (length xs) put end carry x) (shift-before-out (length xs) put end carry x)
+    ∙ ap (λ (r : List Job). x ∷ r) (forth-before xs ys put end carry)
 
-forth-none : (z : List Job) (end : ℕ) (carry : Job) → forth shiftStep shiftOut (shiftAt 0 false 0 end carry) z ≡ replicate (length z) none
+forth-none : (z : List Job) (end : ℕ) (carry : Job) → forth shiftStep shiftOut (shiftAt 0 0 end carry) z ≡ replicate (length z) none
 unfolding forth
 forth-none [] end carry = refl
 forth-none (y ∷ z) end carry = ap (λ (r : List Job). none ∷ r) (forth-none z end carry)
@@ -55,35 +55,38 @@ Within e [] = Unit {0}
 Within e (j ∷ js) = (max e (j .start) + j .budget ≤ most32) × Within (max e (j .start) + j .budget) js
 
 forth-push : (e : ℕ) (k : Job) (ks : List Job) (y : Job) (z : List Job) → Within e (k ∷ ks)
-    → forth shiftStep shiftOut (shiftAt 0 false (suc (length ks)) e k) (ks ++ (y ∷ z)) ≡ shift e (k ∷ ks) ++ replicate (length z) none
+    → forth shiftStep shiftOut (shiftAt 0 (suc (length ks)) e k) (ks ++ (y ∷ z)) ≡ shift e (k ∷ ks) ++ replicate (length z) none
 unfolding forth
 forth-push e k [] y z w =
-    forth-cons (shiftAt 0 false 1 e k) (shiftAt 0 false 0 (sumTo (max e (k .start)) (k .budget)) y) y (moved e k) z (shift-after 0 e k y) (shift-after-out 0 e k y)
+    forth-cons (shiftAt 0 1 e k) (shiftAt 0 0 (sumTo (max e (k .start)) (k .budget)) y) y (moved e k) z (shift-put 0 e k y) (shift-put-out 0 e k y)
     ∙ ap (λ (r : List Job). moved e k ∷ r) (forth-none z (sumTo (max e (k .start)) (k .budget)) y)
 forth-push e k (k₂ ∷ ks) y z w =
-    forth-cons (shiftAt 0 false (suc (suc (length ks))) e k) (shiftAt 0 false (suc (length ks)) (sumTo (max e (k .start)) (k .budget)) k₂) k₂ (moved e k) (ks ++ (y ∷ z)) (shift-after (suc (length ks)) e k k₂) (shift-after-out (suc (length ks)) e k k₂)
-    ∙ ap (λ (i : ℕ). moved e k ∷ forth shiftStep shiftOut (shiftAt 0 false (suc (length ks)) i k₂) (ks ++ (y ∷ z))) (sum-is (max e (k .start)) (k .budget) (w .0))
+    forth-cons (shiftAt 0 (suc (suc (length ks))) e k) (shiftAt 0 (suc (length ks)) (sumTo (max e (k .start)) (k .budget)) k₂) k₂ (moved e k) (ks ++ (y ∷ z)) (shift-put (suc (length ks)) e k k₂) (shift-put-out (suc (length ks)) e k k₂)
+    ∙ ap (λ (i : ℕ). moved e k ∷ forth shiftStep shiftOut (shiftAt 0 (suc (length ks)) i k₂) (ks ++ (y ∷ z))) (sum-is (max e (k .start)) (k .budget) (w .0))
     ∙ ap (λ (r : List Job). moved e k ∷ r) (forth-push (max e (k .start) + k .budget) k₂ ks y z (w .1))
 
-forth-put : (new : Job) (ks : List Job) (y : Job) (z : List Job) → ends new ≤ most32 → Within (ends new) ks
-    → forth shiftStep shiftOut (shiftAt 0 true (length ks) 0 new) (ks ++ (y ∷ z)) ≡ new ∷ (shift (ends new) ks ++ replicate (length z) none)
-unfolding forth
-forth-put new [] y z h w = ap (λ (r : List Job). new ∷ r) (forth-none z (sumTo (new .start) (new .budget)) y)
-forth-put new (k ∷ ks) y z h w =
-    ap (λ (i : ℕ). new ∷ forth shiftStep shiftOut (shiftAt 0 false (suc (length ks)) i k) (ks ++ (y ∷ z))) (sum-is (new .start) (new .budget) h)
-    ∙ ap (λ (r : List Job). new ∷ r) (forth-push (ends new) k ks y z w)
+-- from 0 on the first job is not moved
+first-stays : (j : Job) → moved 0 j ≡ j
+first-stays j =
+    let e : max 0 (j .start) ≡ j .start = omega arith in
+    let f : j .flex - (j .start - j .start) ≡ j .flex = omega arith in
+    rw (e, f)
 
 -- xs stay, the new job is put, ks are moved behind it, and zeros follow: one place fewer than there were
 pub shift-law : (xs ks : List Job) (new y : Job) (z : List Job) → ends new ≤ most32 → Within (ends new) ks
-    → shifted (shiftFrom (length xs) true (length ks) new) (xs ++ (ks ++ (y ∷ z))) ≡ xs ++ (new ∷ (shift (ends new) ks ++ replicate (length z) none))
+    → shifted (shiftFrom (length xs) (suc (length ks)) new) (xs ++ (ks ++ (y ∷ z))) ≡ xs ++ (new ∷ (shift (ends new) ks ++ replicate (length z) none))
 unfolding shifted
 shift-law xs ks new y z h w =
-    forth-before xs (ks ++ (y ∷ z)) true (length ks) 0 new ∙ ap (λ (r : List Job). xs ++ r) (forth-put new ks y z h w)
+    let e : max 0 (new .start) ≡ new .start = omega arith in
+    let all : Within 0 (new ∷ ks) = rw e (h, w) in
+    forth-before xs (ks ++ (y ∷ z)) (suc (length ks)) 0 new
+    ∙ ap (λ (r : List Job). xs ++ r) (forth-push 0 new ks y z all)
+    ∙ ap (λ (m : Job). xs ++ (m ∷ (shift (ends m) ks ++ replicate (length z) none))) (first-stays new)
 
 -- no new job: the listed ones stay, and zeros follow
-pub clear-law : (xs z : List Job) → shifted (shiftFrom (length xs) false 0 none) (xs ++ z) ≡ xs ++ replicate (length z) none
+pub clear-law : (xs z : List Job) → shifted (shiftFrom (length xs) 0 none) (xs ++ z) ≡ xs ++ replicate (length z) none
 unfolding shifted
-clear-law xs z = forth-before xs z false 0 0 none ∙ ap (λ (r : List Job). xs ++ r) (forth-none z 0 none)
+clear-law xs z = forth-before xs z 0 0 none ∙ ap (λ (r : List Job). xs ++ r) (forth-none z 0 none)
 
 forth-still : (l : List Job) → forth shiftStep shiftOut stillShift l ≡ l
 unfolding forth

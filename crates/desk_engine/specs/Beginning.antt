@@ -7,7 +7,7 @@ use Rattle.rules.specs.Limits.{places, latest}
 use Rattle.desk.specs.declared.Desk.{Desk}
 use Rattle.desk.specs.declared.Ask.{Ask}
 use Rattle.desk.specs.declared.Ask.the-variants.{Open, Request}
-use Rattle.desk.specs.Table.{none}
+use Rattle.desk_records.specs.Sums.{most32}
 use Rattle.desk_reading.specs.declared.checking.Checking.{Checking}
 use Rattle.desk_reading.specs.declared.searching.Searching.{Searching}
 use Rattle.desk_reading.specs.declared.scan.Scan.{Scan}
@@ -18,32 +18,40 @@ use Rattle.desk_reading.specs.declared.scan.Scan.{Scan}
 abbrev pub sizesOk : Desk → ℕ → Bool
 sizesOk k n = eqb n places && leb (k .count) places
 
-abbrev pub checkingFrom : Bool → Bool → Desk → Checking
-checkingFrom o ok k = record { opening = o; ok = ok; left = k .count; has = false; prev = none }
+abbrev pub checkingFrom : Bool → Checking
+checkingFrom o = record { opening = o; end = 0; own = 0; flex = 0 }
 
-abbrev pub searchingFrom : ℕ → ℕ → ℕ → ℕ → Searching
-searchingFrom t c d n = record {
+abbrev pub searchingFrom : Bool → ℕ → ℕ → ℕ → Searching
+searchingFrom looking t c d = record {
   time = t;
   budget = c;
   deadline = d;
-  left = n;
+  looking = looking;
   gone = 0;
-  rest = 0;
   busy = false;
   found = false;
   place = 0;
   start = t;
+  behind = most32;
 }
 
 -- "Opening takes any x of a listed job and any clock"
 abbrev pub openingOf : Desk → ℕ → Scan
-openingOf k n = record { checking = checkingFrom true (sizesOk k n) k; searching = searchingFrom 0 0 0 0; desk = k }
+openingOf k n = record {
+  ok = sizesOk k n;
+  left = k .count;
+  checking = checkingFrom true;
+  searching = searchingFrom false 0 0 0;
+  desk = k;
+}
 
 -- "A request at time t has budget C and deadline d."
 abbrev pub askingOf : Desk → ℕ → ℕ → ℕ → ℕ → Scan
 askingOf k n t c d = record {
-  checking = checkingFrom false (leb (k .clock) latest && sizesOk k n) k;
-  searching = searchingFrom t c d (k .count);
+  ok = leb (k .clock) latest && sizesOk k n;
+  left = k .count;
+  checking = checkingFrom false;
+  searching = searchingFrom true t c d;
   desk = k;
 }
 

@@ -10,7 +10,7 @@ use desk_reading::checking::Checking;
 use desk_reading::scan::Scan;
 use desk_reading::searching::Searching;
 use desk_records::numbers::ALL_PLACES;
-use desk_records::records::no_job;
+use desk_records::numbers::FAR;
 use rules::limits::LATEST;
 use rules::limits::PLACES;
 
@@ -41,24 +41,25 @@ pub fn opening(k: Desk, n: usize) -> Scan
     let ok = sizes_ok(k, n);
     let a = Checking {
         opening: true,
-        ok: ok,
-        left: k.count,
-        has: false,
-        prev: no_job(),
+        end: 0,
+        own: 0,
+        flex: 0,
     };
     let b = Searching {
         time: 0,
         budget: 0,
         deadline: 0,
-        left: 0,
+        looking: false,
         gone: 0,
-        rest: 0,
         busy: false,
         found: false,
         place: 0,
         start: 0,
+        behind: FAR,
     };
     Scan {
+        ok: ok,
+        left: k.count,
         checking: a,
         searching: b,
         desk: k,
@@ -72,24 +73,25 @@ pub fn asking(k: Desk, n: usize, t: u32, c: u32, d: u32) -> Scan
     let ok = clock_ok(k, n);
     let a = Checking {
         opening: false,
-        ok: ok,
-        left: k.count,
-        has: false,
-        prev: no_job(),
+        end: 0,
+        own: 0,
+        flex: 0,
     };
     let b = Searching {
         time: t,
         budget: c,
         deadline: d,
-        left: k.count,
+        looking: true,
         gone: 0,
-        rest: 0,
         busy: false,
         found: false,
         place: 0,
         start: t,
+        behind: FAR,
     };
     Scan {
+        ok: ok,
+        left: k.count,
         checking: a,
         searching: b,
         desk: k,

@@ -1,13 +1,16 @@
 // What a decision makes of the record and of the table.
 ghost use mathlib.Core.Path.{_≡_};
-ghost use Rattle.desk_engine.specs.Deciding.{openEffect, keepEffect, dropEffect, takeEffect, effectBy, effectOf};
+ghost use Rattle.desk_engine.specs.Deciding.{dropFrom, openEffect, keepEffect, dropEffect, takeEffect};
+ghost use Rattle.desk_engine.specs.Deciding.{effectBy, effectOf};
 use crate::decision::Decision;
 use crate::decision::decide;
+use crate::decision::rest_of;
 use desk::Answer;
 use desk::Desk;
 use desk_reading::scan::Scan;
 use desk_reading::searching::new_job;
 use desk_records::numbers::ALL_PLACES;
+use desk_records::numbers::FAR;
 use desk_records::numbers::less;
 use desk_records::numbers::sum;
 use desk_records::records::no_job;
@@ -16,6 +19,7 @@ use desk_writing::fit::still_fit;
 use desk_writing::shift::Shift;
 use desk_writing::shift::still_shift;
 use rules::Refusal;
+use rules::limits::PLACES;
 
 // The answer, the record at exit, and what each writing pass begins with.
 pub struct Effect {
@@ -33,6 +37,16 @@ fn wide_place(x: u32) -> usize
     x as usize
 }
 
+// Where the jobs that stay begin; past the table if none goes, so that the pass has none to put down again.
+pub fn drop_from(gone: u32) -> usize
+    ensures { λ r. ⌜ r ≡ dropFrom gone ⌝ }
+{
+    if gone == 0 {
+        return PLACES;
+    }
+    wide_place(gone)
+}
+
 // Opening: every listed job's x is worked out.
 pub fn open_effect(s: Scan) -> Effect
     ensures { λ r. ⌜ r ≡ openEffect s ⌝ }
@@ -40,10 +54,8 @@ pub fn open_effect(s: Scan) -> Effect
     let k = s.desk;
     let fit = Fit {
         still: false,
-        skip: less(ALL_PLACES, k.count),
-        keep: 0,
-        has: false,
-        next: no_job(),
+        wait: less(ALL_PLACES, k.count),
+        behind: FAR,
     };
     Effect {
         answer: Answer::Opened,
@@ -51,7 +63,7 @@ pub fn open_effect(s: Scan) -> Effect
             clock: 0,
             count: k.count,
         },
-        drop: 0,
+        drop: PLACES,
         shift: still_shift(),
         fit: fit,
     }
@@ -76,11 +88,11 @@ pub fn drop_effect(why: Refusal, s: Scan) -> Effect
     ensures { λ r. ⌜ r ≡ dropEffect why s ⌝ }
 {
     let left = s.searching;
+    let rest = rest_of(s);
     let shift = Shift {
         still: false,
-        before: left.rest,
-        put: false,
-        after: 0,
+        before: rest,
+        put: 0,
         end: 0,
         carry: no_job(),
     };
@@ -88,9 +100,9 @@ pub fn drop_effect(why: Refusal, s: Scan) -> Effect
         answer: Answer::Refused(why),
         desk: Desk {
             clock: left.time,
-            count: left.rest,
+            count: rest,
         },
-        drop: wide_place(left.gone),
+        drop: drop_from(left.gone),
         shift: shift,
         fit: still_fit(),
     }
@@ -101,22 +113,19 @@ pub fn take_effect(s: Scan) -> Effect
     ensures { λ r. ⌜ r ≡ takeEffect s ⌝ }
 {
     let q = s.searching;
-    let later = less(q.rest, q.place);
-    let count = sum(q.rest, 1);
+    let rest = rest_of(s);
+    let count = sum(rest, 1);
     let shift = Shift {
         still: false,
         before: q.place,
-        put: true,
-        after: later,
+        put: sum(less(rest, q.place), 1),
         end: 0,
         carry: new_job(q),
     };
     let fit = Fit {
         still: false,
-        skip: less(ALL_PLACES, count),
-        keep: later,
-        has: false,
-        next: no_job(),
+        wait: less(ALL_PLACES, sum(q.place, 1)),
+        behind: q.behind,
     };
     Effect {
         answer: Answer::Taken(wide_place(q.place), q.start),
@@ -124,7 +133,7 @@ pub fn take_effect(s: Scan) -> Effect
             clock: q.time,
             count: count,
         },
-        drop: wide_place(q.gone),
+        drop: drop_from(q.gone),
         shift: shift,
         fit: fit,
     }

@@ -1,8 +1,8 @@
 -- Words that only inner contracts use: no statement and no entry's contract cites them. Assumes nothing.
 -- One step of the reading pass: the table's rules and the search for a place; laws tie them to the desk's.
-use Prim.Native.Nat.{_-_}
-use mathlib.Core.Bool.{Bool, true, not, _&&_, _||_}
-use mathlib.Core.List.{List, [], _∷_}
+use Prim.Native.Nat.{_+_, _-_, min}
+use mathlib.Core.Bool.{Bool, true, false, _&&_, _||_}
+use mathlib.Core.List.{List, []}
 use lib.Dec.{leb, ltb, eqb}
 use Rattle.rules.specs.Walk.{pick}
 use Rattle.desk.specs.declared.Job.{Job}
@@ -14,69 +14,84 @@ use Rattle.desk_reading.specs.declared.scan.Scan.{Scan}
 use Rattle.desk_records.specs.Folds.{fold}
 use Rattle.desk_records.specs.Sums.{sumTo}
 
--- ---- the table's rules: a listed job is held against the one before, a place past the count against zeros; an opening looks at no x
+-- ---- the table's rules: a listed job is held against the one before; an opening looks at no x
 
--- the x of p before ks is the rule's, or is not looked at
-abbrev pub rightOr : Bool → Job → List Job → Bool
-rightOr o p ks = o || eqb (flex p) (xOf p ks)
+-- j may stand behind the job before, whose x is the rule's, or is not looked at
+abbrev pub follows : Checking → Job → Bool
+follows s j =
+    jobOk j && (leb (s .end) (start j) && (eqb (s .flex) (min (s .own) (flex j + start j - s .end)) || s .opening))
 
--- j may stand behind p
-abbrev pub follows : Bool → Job → Job → Bool
-follows o p j = leb (ends p) (start j) && rightOr o p (j ∷ [])
+-- j is the job before
+abbrev pub behind : Checking → Job → Checking
+behind s j = record { opening = s .opening; end = ends j; own = xOf j []; flex = flex j }
 
--- with j listed
-abbrev pub listedOk : Checking → Job → Bool
-listedOk s j = s .ok && (jobOk j && pick (s .has) (follows (s .opening) (s .prev) j) true)
+-- the last job's x is the rule's, or is not looked at
+abbrev pub lastOk : Checking → Bool
+lastOk s = eqb (s .flex) (s .own) || s .opening
 
--- one more place
-abbrev pub checkStep : Checking → Job → Checking
-checkStep s j =
-    pick (ltb 0 (s .left)) (record { opening = s .opening; ok = listedOk s j; left = s .left - 1; has = true; prev = j })
-    (record { opening = s .opening; ok = s .ok && zeros j; left = s .left; has = s .has; prev = s .prev })
+-- ---- the search among the jobs that do not end by t, which are behind those that do
 
--- after the last place
-abbrev pub checkEnd : Checking → Bool
-checkEnd s = s .ok && pick (s .has) (rightOr (s .opening) (s .prev) []) true
+-- a job is dropped
+abbrev pub searchDropped : Searching → Searching
+searchDropped s = record {
+  time = s .time;
+  budget = s .budget;
+  deadline = s .deadline;
+  looking = s .looking;
+  gone = sumTo (s .gone) 1;
+  busy = s .busy;
+  found = s .found;
+  place = s .place;
+  start = s .start;
+  behind = s .behind;
+}
 
--- ---- the search among the jobs that do not end by t
-
--- "The lowest place with R ≥ C is taken", among those with a ≤ d
-abbrev pub searchFound : Searching → Job → Bool
-searchFound s j = s .found || (leb (start j) (s .deadline) && leb (s .budget) (room (s .start) (s .deadline) j))
+-- the place is the one before j
+abbrev pub searchClosed : Searching → Bool → Bool → Job → Searching
+searchClosed s busy found j = record {
+  time = s .time;
+  budget = s .budget;
+  deadline = s .deadline;
+  looking = false;
+  gone = s .gone;
+  busy = busy;
+  found = found;
+  place = s .place;
+  start = s .start;
+  behind = flex j + start j;
+}
 
 -- the search goes on behind j
-abbrev pub searchPast : Searching → Job → Bool
-searchPast s j = not (s .found) && (leb (start j) (s .deadline) && ltb (room (s .start) (s .deadline) j) (s .budget))
+abbrev pub searchPast : Searching → Bool → Job → Searching
+searchPast s busy j = record {
+  time = s .time;
+  budget = s .budget;
+  deadline = s .deadline;
+  looking = s .looking;
+  gone = s .gone;
+  busy = busy;
+  found = s .found;
+  place = sumTo (s .place) 1;
+  start = sumTo (start j) (budget j);
+  behind = s .behind;
+}
 
--- one more place: a job that ends by t is dropped, any other is looked at
+-- the first job left is running, j being the next one left
+abbrev pub busyAfter : Searching → Job → Bool
+busyAfter s j = pick (eqb (s .place) 0) (ltb (start j) (s .time)) (s .busy)
+
+-- "The lowest place with R ≥ C is taken", among those with a ≤ d
+abbrev pub searchLook : Searching → Job → Searching
+searchLook s j =
+    pick (ltb (s .deadline) (start j)) (searchClosed s (busyAfter s j) false j)
+    (pick (ltb (room (s .start) (s .deadline) j) (s .budget)) (searchPast s (busyAfter s j) j)
+    (searchClosed s (busyAfter s j) true j))
+
+-- one more job: one that ends by t is dropped, any other is looked at
 abbrev pub searchStep : Searching → Job → Searching
 searchStep s j =
-    pick (ltb 0 (s .left))
-    (pick (leb (ends j) (s .time))
-    (record {
-      time = s .time;
-      budget = s .budget;
-      deadline = s .deadline;
-      left = s .left - 1;
-      gone = sumTo (s .gone) 1;
-      rest = s .rest;
-      busy = s .busy;
-      found = s .found;
-      place = s .place;
-      start = s .start;
-    })
-    (record {
-      time = s .time;
-      budget = s .budget;
-      deadline = s .deadline;
-      left = s .left - 1;
-      gone = s .gone;
-      rest = sumTo (s .rest) 1;
-      busy = pick (eqb (s .rest) 0) (ltb (start j) (s .time)) (s .busy);
-      found = searchFound s j;
-      place = pick (searchPast s j) (sumTo (s .place) 1) (s .place);
-      start = pick (searchPast s j) (sumTo (start j) (budget j)) (s .start);
-    }))
+    pick (s .looking)
+    (pick (leb (ends j) (s .time)) (searchDropped s) (searchLook s j))
     s
 
 -- the job asked for, at the start that the search has come to
@@ -89,9 +104,30 @@ searchEnd s = s .found || leb (ends (newJob s)) (s .deadline)
 
 -- ---- the whole pass
 
--- checking and searching at once
+-- a rule is broken
+abbrev pub broken : Scan → Scan
+broken s = record { ok = false; left = s .left; checking = s .checking; searching = s .searching; desk = s .desk }
+
+-- a listed job is checked and searched at once
+abbrev pub listedStep : Scan → Job → Scan
+listedStep s j =
+    pick (follows (s .checking) j)
+    (record {
+      ok = s .ok;
+      left = s .left - 1;
+      checking = behind (s .checking) j;
+      searching = searchStep (s .searching) j;
+      desk = s .desk;
+    })
+    (broken s)
+
+-- a place past the count is held against zeros
 abbrev pub scanStep : Scan → Job → Scan
-scanStep s j = record { checking = checkStep (s .checking) j; searching = searchStep (s .searching) j; desk = s .desk }
+scanStep s j = pick (ltb 0 (s .left)) (listedStep s j) (pick (zeros j) s (broken s))
+
+-- after the last place
+abbrev pub checkEnd : Scan → Bool
+checkEnd s = s .ok && lastOk (s .checking)
 
 unfoldable pub scanned : Scan → List Job → Scan
 scanned s l = fold scanStep s l

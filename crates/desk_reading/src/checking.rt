@@ -1,101 +1,67 @@
-// One step of the table check: the table's rules, at one more place.
+// The table check at a listed job: it is held against the job before.
 ghost use mathlib.Core.Path.{_≡_};
-ghost use mathlib.Core.Bool.{_&&_};
-ghost use mathlib.Core.List.{[]};
-ghost use Rattle.desk.specs.Table.{zeros};
-ghost use Rattle.desk_reading.specs.Reading.{follows, rightOr, listedOk, checkStep, checkEnd};
+ghost use mathlib.Core.Bool.{_||_};
+ghost use Prim.Native.Nat.{_≤_, min};
+ghost use lib.Dec.{eqb};
+ghost use Rattle.desk.specs.Table.{deadline, ends};
+ghost use Rattle.desk_reading.specs.Reading.{follows, behind, lastOk};
 use desk::Job;
-use desk_records::records::ends_by;
-use desk_records::records::is_none;
+use desk_records::numbers::earlier;
+use desk_records::numbers::wide;
+use desk_records::records::end_of;
 use desk_records::records::job_ok;
-use desk_records::records::x_before;
-use desk_records::records::x_last;
 
-// How far the pass is: right so far, listed jobs still to come, and the job before, if any. An opening looks at no x.
+// Of the job before: its end, its own d - a - C, and its x; zeros in front of all. An opening looks at no x.
 pub struct Checking {
     pub opening: bool,
-    pub ok: bool,
-    pub left: u32,
-    pub has: bool,
-    pub prev: Job,
+    pub end: u64,
+    pub own: u64,
+    pub flex: u32,
 }
 
-// Whether j may follow p: p ends by then, and p's x is the rule's.
-pub fn follows_on(opening: bool, p: Job, j: Job) -> bool
-    ensures { λ r. ⌜ r ≡ follows opening p j ⌝ }
+// Whether the x of the job before is the rule's, with so much room behind that job.
+pub fn right_x(s: Checking, room: u64) -> bool
+    ensures { λ r. ⌜ r ≡ (eqb (s .flex) (min (s .own) room) || s .opening) ⌝ }
 {
-    if ends_by(p, j.start) {
-        if opening {
-            return true;
-        }
-        return p.flex == x_before(p, j);
+    if wide(s.flex) == earlier(s.own, room) {
+        return true;
     }
-    false
+    s.opening
 }
 
-// Whether all is right with j listed.
-pub fn listed_ok(s: Checking, j: Job) -> bool
-    ensures { λ r. ⌜ r ≡ listedOk s j ⌝ }
+// Whether j may stand behind the job before.
+pub fn follows_on(s: Checking, j: Job) -> bool
+    ensures { λ r. ⌜ r ≡ follows s j ⌝ }
 {
-    if s.ok {
-        if job_ok(j) {
-            if s.has {
-                let p = s.prev;
-                return follows_on(s.opening, p, j);
-            }
-            return true;
+    if job_ok(j) {
+        let start = wide(j.start);
+        if s.end <= start {
+            return right_x(s, start - s.end + wide(j.flex));
         }
         return false;
     }
     false
 }
 
-// Whether all is right with j past the count.
-pub fn past_ok(s: Checking, j: Job) -> bool
-    ensures { λ r. ⌜ r ≡ (s .ok && zeros j) ⌝ }
-{
-    if s.ok {
-        return is_none(j);
-    }
-    false
-}
-
-// The rules, at one more place.
-pub fn check_step(s: Checking, j: Job) -> Checking
-    ensures { λ r. ⌜ r ≡ checkStep s j ⌝ }
+// j, which keeps the rules, as the job before.
+pub fn behind_it(s: Checking, j: Job) -> Checking
+    requires { ⌜ ends j ≤ deadline j ⌝ }
+    ensures { λ r. ⌜ r ≡ behind s j ⌝ }
 {
     let mut r = s;
-    if 0 < s.left {
-        r.ok = listed_ok(s, j);
-        r.left = s.left - 1;
-        r.has = true;
-        r.prev = j;
-        return r;
-    }
-    r.ok = past_ok(s, j);
+    let end = end_of(j);
+    r.end = end;
+    r.own = wide(j.deadline) - end;
+    r.flex = j.flex;
     r
 }
 
 // Whether the last job's x is the rule's.
-pub fn last_ok(opening: bool, p: Job) -> bool
-    ensures { λ r. ⌜ r ≡ rightOr opening p [] ⌝ }
+pub fn last_ok(s: Checking) -> bool
+    ensures { λ r. ⌜ r ≡ lastOk s ⌝ }
 {
-    if opening {
+    if wide(s.flex) == s.own {
         return true;
     }
-    p.flex == x_last(p)
-}
-
-// Whether the table keeps the rules, after its last place.
-pub fn check_end(s: Checking) -> bool
-    ensures { λ r. ⌜ r ≡ checkEnd s ⌝ }
-{
-    if s.ok {
-        if s.has {
-            let p = s.prev;
-            return last_ok(s.opening, p);
-        }
-        return true;
-    }
-    false
+    s.opening
 }

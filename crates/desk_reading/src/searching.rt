@@ -2,110 +2,98 @@
 ghost use mathlib.Core.Path.{_≡_};
 ghost use lib.Dec.{ltb, eqb};
 ghost use Rattle.rules.specs.Walk.{pick};
-ghost use Rattle.desk.specs.Table.{start, budget};
-ghost use Rattle.desk_records.specs.Sums.{sumTo};
-ghost use Rattle.desk_reading.specs.Reading.{searchFound, searchPast, searchStep, newJob, searchEnd};
+ghost use Rattle.desk.specs.Table.{start};
+ghost use Rattle.desk_reading.specs.Reading.{searchDropped, searchClosed, searchPast, searchLook, searchStep};
+ghost use Rattle.desk_reading.specs.Reading.{newJob, searchEnd};
 use desk::Job;
 use desk_records::numbers::sum;
 use desk_records::records::ends_by;
+use desk_records::records::last_start;
 use desk_records::records::room_at;
 
-// The request, listed jobs still to come, jobs dropped and left so far, whether the first one left is running,
-// and the place: found, or the next one to try with the end of the job before it. That is place l after the last job.
+// The request, whether the search goes on, jobs dropped so far, whether the first one left is running, and the place:
+// found, or the next one to try with the end of the job before it, which is place l once a job has a > d or none follows.
+// Behind the place: when the job there has to start at the latest, far off if there is none.
 pub struct Searching {
     pub time: u32,
     pub budget: u32,
     pub deadline: u32,
-    pub left: u32,
+    pub looking: bool,
     pub gone: u32,
-    pub rest: u32,
     pub busy: bool,
     pub found: bool,
     pub place: u32,
     pub start: u32,
+    pub behind: u64,
 }
 
-// Whether the place is found, with j looked at.
-pub fn finds(s: Searching, j: Job) -> bool
-    ensures { λ r. ⌜ r ≡ searchFound s j ⌝ }
+// The place is the one before j.
+pub fn closes(s: Searching, busy: bool, found: bool, j: Job) -> Searching
+    ensures { λ r. ⌜ r ≡ searchClosed s busy found j ⌝ }
 {
-    if s.found {
-        return true;
-    }
-    if s.deadline < j.start {
-        return false;
-    }
-    if room_at(s.start, s.deadline, j) < s.budget {
-        return false;
-    }
-    true
+    let mut r = s;
+    r.looking = false;
+    r.busy = busy;
+    r.found = found;
+    r.behind = last_start(j);
+    r
 }
 
-// Whether the search goes on behind j.
-pub fn goes_past(s: Searching, j: Job) -> bool
-    ensures { λ r. ⌜ r ≡ searchPast s j ⌝ }
+// The search goes on behind j.
+pub fn goes_past(s: Searching, busy: bool, j: Job) -> Searching
+    ensures { λ r. ⌜ r ≡ searchPast s busy j ⌝ }
 {
-    if s.found {
-        return false;
-    }
-    if s.deadline < j.start {
-        return false;
-    }
-    if room_at(s.start, s.deadline, j) < s.budget {
-        return true;
-    }
-    false
-}
-
-// The place, with j looked at.
-pub fn place_after(s: Searching, j: Job) -> u32
-    ensures { λ r. ⌜ r ≡ pick (searchPast s j) (sumTo (s .place) 1) (s .place) ⌝ }
-{
-    if goes_past(s, j) {
-        return sum(s.place, 1);
-    }
-    s.place
-}
-
-// The start, with j looked at.
-pub fn start_after(s: Searching, j: Job) -> u32
-    ensures { λ r. ⌜ r ≡ pick (searchPast s j) (sumTo (start j) (budget j)) (s .start) ⌝ }
-{
-    if goes_past(s, j) {
-        return sum(j.start, j.budget);
-    }
-    s.start
+    let mut r = s;
+    r.busy = busy;
+    r.place = sum(s.place, 1);
+    r.start = sum(j.start, j.budget);
+    r
 }
 
 // Whether the first job left is running, j being the next one left.
 pub fn busy_after(s: Searching, j: Job) -> bool
-    ensures { λ r. ⌜ r ≡ pick (eqb (s .rest) 0) (ltb (start j) (s .time)) (s .busy) ⌝ }
+    ensures { λ r. ⌜ r ≡ pick (eqb (s .place) 0) (ltb (start j) (s .time)) (s .busy) ⌝ }
 {
-    if s.rest == 0 {
+    if s.place == 0 {
         return j.start < s.time;
     }
     s.busy
 }
 
-// The search, at one more place.
+// The search, at a job left.
+pub fn look_at(s: Searching, j: Job) -> Searching
+    ensures { λ r. ⌜ r ≡ searchLook s j ⌝ }
+{
+    let busy = busy_after(s, j);
+    if s.deadline < j.start {
+        return closes(s, busy, false, j);
+    }
+    if room_at(s.start, s.deadline, j) < s.budget {
+        return goes_past(s, busy, j);
+    }
+    closes(s, busy, true, j)
+}
+
+// A job that ends by t is dropped.
+pub fn drops(s: Searching) -> Searching
+    ensures { λ r. ⌜ r ≡ searchDropped s ⌝ }
+{
+    let mut r = s;
+    r.gone = sum(s.gone, 1);
+    r
+}
+
+// The search, at one more job. Those that end by t stand first, so nothing behind the place is looked at.
 pub fn search_step(s: Searching, j: Job) -> Searching
     ensures { λ r. ⌜ r ≡ searchStep s j ⌝ }
 {
-    let mut r = s;
-    if 0 < s.left {
-        r.left = s.left - 1;
+    if s.looking {
         if ends_by(j, s.time) {
-            r.gone = sum(s.gone, 1);
-            return r;
+            return drops(s);
         }
-        r.rest = sum(s.rest, 1);
-        r.busy = busy_after(s, j);
-        r.found = finds(s, j);
-        r.place = place_after(s, j);
-        r.start = start_after(s, j);
-        return r;
+        return look_at(s, j);
     }
-    r
+    s
 }
 
 // The job asked for, at the start that the search has come to.

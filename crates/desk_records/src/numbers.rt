@@ -10,6 +10,8 @@ pub const ALL_PLACES: u32 = PLACES as u32; // as a count of jobs
 
 const MOST: u32 = 4294967295; // that 32 bits hold
 
+pub const FAR: u64 = MOST as u64; // no deadline is later
+
 // x less y, and 0 where y is more.
 pub fn less(x: u32, y: u32) -> u32
     ensures { λ r. ⌜ r ≡ x - y ⌝ }
@@ -27,6 +29,19 @@ pub fn larger(x: u32, y: u32) -> u32
     ensures { λ r. ⌜ r ≡ max x y ⌝ }
 {
     if x < y { y } else { x }
+}
+
+// With room for a sum.
+pub fn wide(x: u32) -> u64
+    ensures { λ r. ⌜ r ≡ x ⌝ }
+{
+    x as u64
+}
+
+pub fn earlier(x: u64, y: u64) -> u64
+    ensures { λ r. ⌜ r ≡ min x y ⌝ }
+{
+    if x < y { x } else { y }
 }
 
 // x and y together, and the most that 32 bits hold where that is more.

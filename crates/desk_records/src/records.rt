@@ -1,12 +1,14 @@
 // The rules of one job record: its end, its flexibility, its limits, its room, its move.
 ghost use mathlib.Core.Path.{_≡_};
-ghost use mathlib.Core.List.{[], _∷_};
+ghost use Prim.Native.Nat.{_+_, _-_, min};
 ghost use lib.Dec.{leb};
-ghost use Rattle.desk.specs.Table.{ends, none, xOf, jobOk, zeros};
+ghost use Rattle.desk.specs.Table.{start, budget, deadline, flex, ends, none, jobOk, zeros};
 ghost use Rattle.desk.specs.Request.{room, moved};
+use crate::numbers::earlier;
 use crate::numbers::larger;
 use crate::numbers::less;
 use crate::numbers::smaller;
+use crate::numbers::wide;
 use desk::Job;
 use rules::limits::LATEST;
 
@@ -22,44 +24,33 @@ pub fn no_job() -> Job
     }
 }
 
+pub fn end_of(j: Job) -> u64
+    ensures { λ r. ⌜ r ≡ ends j ⌝ }
+{
+    wide(j.start) + wide(j.budget)
+}
+
 // Whether j ends by the time t.
 pub fn ends_by(j: Job, t: u32) -> bool
     ensures { λ r. ⌜ r ≡ leb (ends j) t ⌝ }
 {
-    if t < j.start {
-        return false;
-    }
-    if t - j.start < j.budget {
-        return false;
-    }
-    true
+    end_of(j) <= wide(t)
 }
 
-// The flexibility of the last job.
-pub fn x_last(j: Job) -> u32
-    ensures { λ r. ⌜ r ≡ xOf j [] ⌝ }
+// When j starts at the latest.
+pub fn last_start(j: Job) -> u64
+    ensures { λ r. ⌜ r ≡ flex j + start j ⌝ }
 {
-    less(less(j.deadline, j.start), j.budget)
+    wide(j.flex) + wide(j.start)
 }
 
-fn wide(x: u32) -> u64
-    ensures { λ r. ⌜ r ≡ x ⌝ }
+// The flexibility of j before a job that starts at `behind` at the latest.
+pub fn x_before(j: Job, behind: u64) -> u32
+    ensures { λ r. ⌜ r ≡ min (deadline j - start j - budget j) (behind - start j - budget j) ⌝ }
 {
-    x as u64
-}
-
-// The flexibility of j before k, whose own is worked out.
-pub fn x_before(j: Job, k: Job) -> u32
-    ensures { λ r. ⌜ r ≡ xOf j (k ∷ []) ⌝ }
-{
-    let own = x_last(j);
-    let next = wide(k.flex) + wide(k.start);
-    let past = wide(j.start) + wide(j.budget);
-    if next <= past {
-        return 0;
-    }
-    let room = next - past;
-    if room < wide(own) { room as u32 } else { own }
+    let due = earlier(wide(j.deadline), behind);
+    let end = end_of(j);
+    if end < due { (due - end) as u32 } else { 0 }
 }
 
 pub fn job_ok(j: Job) -> bool
@@ -68,10 +59,7 @@ pub fn job_ok(j: Job) -> bool
     if j.budget == 0 {
         return false;
     }
-    if j.deadline < j.start {
-        return false;
-    }
-    if j.deadline - j.start < j.budget {
+    if wide(j.deadline) < end_of(j) {
         return false;
     }
     if LATEST < j.deadline {
@@ -114,6 +102,6 @@ pub fn moved_to(e: u32, j: Job) -> Job
         start: a,
         budget: j.budget,
         deadline: j.deadline,
-        flex: less(j.flex, less(a, j.start)),
+        flex: less(j.flex, a - j.start),
     }
 }

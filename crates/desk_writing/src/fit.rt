@@ -2,17 +2,16 @@
 ghost use mathlib.Core.Path.{_≡_};
 ghost use Rattle.desk_writing.specs.Writing.{stillFit, fitted, fitOut, fitStep};
 use desk::Job;
-use desk_records::records::no_job;
+use desk_records::numbers::FAR;
+use desk_records::records::last_start;
 use desk_records::records::x_before;
-use desk_records::records::x_last;
 
-// How far the pass is, from the back: empty places still to skip, jobs still to keep as they are, and the job behind, if any.
+// How far the pass is, from the back: places still to leave alone, and when the job behind has to start at the latest,
+// far off if there is none. A still pass changes nothing.
 pub struct Fit {
     pub still: bool,
-    pub skip: u32,
-    pub keep: u32,
-    pub has: bool,
-    pub next: Job,
+    pub wait: u32,
+    pub behind: u64,
 }
 
 // The pass that changes nothing.
@@ -21,10 +20,8 @@ pub fn still_fit() -> Fit
 {
     Fit {
         still: true,
-        skip: 0,
-        keep: 0,
-        has: false,
-        next: no_job(),
+        wait: 0,
+        behind: FAR,
     }
 }
 
@@ -32,20 +29,11 @@ pub fn still_fit() -> Fit
 fn fit_one(s: Fit, j: Job) -> Job
     ensures { λ r. ⌜ r ≡ fitted s j ⌝ }
 {
-    if s.has {
-        let k = s.next;
-        return Job {
-            start: j.start,
-            budget: j.budget,
-            deadline: j.deadline,
-            flex: x_before(j, k),
-        };
-    }
     Job {
         start: j.start,
         budget: j.budget,
         deadline: j.deadline,
-        flex: x_last(j),
+        flex: x_before(j, s.behind),
     }
 }
 
@@ -56,10 +44,7 @@ pub fn fit_out(s: Fit, j: Job) -> Job
     if s.still {
         return j;
     }
-    if 0 < s.skip {
-        return j;
-    }
-    if 0 < s.keep {
+    if 0 < s.wait {
         return j;
     }
     fit_one(s, j)
@@ -73,18 +58,10 @@ pub fn fit_step(s: Fit, j: Job) -> Fit
     if s.still {
         return r;
     }
-    if 0 < s.skip {
-        r.skip = s.skip - 1;
+    if 0 < s.wait {
+        r.wait = s.wait - 1;
         return r;
     }
-    if 0 < s.keep {
-        r.keep = s.keep - 1;
-        r.has = true;
-        r.next = j;
-        return r;
-    }
-    let k = fit_one(s, j);
-    r.has = true;
-    r.next = k;
+    r.behind = last_start(fit_one(s, j));
     r
 }

@@ -2,18 +2,16 @@
 ghost use mathlib.Core.Path.{_≡_};
 ghost use Rattle.desk_writing.specs.Writing.{stillShift, shiftOut, shiftStep};
 use desk::Job;
-use desk_records::numbers::larger;
 use desk_records::numbers::sum;
 use desk_records::records::moved_to;
 use desk_records::records::no_job;
 
-// How far the pass is: jobs still to leave alone, whether the new job is still to put, jobs still to move behind it,
-// the end of the job put down last, and the job carried on. A still pass changes nothing.
+// How far the pass is: jobs still to leave alone, then jobs still to put down, the first of which is the one carried,
+// and the end of the job put down last. A still pass changes nothing.
 pub struct Shift {
     pub still: bool,
     pub before: u32,
-    pub put: bool,
-    pub after: u32,
+    pub put: u32,
     pub end: u32,
     pub carry: Job,
 }
@@ -25,8 +23,7 @@ pub fn still_shift() -> Shift
     Shift {
         still: true,
         before: 0,
-        put: false,
-        after: 0,
+        put: 0,
         end: 0,
         carry: no_job(),
     }
@@ -42,11 +39,8 @@ pub fn shift_out(s: Shift, j: Job) -> Job
     if 0 < s.before {
         return j;
     }
-    let k = s.carry;
-    if s.put {
-        return k;
-    }
-    if 0 < s.after {
+    if 0 < s.put {
+        let k = s.carry;
         return moved_to(s.end, k);
     }
     no_job()
@@ -64,16 +58,11 @@ pub fn shift_step(s: Shift, j: Job) -> Shift
         r.before = s.before - 1;
         return r;
     }
-    let k = s.carry;
-    if s.put {
-        r.put = false;
-        r.end = sum(k.start, k.budget);
-        r.carry = j;
-        return r;
-    }
-    if 0 < s.after {
-        r.after = s.after - 1;
-        r.end = sum(larger(s.end, k.start), k.budget);
+    if 0 < s.put {
+        let k = s.carry;
+        let m = moved_to(s.end, k);
+        r.put = s.put - 1;
+        r.end = sum(m.start, m.budget);
         r.carry = j;
         return r;
     }

@@ -5,11 +5,8 @@ use Rattle.desk_engine.proofs.begin.asking.Tie as tie
 clock-ok-requires : tie.Need-clock-ok-requires
 clock-ok-requires c κs = search needs
 
-no-job-requires : tie.Need-no-job-requires
-no-job-requires c κs = search needs
-
 returns : tie.Need-returns
-returns c = rw (c .no-job .ensures, c .before .clock-ok .ensures)
+returns c = rw (c .clock-ok .ensures)
 
 pub asking-spec : {M : Type 1} → statement M
-asking-spec = tie.close (tie.spec clock-ok-requires no-job-requires returns)
+asking-spec = tie.close (tie.spec clock-ok-requires returns)

@@ -5,14 +5,11 @@ use Rattle.desk_engine.proofs.effect.open_effect.Tie as tie
 less-requires : tie.Need-less-requires
 less-requires c κs = search needs
 
-no-job-requires : tie.Need-no-job-requires
-no-job-requires c κs = search needs
-
 still-shift-requires : tie.Need-still-shift-requires
 still-shift-requires c κs = search needs
 
 returns : tie.Need-returns
-returns c = rw (c .still-shift .ensures, c .before .no-job .ensures, c .before .before .less .ensures)
+returns c = rw (c .still-shift .ensures, c .before .less .ensures)
 
 pub open-effect-spec : {M : Type 1} → statement M
-open-effect-spec = tie.close (tie.spec less-requires no-job-requires still-shift-requires returns)
+open-effect-spec = tie.close (tie.spec less-requires still-shift-requires returns)

@@ -1,15 +1,16 @@
+use borrow.Author.Tests.{eq-eqb, ne-eqb}
 use borrow.Author.Needs.{needs}
 use Rattle.desk_reading.proofs.checking.last_ok.Statement.{statement}
 use Rattle.desk_reading.proofs.checking.last_ok.Tie as tie
 
-returns : tie.Need-returns
-returns c = search needs
+wide-requires : tie.Need-wide-requires
+wide-requires c κs = search needs
 
-x-last-requires : tie.Need-x-last-requires
-x-last-requires c κs = search needs
+returns : tie.Need-returns
+returns c = let e = rw (c .before .before .wide .ensures) at (c .if1 .taken) in rw (eq-eqb _ _ e)
 
 returns-2 : tie.Need-returns-2
-returns-2 c = rw (c .before .before .if1 .left, c .before .x-last .ensures)
+returns-2 c = let e = rw (c .before .before .wide .ensures) at (c .if1 .left) in rw (ne-eqb _ _ e)
 
 pub last-ok-spec : {M : Type 1} → statement M
-last-ok-spec = tie.close (tie.spec returns x-last-requires returns-2)
+last-ok-spec = tie.close (tie.spec wide-requires returns returns-2)

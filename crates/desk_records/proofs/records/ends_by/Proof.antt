@@ -1,17 +1,15 @@
-use Prim.Native.Nat.{_+_}
-use native.Mathlib.Omega.{arith}
-use borrow.Author.Tests.{le-leb, lt-leb}
+use borrow.Author.Needs.{needs}
 use Rattle.desk_records.proofs.records.ends_by.Statement.{statement}
 use Rattle.desk_records.proofs.records.ends_by.Tie as tie
 
+end-of-requires : tie.Need-end-of-requires
+end-of-requires c κs = search needs
+
+wide-requires : tie.Need-wide-requires
+wide-requires c κs = search needs
+
 returns : tie.Need-returns
-returns c = rw (lt-leb ((c .before .before .args .j) .start + (c .before .before .args .j) .budget) (c .before .before .args .t) (omega arith))
-
-returns-2 : tie.Need-returns-2
-returns-2 c = rw (lt-leb ((c .before .before .before .before .before .args .j) .start + (c .before .before .before .before .before .args .j) .budget) (c .before .before .before .before .before .args .t) (omega arith))
-
-returns-3 : tie.Need-returns-3
-returns-3 c = rw (le-leb ((c .before .before .before .before .before .args .j) .start + (c .before .before .before .before .before .args .j) .budget) (c .before .before .before .before .before .args .t) (omega arith))
+returns c = rw (c .wide .ensures, c .before .end-of .ensures)
 
 pub ends-by-spec : {M : Type 1} → statement M
-ends-by-spec = tie.close (tie.spec returns returns-2 returns-3)
+ends-by-spec = tie.close (tie.spec end-of-requires wide-requires returns)

@@ -5,14 +5,14 @@ use Rattle.desk_records.proofs.records.moved_to.Tie as tie
 larger-requires : tie.Need-larger-requires
 larger-requires c κs = search needs
 
+sub-less : tie.Need-sub-less
+sub-less c = search needs
+
 less-requires : tie.Need-less-requires
 less-requires c κs = search needs
 
-less-requires-2 : tie.Need-less-requires-2
-less-requires-2 c κs = search needs
-
 returns : tie.Need-returns
-returns c = cc
+returns c = rw (c .less .ensures, c .before .before .larger .ensures)
 
 pub moved-to-spec : {M : Type 1} → statement M
-moved-to-spec = tie.close (tie.spec larger-requires less-requires less-requires-2 returns)
+moved-to-spec = tie.close (tie.spec larger-requires sub-less less-requires returns)

@@ -12,38 +12,22 @@ sub-r c = search needs
 returns-2 : tie.Need-returns-2
 returns-2 c = simp (c .before .before .before .if1 .left, lt-ltb _ _ (c .before .if2 .taken))
 
-sum-requires : tie.Need-sum-requires
-sum-requires c κs = search needs
-
-returns-3 : tie.Need-returns-3
-returns-3 c = rw (c .sum .ensures, c .before .before .before .before .before .if1 .left, le-ltb _ _ (c .before .before .before .if2 .left), c .before .if3 .taken)
+moved-to-requires : tie.Need-moved-to-requires
+moved-to-requires c κs = search needs
 
 sub-r-2 : tie.Need-sub-r-2
 sub-r-2 c = search needs
 
-larger-requires : tie.Need-larger-requires
-larger-requires c κs = search needs
+sum-requires : tie.Need-sum-requires
+sum-requires c κs = search needs
 
-sum-requires-2 : tie.Need-sum-requires-2
-sum-requires-2 c κs = search needs
+returns-3 : tie.Need-returns-3
+returns-3 c = rw (c .sum .ensures, c .before .before .moved-to .ensures, c .before .before .before .before .before .before .before .before .if1 .left, le-ltb _ _ (c .before .before .before .before .before .before .if2 .left), lt-ltb _ _ (c .before .before .before .before .if3 .taken))
 
 returns-4 : tie.Need-returns-4
-returns-4 c = rw (c .sum2 .ensures, c .before .larger .ensures, c .before .before .before .before .before .before .before .before .before .if1 .left, le-ltb _ _ (c .before .before .before .before .before .before .before .if2 .left), c .before .before .before .before .before .if3 .left, lt-ltb _ _ (c .before .before .before .if4 .taken))
-
-returns-5 : tie.Need-returns-5
-returns-5 c = simp (c .before .before .before .before .before .before .if1 .left, le-ltb _ _ (c .before .before .before .before .if2 .left), c .before .before .if3 .left, le-ltb _ _ (c .if4 .left))
+returns-4 c = simp (c .before .before .before .before .if1 .left, le-ltb _ _ (c .before .before .if2 .left), le-ltb _ _ (c .if3 .left))
 
 pub shift-step-spec : {M : Type 1} → statement M
 shift-step-spec =
     tie.close
-    (tie.spec
-    returns
-    sub-r
-    returns-2
-    sum-requires
-    returns-3
-    sub-r-2
-    larger-requires
-    sum-requires-2
-    returns-4
-    returns-5)
+    (tie.spec returns sub-r returns-2 moved-to-requires sub-r-2 sum-requires returns-3 returns-4)
