@@ -68,9 +68,13 @@ extern "C" {
 /* A list of so many numbers is long enough for the running counts of any plan. */
 #define MERKAZOBI_COUNT_NUMBERS (MERKAZOBI_PARTITIONS * (MERKAZOBI_FRAME + 1))
 
+/* A list of so many numbers is long enough for the curve up to the longest deadline. */
+#define MERKAZOBI_CURVE_NUMBERS (MERKAZOBI_PERIOD + 1)
+
 #define MERKAZOBI_STACK 1024
+#define MERKAZOBI_VERDICT_STACK 36864
 #define MERKAZOBI_READ_STACK 20480
-#define MERKAZOBI_LIST_STACK 49152
+#define MERKAZOBI_LIST_STACK 81920
 
 /* The refusal numbers. Where several rules are broken the lowest number is told, then the lowest place; place 0, which is
    of no record, comes after all others of its number. */
@@ -88,7 +92,7 @@ enum {
     MERKAZOBI_SERVICE = 9,    /* plan doesn't serve; partition, start, held, wanted */
     MERKAZOBI_HARMONIC = 10,  /* cycles not harmonic */
     MERKAZOBI_TICKS = 11,     /* want of ticks */
-    MERKAZOBI_OUTPUT = 12,    /* output, or a list of running counts, shorter than needed */
+    MERKAZOBI_OUTPUT = 12,    /* output, or a list of running counts or of a curve, shorter than needed */
     MERKAZOBI_TABLE = 13,     /* job table, clock or count breaks the rules */
     MERKAZOBI_NUMBER = 14,    /* C zero, or C, d or t above 1,000,000 */
     MERKAZOBI_PAST = 15,      /* t before the clock */
@@ -122,6 +126,12 @@ size_t merkazobi_held(const uint16_t *plan, size_t ticks, uint16_t p, uint32_t s
 
 /* "the smallest number of a partition's ticks in any t consecutive ticks of the repeated plan"; p and ticks as above. */
 size_t merkazobi_least(const uint16_t *plan, size_t ticks, uint16_t p, uint32_t t);
+
+/* The curve of least service: list[t] is merkazobi_least(plan, ticks, p, t) for every t from 0 to n, worked out together.
+   first: n + 1, how many numbers are written; a longer list keeps its tail. A list of MERKAZOBI_CURVE_NUMBERS is long
+   enough for any deadline. Refusal 12. */
+merkazobi_answer merkazobi_curve(const uint16_t *plan, size_t ticks, uint16_t p, uint32_t n, uint32_t *list,
+                                 size_t list_numbers);
 
 /* The builder: "Take partitions by rising cycle, equal cycles by place. In each cycle, counted from tick 0, give the
    partition its q earliest idle ticks." first: the frame, the largest cycle. part_numbers is 3 for each partition;

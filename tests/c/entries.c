@@ -35,6 +35,7 @@ static const char w1_listing[] = "frame 4\n"
 typedef struct {
     uint16_t parts[2 * PARTS], tasks[2 * TASKS], plan[2 * TICKS], runs[2 * RUNS];
     uint16_t ticks[2 * TICKS];
+    uint32_t curve[3 * TICKS];
     uint8_t file[2 * FILE_BYTES];
     uint8_t out[2 * sizeof listing];
     merkazobi_desk desk[2];
@@ -93,6 +94,30 @@ static void service(void)
     expect("held of the longest", merkazobi_held(lent.plan, TICKS, 2, 4, UINT32_MAX), whole + 2);
     expect("least of the longest", merkazobi_least(lent.plan, TICKS, 2, UINT32_MAX), whole + 2);
     ends("held and least", told(0, 0), told(0, 0));
+}
+
+static merkazobi_answer curve(uint16_t p, uint32_t n, size_t list_numbers)
+{
+    return merkazobi_curve(lent.plan, TICKS, p, n, lent.curve, list_numbers);
+}
+
+static void curves(void)
+{
+    static const uint32_t s1[] = {0, 0, 0, 0, 0, 0, 1, 2, 3, 3, 3, 3, 3, 3, 4};
+    static const uint32_t idle[] = {0, 0, 0, 0, 0, 0, 0, 1, 2, 2};
+    begin();
+    ends("curve, a number less", curve(2, 14, 14), told(12, 0));
+    ends("curve, no list", merkazobi_curve(lent.plan, TICKS, 2, 0, NULL, 0), told(12, 0));
+    ends("curve of the longest", curve(2, UINT32_MAX, 3 * TICKS), told(12, 0));
+    memcpy(wanted.curve, s1, sizeof s1);
+    ends("curve, S1", curve(2, 14, 15), told(0, 15));
+    memcpy(wanted.curve, idle, sizeof idle);
+    ends("curve of idle ticks, into a longer list", curve(0, 9, 3 * TICKS), told(0, 10));
+    memset(wanted.curve, 0, 4 * sizeof(uint32_t));
+    ends("curve of a partition without a tick", curve(9, 3, 4), told(0, 4));
+    for (uint32_t t = 0; t < 3; t++)
+        wanted.curve[t] = t;
+    ends("curve of no plan's idle ticks", merkazobi_curve(NULL, 0, 0, 2, lent.curve, 3), told(0, 3));
 }
 
 static merkazobi_answer build(size_t part_numbers, size_t ticks)
@@ -420,6 +445,7 @@ int main(void)
 {
     wants();
     service();
+    curves();
     builds();
     build_refusals();
     checks();

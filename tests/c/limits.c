@@ -12,6 +12,7 @@ static uint16_t tasks[MERKAZOBI_TASK_NUMBERS * (MERKAZOBI_TASKS + 1)];
 static uint16_t runs[MERKAZOBI_RUN_NUMBERS * (MERKAZOBI_RUNS + 1)];
 static uint16_t plan[MERKAZOBI_FRAME + 1];
 static uint16_t list[MERKAZOBI_COUNT_NUMBERS];
+static uint32_t curve[MERKAZOBI_CURVE_NUMBERS];
 static uint16_t questions[MERKAZOBI_QUESTION_NUMBERS * MERKAZOBI_PARTITIONS];
 static uint16_t answers[MERKAZOBI_PARTITIONS];
 static uint8_t file[MERKAZOBI_FILE_BYTES];
@@ -116,6 +117,10 @@ static void limits(void)
     expect("a run more", written(FRAME, PARTS, TASKS, RUNS + 2, sizeof file), MERKAZOBI_LIMITS);
     expect("a file of that length", merkazobi_read(file, sizeof file).fourth, MERKAZOBI_RUNS);
     expect("its listing", merkazobi_list(file, sizeof file, text, sizeof text).number, MERKAZOBI_GOOD);
+    expect("the longest deadline's curve",
+           merkazobi_curve(plan, FRAME, 1, MERKAZOBI_PERIOD, curve, MERKAZOBI_CURVE_NUMBERS).first, MERKAZOBI_CURVE_NUMBERS);
+    expect("a number less",
+           merkazobi_curve(plan, FRAME, 1, MERKAZOBI_PERIOD, curve, MERKAZOBI_CURVE_NUMBERS - 1).number, MERKAZOBI_OUTPUT);
     expect("places", opened(PLACES, PLACES), MERKAZOBI_GOOD);
     expect("a place more", opened(1, PLACES + 1), MERKAZOBI_TABLE);
     expect("a place less", opened(1, PLACES - 1), MERKAZOBI_TABLE);
@@ -190,6 +195,7 @@ static void nulls(void)
     expect("null jobs", merkazobi_open(&desk, NULL, 0).number, MERKAZOBI_TABLE);
     expect("idle ticks of no plan", merkazobi_held(NULL, 0, 0, 5, 7), 7);
     expect("ticks of no plan", merkazobi_least(NULL, 0, 1, 7), 0);
+    expect("null curve", merkazobi_curve(NULL, 0, 0, 0, NULL, 0).number, MERKAZOBI_OUTPUT);
 }
 
 static void count_nulls(void)
@@ -221,10 +227,11 @@ enum {
     WANTS_STACK = 64,
     HELD_STACK = 64,
     LEAST_STACK = 128,
+    CURVE_STACK = 256,
     BUILD_STACK = 256,
     CHECK_STACK = 320,
-    VERDICT_STACK = 576,
-    PLAIN_STACK = 640,
+    VERDICT_STACK = 33408,
+    PLAIN_STACK = 33408,
     COUNTS_FILL_STACK = 256,
     COUNTS_HELD_STACK = 704,
     COUNTS_HELD_MANY_STACK = 704,
@@ -232,7 +239,7 @@ enum {
     READ_STACK = 18112,
     SECTION_STACK = 18112,
     WRITE_STACK = 448,
-    LIST_STACK = 45120,
+    LIST_STACK = 79872,
     OPEN_STACK = 256,
     REQUEST_STACK = 320,
 };
@@ -288,10 +295,11 @@ static void stack(void)
     STACK(WANTS_STACK, MERKAZOBI_STACK, merkazobi_wants(4096, 999, 1000));
     STACK(HELD_STACK, MERKAZOBI_STACK, merkazobi_held(plan, FRAME, 1, 7, UINT32_MAX));
     STACK(LEAST_STACK, MERKAZOBI_STACK, merkazobi_least(plan, FRAME, 1, UINT32_MAX));
+    STACK(CURVE_STACK, MERKAZOBI_STACK, merkazobi_curve(plan, FRAME, 1, MERKAZOBI_PERIOD, curve, MERKAZOBI_CURVE_NUMBERS));
     STACK(BUILD_STACK, MERKAZOBI_STACK, merkazobi_build(parts, PARTS, plan, FRAME));
     STACK(CHECK_STACK, MERKAZOBI_STACK, merkazobi_check(plan, FRAME, parts, PARTS));
-    STACK(VERDICT_STACK, MERKAZOBI_STACK, merkazobi_verdict(plan, FRAME, parts, PARTS, tasks, TASKS, MERKAZOBI_TASKS));
-    STACK(PLAIN_STACK, MERKAZOBI_STACK, merkazobi_plain(plan, FRAME, parts, PARTS, tasks, TASKS, MERKAZOBI_TASKS));
+    STACK(VERDICT_STACK, MERKAZOBI_VERDICT_STACK, merkazobi_verdict(plan, FRAME, parts, PARTS, tasks, TASKS, MERKAZOBI_TASKS));
+    STACK(PLAIN_STACK, MERKAZOBI_VERDICT_STACK, merkazobi_plain(plan, FRAME, parts, PARTS, tasks, TASKS, MERKAZOBI_TASKS));
     STACK(WRITE_STACK, MERKAZOBI_STACK,
           merkazobi_write(FRAME, parts, PARTS, tasks, TASKS, runs, RUNS, file, sizeof file));
     STACK(READ_STACK, MERKAZOBI_READ_STACK, merkazobi_read(file, sizeof file));

@@ -69,7 +69,7 @@ pub fn open_effect(s: Scan) -> Effect
     }
 }
 
-// A refusal that changes nothing.
+// A refusal that changes nothing, in a table of any length.
 pub fn keep_effect(why: Refusal, s: Scan) -> Effect
     ensures { λ r. ⌜ r ≡ keepEffect why s ⌝ }
 {
@@ -172,7 +172,7 @@ pub fn desk_of(p: Effect) -> Desk
     p.desk
 }
 
-// How many jobs go from the front.
+// Where the jobs that stay begin.
 pub fn drop_of(p: Effect) -> usize
     ensures { λ r. ⌜ r ≡ p .drop ⌝ }
 {

@@ -1,4 +1,5 @@
 pub mod Worst
 pub mod Lowered
+pub mod Frames
 pub mod Rounds
 pub mod Answers

@@ -4,7 +4,7 @@ use mathlib.Core.Path.{_≡_, refl, sym, ap, ap₂, _∙_}
 use mathlib.Core.Logic.{_⊎_, inl, inr}
 use mathlib.Core.Bool.{Bool, true, false, _&&_, not}
 use mathlib.Core.List.{List}
-use native.Mathlib.Nat.{eq-or-lt-of-le, le-of-suc-le-suc, mod-eq-of-lt, mod-add-mod}
+use native.Mathlib.Nat.{eq-or-lt-of-le, le-of-suc-le-suc, mod-eq-of-lt, mod-add-mod, mod-self}
 use native.Mathlib.Numerals.{add-one}
 use native.Mathlib.Decide.{ℕ-discrete}
 use native.Mathlib.Omega.{arith}
@@ -18,7 +18,8 @@ use Rattle.rules.proofs.Least.{smallest-zero}
 use Rattle.theory.specs.Plan.{owner, Rule, own, service, held, least}
 use Rattle.theory.proofs.Plan.{least-is-least, least-attained, least-bounds}
 use Rattle.plan_service.proofs.Turns.{empty-idle, empty-other}
-use Rattle.plan_curve.specs.Contracts.{behindRun, most, lowerFrom, lowerAt}
+use Rattle.plan_curve.specs.Curve.{behindRun}
+use Rattle.plan_curve.specs.Contracts.{most, lowerFrom, LoweredOn, lowerAt}
 use Rattle.plan_curve.proofs.Worst.{worst-start}
 
 -- number t after the starts before s
@@ -106,6 +107,17 @@ module _ (rule : Rule) (plan : List ℕ) (p s : ℕ) where
   lower-turn t h v before cur after w l eh ev ea =
       named-turn _ t v before cur after w l ea (ev ∙ ap₂ min (w .rest t (omega arith)) eh)
 
+  pub row-none : (b : ℕ) (l : List ℕ) → LoweredOn rule plan p s b b l l
+  row-none b l = record { goes-on = λ before w. w }
+
+  pub row-turn : (b t h v : ℕ) (from cur after : List ℕ) → LoweredOn rule plan p s b t from cur → t < length cur → h ≡ held rule plan p t s
+      → v ≡ min (getD cur t 0) h → after ≡ set cur t v → LoweredOn rule plan p s b (t + 1) from after
+  row-turn b t h v from cur after w l eh ev ea =
+      record { goes-on = λ before u. let z = w .goes-on before u in lower-turn t h v before cur after z (omega (arith, z .as-long)) eh ev ea }
+
+  pub row-all : (b e t : ℕ) (from to : List ℕ) → t ≤ e → e ≤ t → LoweredOn rule plan p s b t from to → LoweredOn rule plan p s b e from to
+  row-all b e t from to l g w = let z : t ≡ e = omega arith in rw z at w
+
   pub start-counts : (n : ℕ) (before after : List ℕ) → behindRun rule plan p s ≡ true → AsNamed (lowerFrom rule plan p s before) n before after → AsNamed (lowerAt rule plan p s before) n before after
   unfolding lowerAt
   start-counts n before after e = named-as _ _ n before after (λ t l. rw e)
@@ -128,6 +140,12 @@ lowered-done plan p s n before after l g w =
     let e : s ≡ length plan = omega arith in
     named-as _ _ n before after (λ t h. lowered-all plan p t) (rw e at w)
 
--- the place of the tick after
-pub place-after : (f s t at r : ℕ) → at ≡ (s + t) % f → r ≡ (at + 1) % f → r ≡ (s + (t + 1)) % f
-place-after f s t at r ea er = let e : s + t + 1 ≡ s + (t + 1) = omega arith in rw (← e, er, ea) (mod-add-mod (s + t) f 1)
+-- where the frame ends its start follows
+pub row-second : (f s e : ℕ) → s < f → e ≡ f - s → 0 ≡ (s + e) % f
+row-second f s e l d = let z : s + e ≡ f = omega arith in rw z (sym (mod-self f))
+
+-- the place of a tick in its row
+pub place-in-row : (f s b t at : ℕ) → at ≡ (s + b) % f → b ≤ t → at + (t - b) < f → at + (t - b) ≡ (s + t) % f
+place-in-row f s b t at ea l h =
+    let e : s + b + (t - b) ≡ s + t = omega arith in
+    sym (mod-eq-of-lt h) ∙ rw ea (mod-add-mod (s + b) f (t - b)) ∙ ap (λ (x : ℕ). x % f) e

@@ -16,7 +16,7 @@ use Rattle.rules.proofs.Tests.{and-intro, or-left, or-right}
 use Rattle.theory.specs.Plan.{Rule, service, owned, held}
 use Rattle.theory.proofs.Plan.{held-zero, held-more, held-around}
 use Rattle.theory.proofs.Need.{owned-split}
-use Rattle.plan_curve.specs.Contracts.{behindRun}
+use Rattle.plan_curve.specs.Curve.{behindRun}
 use Rattle.plan_curve.specs.Theorems.{WorstStart}
 
 module _ (rule : Rule) (plan : List ℕ) (p : ℕ) where
@@ -24,7 +24,7 @@ module _ (rule : Rule) (plan : List ℕ) (p : ℕ) where
   who = service rule plan
 
   -- from one start to the next: the tick that enters, the tick that leaves
-  next : (t s : ℕ) → held rule plan p t s + only (eqb (who (s + t)) p) 1 ≡ only (eqb (who s) p) 1 + held rule plan p t (suc s)
+  pub next : (t s : ℕ) → held rule plan p t s + only (eqb (who (s + t)) p) 1 ≡ only (eqb (who s) p) 1 + held rule plan p t (suc s)
   next t s =
       let one : held rule plan p 1 s ≡ only (eqb (who s) p) 1 =
       held-more who p 0 s ∙ omega (arith, held-zero who p s, ap (λ (x : ℕ). only (eqb (who x) p) 1) (add-zero s)) in

@@ -1,16 +1,14 @@
--- Words that only inner contracts use: no entry's contract cites them. Assumes nothing.
-use Prim.Native.Nat.{ℕ, _+_, _-_, _%_, _<_, min}
+-- Words that only inner contracts use: no statement and no entry's contract cites them. Assumes nothing.
+use Prim.Native.Nat.{ℕ, _+_, _%_, _≤_, _<_, min}
 use mathlib.Core.Path.{_≡_}
-use mathlib.Core.Bool.{Bool, _&&_, _||_, not}
+use mathlib.Core.Bool.{_&&_, not}
 use mathlib.Core.List.{List}
 use lib.Dec.{eqb}
 use lib.ListN.{length, getD}
 use Rattle.rules.specs.Walk.{pick}
+use Rattle.rules.specs.Contracts.{AsNamed}
 use Rattle.theory.specs.Plan.{Rule, service, held}
-
--- tick s stands right behind one of p's runs; the frame's first tick is let in whatever is before it
-unfoldable pub behindRun : Rule → List ℕ → ℕ → ℕ → Bool
-behindRun rule plan p s = eqb s 0 || (not (eqb (service rule plan s) p) && eqb (service rule plan (s - 1)) p)
+use Rattle.plan_curve.specs.Curve.{behindRun}
 
 -- what t ticks of a plan with f can hold of p's at most; of an empty one every tick is idle
 unfoldable pub most : ℕ → ℕ → ℕ → ℕ
@@ -20,9 +18,17 @@ most f p t = pick (eqb f 0 && not (eqb p 0)) 0 t
 unfoldable pub lowerFrom : Rule → List ℕ → ℕ → ℕ → List ℕ → ℕ → ℕ
 lowerFrom rule plan p s list t = min (getD list t 0) (held rule plan p t s)
 
--- the same, where s is a start that counts
+-- what a row does: a list of which the first b numbers are so lowered has then e lowered
+pub record LoweredOn (rule : Rule) (plan : List ℕ) (p s b e : ℕ) (from to : List ℕ) : Type 0 where
+  pub goes-on : (before : List ℕ) → AsNamed (lowerFrom rule plan p s before) b before from → AsNamed (lowerFrom rule plan p s before) e before to
+
+-- number t lowered, where s is a start that counts
 unfoldable pub lowerAt : Rule → List ℕ → ℕ → ℕ → List ℕ → ℕ → ℕ
 lowerAt rule plan p s list t = pick (behindRun rule plan p s) (lowerFrom rule plan p s list t) (getD list t 0)
+
+-- n numbers go no further than a frame of f and one tick, where there is a frame
+abbrev pub Framed : ℕ → ℕ → Type 0
+Framed f n = 0 < f → n ≤ f + 1
 
 -- as far as p is concerned the frame is some rounds of m ticks (none but the empty frame is rounds of 0)
 pub record Repeats (rule : Rule) (plan : List ℕ) (p m : ℕ) : Type 0 where

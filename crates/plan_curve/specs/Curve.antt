@@ -1,15 +1,16 @@
--- The curve of least service, and what the call answers. Assumes nothing.
-use Prim.Native.Nat.{ℕ, _+_}
+-- The curve of least service, what the call answers, and where a worst stretch may start. Assumes nothing.
+use Prim.Native.Nat.{ℕ, _+_, _-_}
 use mathlib.Core.Path.{_≡_}
+use mathlib.Core.Bool.{Bool, _&&_, _||_, not}
 use mathlib.Core.List.{List}
 use lib.ListN.{length}
-use lib.Dec.{ltb}
+use lib.Dec.{ltb, eqb}
 use Rattle.rules.specs.Walk.{pick, listed}
 use Rattle.rules.specs.Filling.{leftBy}
 use Rattle.rules.specs.declared.Refusal.the-variants.{Output}
 use Rattle.rules.specs.declared.Filling.{Filling}
 use Rattle.rules.specs.declared.Filling.the-variants.{Fills, Refused}
-use Rattle.theory.specs.Plan.{Rule, own, least}
+use Rattle.theory.specs.Plan.{Rule, own, service, least}
 
 -- least(0) .. least(n) of one partition
 abbrev pub leastCurve : Rule → List ℕ → ℕ → ℕ → List ℕ
@@ -22,3 +23,7 @@ curveOf n room = pick (ltb room (n + 1)) (Refused Output) (Fills (n + 1))
 -- the answer r of the call, and o what the list then holds: a longer one keeps its tail
 abbrev pub DrawsCurve : List ℕ → ℕ → ℕ → List ℕ → List ℕ → Filling → Type 0
 DrawsCurve plan p n list o r = (r ≡ curveOf n (length list)) × (o ≡ leftBy r (leastCurve own plan p n) list)
+
+-- tick s stands right behind one of p's runs; the frame's first tick is let in whatever is before it
+unfoldable pub behindRun : Rule → List ℕ → ℕ → ℕ → Bool
+behindRun rule plan p s = eqb s 0 || (not (eqb (service rule plan s) p) && eqb (service rule plan (s - 1)) p)

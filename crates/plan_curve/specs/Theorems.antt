@@ -8,8 +8,7 @@ use Rattle.rules.specs.declared.Refusal.the-variants.{Output}
 use Rattle.rules.specs.declared.Filling.{Filling}
 use Rattle.rules.specs.declared.Filling.the-variants.{Fills, Refused}
 use Rattle.theory.specs.Plan.{Rule, own, held, least}
-use Rattle.plan_curve.specs.Curve.{leastCurve, curveOf, DrawsCurve}
-use Rattle.plan_curve.specs.Contracts.{behindRun}
+use Rattle.plan_curve.specs.Curve.{leastCurve, curveOf, DrawsCurve, behindRun}
 
 -- "a worst stretch can be taken to start right behind one of the partition's runs": any stretch holds at least as much as one that starts there, or at
 -- the frame's first tick (a partition that has every tick, or none, has no start behind a run)

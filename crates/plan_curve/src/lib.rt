@@ -2,16 +2,15 @@
 // start right behind one of the partition's runs, so each of these starts is walked once, for all lengths.
 ghost use mathlib.Core.Path.{_≡_};
 ghost use mathlib.Core.Bool.{true};
-ghost use Prim.Native.Nat.{_^_, _≤_, _<_};
+ghost use Prim.Native.Nat.{_+_, _-_, _%_, _^_, _≤_, _<_};
 ghost use lib.ListN.{length};
 ghost use Rattle.rules.specs.Contracts.{AsNamed};
-ghost use Rattle.theory.specs.Plan.{own, least};
-ghost use Rattle.plan_curve.specs.Curve.{curveOf, DrawsCurve};
-ghost use Rattle.plan_curve.specs.Contracts.{behindRun, most, lowerAt, lowerFrom, Repeats};
+ghost use Rattle.theory.specs.Plan.{own, held, least};
+ghost use Rattle.plan_curve.specs.Curve.{curveOf, DrawsCurve, behindRun};
+ghost use Rattle.plan_curve.specs.Contracts.{most, lowerAt, lowerFrom, LoweredOn, Framed, Repeats};
 use plan_service::own_at;
 use rules::Filling;
 use rules::Refusal;
-use rules::numbers::after;
 use rules::numbers::smaller;
 use rules::numbers::wide;
 use rules::numbers::wide32;
@@ -52,27 +51,50 @@ fn begin(f: usize, p: usize, list: &mut [u32], n: usize)
     }
 }
 
-// Each of the first n numbers lowered to what as many ticks from tick s on hold.
+// Numbers b to e - 1 lowered to what as many ticks from tick s on hold: those that enter stand in a row in the frame, from
+// place `at` on. h is what b ticks hold, the answer what e hold.
+fn lower_row(
+    plan: &[u16],
+    p: usize,
+    s: usize,
+    at: usize,
+    list: &mut [u32],
+    b: usize,
+    e: usize,
+    h: usize,
+) -> usize
+    requires { ⌜ (at ≡ (s + b) % length (now plan)) × (b ≤ e) × (e ≤ 2 ^ 32) × (e ≤ length (now list))
+        × (at + (e - b) ≤ length (now plan)) × (h ≡ held own (now plan) p b s) ⌝ }
+    ensures { λ r. ⌜ (r ≡ held own (now (plan .entry)) p e s)
+        × LoweredOn own (now (plan .entry)) p s b e (now (list .entry)) (now (list .exit)) ⌝ }
+{
+    let mut all = h;
+    let mut t = b;
+    while t < e {
+        list[t] = smaller(wide32(list[t]), all) as u32;
+        all = all + own_at(plan, p, at + (t - b));
+        t += 1;
+    }
+    all
+}
+
+// Each of the first n numbers, no more than the frame has ticks and one, lowered to what as many ticks from tick s on hold:
+// up to the frame's end, and on from its start.
 fn lower_from(plan: &[u16], p: usize, s: usize, list: &mut [u32], n: usize)
-    requires { ⌜ (s < length (now plan)) × (n ≤ 2 ^ 32) × (n ≤ length (now list)) ⌝ }
+    requires { ⌜ (s < length (now plan)) × (n ≤ length (now plan) + 1) × (n ≤ 2 ^ 32) × (n ≤ length (now list)) ⌝ }
     ensures { λ _. ⌜ AsNamed (lowerFrom own (now (plan .entry)) p s (now (list .entry))) n
         (now (list .entry)) (now (list .exit)) ⌝ }
 {
-    let f = plan.len();
-    let mut h = 0;
-    let mut at = s;
-    let mut t = 0;
-    while t < n {
-        list[t] = smaller(wide32(list[t]), h) as u32;
-        h = h + own_at(plan, p, at);
-        at = after(at, f);
-        t += 1;
+    let e = smaller(n, plan.len() - s);
+    let h = lower_row(plan, p, s, s, list, 0, e, 0);
+    if e < n {
+        lower_row(plan, p, s, 0, list, e, n, h);
     }
 }
 
 // The same, where a worst stretch may start at s.
 fn lower_at(plan: &[u16], p: usize, s: usize, list: &mut [u32], n: usize)
-    requires { ⌜ (s < length (now plan)) × (n ≤ 2 ^ 32) × (n ≤ length (now list)) ⌝ }
+    requires { ⌜ (s < length (now plan)) × (n ≤ length (now plan) + 1) × (n ≤ 2 ^ 32) × (n ≤ length (now list)) ⌝ }
     ensures { λ _. ⌜ AsNamed (lowerAt own (now (plan .entry)) p s (now (list .entry))) n
         (now (list .entry)) (now (list .exit)) ⌝ }
 {
@@ -81,9 +103,9 @@ fn lower_at(plan: &[u16], p: usize, s: usize, list: &mut [u32], n: usize)
     }
 }
 
-// Of a plan as it stands: least(0) .. least(n - 1), into the first n numbers of the list.
+// Within a frame and one tick: least(0) .. least(n - 1), into the first n numbers of the list.
 fn draw_frame(plan: &[u16], p: usize, list: &mut [u32], n: usize)
-    requires { ⌜ (n ≤ 2 ^ 32) × (n ≤ length (now list)) ⌝ }
+    requires { ⌜ Framed (length (now plan)) n × (n ≤ 2 ^ 32) × (n ≤ length (now list)) ⌝ }
     ensures { λ _. ⌜ AsNamed (least own (now (plan .entry)) p) n (now (list .entry)) (now (list .exit)) ⌝ }
 {
     let f = plan.len();
@@ -92,6 +114,32 @@ fn draw_frame(plan: &[u16], p: usize, list: &mut [u32], n: usize)
     while s < f {
         lower_at(plan, p, s, list, n);
         s += 1;
+    }
+}
+
+// How many of n numbers are drawn within a frame of f and one tick; of an empty plan all.
+fn within_frame(f: usize, n: usize) -> usize
+    requires { ⌜ f < 2 ^ 63 ⌝ }
+    ensures { λ r. ⌜ (r ≤ n) × Framed f r × (r < n → (0 < f) × (r ≡ f + 1)) ⌝ }
+{
+    if f == 0 {
+        return n;
+    }
+    smaller(n, f + 1)
+}
+
+// least(0) .. least(n - 1): a frame more holds as much more as a frame holds, whatever its start.
+fn draw_frames(plan: &[u16], p: usize, list: &mut [u32], n: usize)
+    requires { ⌜ (n ≤ 2 ^ 32) × (n ≤ length (now list)) ⌝ }
+    ensures { λ _. ⌜ AsNamed (least own (now (plan .entry)) p) n (now (list .entry)) (now (list .exit)) ⌝ }
+{
+    let f = plan.len();
+    let k = within_frame(f, n);
+    draw_frame(plan, p, list, k);
+    let mut t = k;
+    while t < n {
+        list[t] = (wide32(list[t - f]) + wide32(list[f])) as u32;
+        t += 1;
     }
 }
 
@@ -137,7 +185,7 @@ pub fn draw(plan: &[u16], p: usize, list: &mut [u32], n: usize)
     ensures { λ _. ⌜ AsNamed (least own (now (plan .entry)) p) n (now (list .entry)) (now (list .exit)) ⌝ }
 {
     let m = shortest(plan, p);
-    draw_frame(&plan[..m], p, list, n);
+    draw_frames(&plan[..m], p, list, n);
 }
 
 // least(0) .. least(n) of partition p, at the start of the list.

@@ -28,8 +28,18 @@ unfoldable pub withAsked : List ℕ → ℕ → ℕ → List ℕ → ℕ → ℕ
 withAsked ts p j list t = getD list t 0 + asksOf ts p t j
 
 -- numbers so small that one task more fits into 32 bits
+pub record SmallFrom (b : ℕ) (list : List ℕ) : Type 0 where
+  pub small : (t : ℕ) → b ≤ t → getD list t 0 < 2 ^ 31
+
 abbrev pub Small : List ℕ → Type 0
-Small list = (t : ℕ) → getD list t 0 < 2 ^ 31
+Small list = SmallFrom 0 list
+
+-- x more at each place from b to e - 1, and the other numbers as they were
+pub record Added (x b e : ℕ) (from to : List ℕ) : Type 0 where
+  pub as-long : length to ≡ length from
+  pub row : (t : ℕ) → b ≤ t → t < e → getD to t 0 ≡ getD from t 0 + x
+  pub before : (t : ℕ) → t < b → getD to t 0 ≡ getD from t 0
+  pub behind : (t : ℕ) → e ≤ t → getD to t 0 ≡ getD from t 0
 
 abbrev pub Zeros : List ℕ → Type 0
 Zeros list = (t : ℕ) → getD list t 0 ≡ 0

@@ -2,46 +2,50 @@
 // the asks is what the higher tasks of the partition ask of t ticks. With the task's own budget that is its demand.
 ghost use mathlib.Core.Path.{_≡_};
 ghost use Prim.Native.Nat.{_+_, _^_, _≤_, _<_};
-ghost use lib.Dec.{eqb, leb};
-ghost use lib.ListN.{length, getD};
+ghost use lib.ListN.{length};
 ghost use Rattle.rules.specs.Contracts.{AsNamed};
 ghost use Rattle.rules.specs.Limits.{longest};
-ghost use Rattle.rules.specs.Walk.{only};
 ghost use Rattle.rules.specs.Table.{partition};
-ghost use Rattle.task_demand.specs.Contracts.{withTask, withAsked, allAsked, Small, Zeros, InOrder, Judgeable, fitsAt, Drawn};
+ghost use Rattle.task_demand.specs.Contracts.{Added, withTask, withAsked, allAsked, Small, SmallFrom, Zeros, InOrder, Judgeable, fitsAt, Drawn};
 use rules::limits::LONGEST;
+use rules::numbers::smaller;
 use rules::numbers::wide;
 use rules::numbers::wide32;
 
 pub const TICKS: usize = LONGEST + 1; // numbers of a list, for 0 to 4,096 ticks
 
-// x where a job is due at tick t, else 0.
-fn if_due(next: usize, t: usize, x: usize) -> usize
-    ensures { λ r. ⌜ (r ≤ x) × (r ≡ only (eqb next t) x) ⌝ }
+// A number added to those from b to e - 1.
+fn add_row(asks: &mut [u32], b: usize, e: usize, all: usize)
+    requires { ⌜ (b ≤ e) × (e ≤ length (now asks)) × (all < 2 ^ 31) × SmallFrom b (now asks) ⌝ }
+    ensures { λ _. ⌜ Added all b e (now (asks .entry)) (now (asks .exit)) ⌝ }
 {
-    if next == t { x } else { 0 }
+    let mut t = b;
+    while t < e {
+        asks[t] = (wide32(asks[t]) + all) as u32;
+        t += 1;
+    }
 }
 
-// A task of budget c: "c times t/T, rounded up" is added to number t, for the first n. It rises behind each multiple of T,
-// so that nothing is divided.
+// A task of budget c: "c times t/T, rounded up" is added to number t, for the first n. That is one c more from behind each
+// multiple of T up to the next, so that nothing is divided.
 fn add_task(asks: &mut [u32], n: usize, c: u16, period: u16)
-    requires { ⌜ (0 < period) × (c ≤ period) × (n ≤ longest + 1) × (n ≤ length (now asks)) × Small (now asks) ⌝ }
+    requires { ⌜ (0 < period) × (c ≤ period) × (period ≤ longest) × (0 < n) × (n ≤ longest + 1)
+        × (n ≤ length (now asks)) × Small (now asks) ⌝ }
     ensures { λ _. ⌜ AsNamed (withTask c period (now (asks .entry))) n (now (asks .entry)) (now (asks .exit)) ⌝ }
 {
     let mut all = 0;
-    let mut next = 0;
-    let mut t = 0;
+    let mut t = 1;
     while t < n {
-        asks[t] = (wide32(asks[t]) + all) as u32;
-        all = all + if_due(next, t, wide(c));
-        next = next + if_due(next, t, wide(period));
-        t += 1;
+        all = all + wide(c);
+        let e = smaller(t + wide(period), n);
+        add_row(asks, t, e, all);
+        t = e;
     }
 }
 
 // What task j asks is added to the first n numbers, where it is of partition p.
 pub fn ask_task(tasks: &[u16], p: u16, j: usize, asks: &mut [u32], n: usize)
-    requires { ⌜ InOrder (now tasks) j × (n ≤ longest + 1) × (n ≤ length (now asks)) × Small (now asks) ⌝ }
+    requires { ⌜ InOrder (now tasks) j × (0 < n) × (n ≤ longest + 1) × (n ≤ length (now asks)) × Small (now asks) ⌝ }
     ensures { λ _. ⌜ AsNamed (withAsked (now (tasks .entry)) p j (now (asks .entry))) n
         (now (asks .entry)) (now (asks .exit)) ⌝ }
 {
@@ -54,7 +58,7 @@ pub fn ask_task(tasks: &[u16], p: u16, j: usize, asks: &mut [u32], n: usize)
 
 // What the higher tasks of the partition of i ask, in the first n numbers of a list of zeros.
 fn ask_rivals(tasks: &[u16], i: usize, asks: &mut [u32], n: usize)
-    requires { ⌜ Judgeable (now tasks) i × (n ≤ longest + 1) × (n ≤ length (now asks)) × Zeros (now asks) ⌝ }
+    requires { ⌜ Judgeable (now tasks) i × (0 < n) × (n ≤ longest + 1) × (n ≤ length (now asks)) × Zeros (now asks) ⌝ }
     ensures { λ _. ⌜ AsNamed (allAsked (now (tasks .entry)) (partition (now (tasks .entry)) i) i) n
         (now (asks .entry)) (now (asks .exit)) ⌝ }
 {

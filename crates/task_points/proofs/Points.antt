@@ -12,6 +12,7 @@ use borrow.Author.Tests.{le-leb, lt-leb, eq-eqb, ne-eqb}
 use Rattle.rules.specs.Walk.{first, some}
 use Rattle.rules.specs.Table.{budget, deadline}
 use Rattle.rules.proofs.First.{first-zero, first-more, first-ext}
+use Rattle.rules.proofs.Tests.{and-none}
 use Rattle.theory.specs.Plan.{own}
 use Rattle.theory.specs.Load.{multiple, point, holds}
 use Rattle.theory.specs.Task.{taskLoad, taskPoint}
@@ -31,14 +32,18 @@ pub at-multiple : (asks : List ℕ) (d t : ℕ) → ¬ (t ≡ d) → ltb (getD a
 unfolding pointAt
 at-multiple asks d t h = rw (ne-eqb t d h)
 
-module _ (curve asks : List ℕ) (c d : ℕ) where
-  pub point-fits : (t : ℕ) (b : Bool) → 1 ≤ t → pointAt asks d t ≡ true → b ≡ fitsAt curve asks c t → b ≡ pointFits curve asks c d t
-  unfolding pointFits
-  point-fits t b l e f = rw (le-leb 1 t l, e) f
+and-true : (b : Bool) → (b && true) ≡ b
+and-true true = refl
+and-true false = refl
 
-  pub no-point : (t : ℕ) → 1 ≤ t → pointAt asks d t ≡ false → false ≡ pointFits curve asks c d t
+module _ (curve asks : List ℕ) (c d : ℕ) where
+  pub point-fits : (t : ℕ) (b : Bool) → 1 ≤ t → fitsAt curve asks c t ≡ true → b ≡ pointAt asks d t → b ≡ pointFits curve asks c d t
   unfolding pointFits
-  no-point t l e = rw (le-leb 1 t l, e)
+  point-fits t b l e f = rw (le-leb 1 t l, e, ← f) (sym (and-true b))
+
+  pub no-fit : (t : ℕ) → fitsAt curve asks c t ≡ false → false ≡ pointFits curve asks c d t
+  unfolding pointFits
+  no-fit t e = sym (and-none (leb 1 t && pointAt asks d t) (fitsAt curve asks c t) e)
 
   no-point-0 : pointFits curve asks c d 0 ≡ false
   unfolding pointFits

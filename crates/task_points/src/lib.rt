@@ -28,8 +28,8 @@ fn point_fits(curve: &[u32], asks: &[u32], c: u16, d: usize, t: usize) -> bool
     requires { ⌜ (1 ≤ t) × (t ≤ d) × (d < length (now curve)) × (d < length (now asks)) ⌝ }
     ensures { λ r. ⌜ r ≡ pointFits (now (curve .entry)) (now (asks .entry)) c d t ⌝ }
 {
-    if point_at(asks, d, t) {
-        return fits(curve, asks, c, t);
+    if fits(curve, asks, c, t) {
+        return point_at(asks, d, t);
     }
     false
 }

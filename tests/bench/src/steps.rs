@@ -15,34 +15,43 @@ pub fn repeated(plan: &[u16], p: u16) -> &[u16] {
         let mut pairs = plan.iter().zip(&plan[m..]);
         plan.len() % m == 0 && pairs.all(|(one, later)| own(one) == own(later))
     };
-    let shorter = (1..plan.len()).find(|&m| repeats(m));
+    let shorter = (1..=plan.len() / 2).find(|&m| repeats(m));
     &plan[..shorter.unwrap_or(plan.len())]
 }
 
-/// Each number lowered to what as many ticks from the start on hold.
+/// Each number lowered to what as many ticks from the start on hold: up to the plan's end, and on from
+/// its beginning.
 fn lower(plan: &[u16], p: u16, start: usize, list: &mut [u32]) {
     let mut held = 0;
-    let mut at = start;
-    for least in list {
-        *least = held.min(*least);
-        held += u32::from(plan[at] == p);
-        at += 1;
-        if at == plan.len() {
-            at = 0;
+    let (behind, ahead) = plan.split_at(start);
+    let (first, rest) = list.split_at_mut(ahead.len().min(list.len()));
+    for (row, ticks) in [(first, ahead), (rest, behind)] {
+        for (least, &owner) in row.iter_mut().zip(ticks) {
+            *least = held.min(*least);
+            held += u32::from(owner == p);
+        }
+        if let Some(last) = row.get_mut(ticks.len()) {
+            *last = held.min(*last);
         }
     }
 }
 
-/// The least service of as many ticks as each place of the list says.
+/// The least service of as many ticks as each place of the list says; behind a frame and one tick a frame
+/// more holds as much more as a frame holds.
 pub fn draw(plan: &[u16], p: u16, list: &mut [u32]) {
     let plan = repeated(plan, p);
-    for (least, t) in list.iter_mut().zip(0..) {
+    let within = list.len().min(plan.len() + 1);
+    let frame = &mut list[..within];
+    for (least, t) in frame.iter_mut().zip(0..) {
         *least = t;
     }
     for start in 0..plan.len() {
         if start == 0 || plan[start] != p && plan[start - 1] == p {
-            lower(plan, p, start, list);
+            lower(plan, p, start, frame);
         }
+    }
+    for t in within..list.len() {
+        list[t] = list[t - plan.len()] + list[plan.len()];
     }
 }
 
@@ -51,15 +60,13 @@ pub fn curve(plan: &[u16], p: u16, list: &mut [u32]) -> Answer {
     Answer::good([list.len() as u64, 0, 0, 0])
 }
 
-/// Adds what one more higher task asks of each t: its C for each release before t.
+/// Adds what one more higher task asks of each t: one C more from behind each multiple of its period up to the next.
 fn add(asks: &mut [u32], task: &Task) {
-    let (c, period) = (task.c as u32, task.t as u32);
-    let [mut all, mut next] = [0, 0];
-    for (asked, t) in asks.iter_mut().zip(0..) {
-        *asked += all;
-        if next == t {
-            all += c;
-            next += period;
+    let mut all = 0;
+    for row in asks[1..].chunks_mut(task.t as usize) {
+        all += task.c as u32;
+        for asked in row {
+            *asked += all;
         }
     }
 }
@@ -83,7 +90,7 @@ impl Known {
     fn earliest(&self, task: &Task, tried: impl Fn(&[u32], usize) -> bool) -> u64 {
         let (c, end) = (task.c as u32, task.d as usize + 1);
         let (asks, curve) = (&self.asks[..end], &self.curve[..end]);
-        let holds = |&t: &usize| tried(asks, t) && c + asks[t] <= curve[t];
+        let holds = |&t: &usize| c + asks[t] <= curve[t] && tried(asks, t);
         (1..end).find(holds).unwrap_or(0) as u64
     }
 

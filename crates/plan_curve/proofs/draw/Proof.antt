@@ -9,19 +9,19 @@ use Rattle.plan_curve.proofs.draw.Tie as tie
 shortest-requires : tie.Need-shortest-requires
 shortest-requires c κs = search needs
 
-slice-aggregate-draw-frame : tie.Need-slice-aggregate-draw-frame
-slice-aggregate-draw-frame c = sym (length-take-le (c .before .shortest .result) (c .before .before .before .before .args .plan .now) (c .before .shortest .ensures .0))
+slice-aggregate-draw-frames : tie.Need-slice-aggregate-draw-frames
+slice-aggregate-draw-frames c = sym (length-take-le (c .before .shortest .result) (c .before .before .before .before .args .plan .now) (c .before .shortest .ensures .0))
 
-draw-frame-requires : tie.Need-draw-frame-requires
-draw-frame-requires c κs = search needs
+draw-frames-requires : tie.Need-draw-frames-requires
+draw-frames-requires c κs = search needs
 
 same-length : tie.Need-same-length
-same-length c = c .before .before .draw-frame .ensures .as-long
+same-length c = c .before .before .draw-frames .ensures .as-long
 
 returns : tie.Need-returns
-returns c = let e = c .before .before .before .before .before .shortest .ensures in named-as _ _ _ _ _ (λ t l. rounds-least _ _ _ t (e .1) (e .0)) (c .before .before .draw-frame .ensures)
+returns c = let e = c .before .before .before .before .before .shortest .ensures in named-as _ _ _ _ _ (λ t l. rounds-least _ _ _ t (e .1) (e .0)) (c .before .before .draw-frames .ensures)
 
 pub draw-spec : {M : Type 1} → statement M
 draw-spec =
     tie.close
-    (tie.spec shortest-requires slice-aggregate-draw-frame draw-frame-requires same-length returns)
+    (tie.spec shortest-requires slice-aggregate-draw-frames draw-frames-requires same-length returns)

@@ -1,6 +1,7 @@
 use Prim.Native.Nat.{_-_, _≤_}
 use mathlib.Core.Path.{_≡_, refl, _∙_}
 use lib.ListN.{length}
+use native.Mathlib.Omega.{arith}
 use Rattle.rules.specs.Contracts.{AsNamed}
 use Rattle.rules.proofs.Named.{named-self, named-then}
 use Rattle.theory.specs.Plan.{own}
@@ -22,7 +23,7 @@ loop-holds : tie.Need-loop-holds Inv-loop μ-loop
 loop-holds c = (search needs, refl, named-self _ _ _ _ (lowered-none _ _ _ _ _ _ refl (c .before .before .begin .ensures)))
 
 lower-at-requires : tie.Need-lower-at-requires Inv-loop μ-loop
-lower-at-requires c κs = search needs
+lower-at-requires c κs = (search needs, c .before .before .before .before .before .before .before .before .before .pre .0 (omega arith), c .before .before .before .before .before .before .before .before .before .pre .1, omega (arith, c .before .before .before .before .before .before .before .before .before .pre .2, c .before .before .loop .inv .1, c .before .before .before .before .before .begin .ensures .as-long))
 
 add-s : tie.Need-add-s Inv-loop μ-loop
 add-s c = search needs

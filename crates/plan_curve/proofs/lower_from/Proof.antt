@@ -1,106 +1,55 @@
-use Prim.Native.Nat.{_+_, _-_, _%_, _≤_, _<_, min}
-use mathlib.Core.Path.{_≡_, refl, sym, ap₂, _∙_}
+use mathlib.Core.Path.{sym}
 use native.Mathlib.Nat.{add-zero, mod-eq-of-lt}
-use lib.ListN.{length, length-set}
-use Rattle.rules.specs.Contracts.{AsNamed}
+use native.Mathlib.Omega.{arith}
 use Rattle.rules.proofs.Named.{named-none, named-end}
-use Rattle.theory.specs.Plan.{own, held}
-use Rattle.plan_service.proofs.Turns.{held-none, held-turn}
-use Rattle.plan_curve.specs.Contracts.{lowerFrom}
-use Rattle.plan_curve.proofs.Lowered.{lower-turn, place-after}
+use Rattle.plan_service.proofs.Turns.{held-none}
+use Rattle.plan_curve.proofs.Lowered.{row-second}
 use borrow.Author.Needs.{needs}
 use Rattle.plan_curve.proofs.lower_from.Statement.{statement}
 use Rattle.plan_curve.proofs.lower_from.Tie as tie
 
-abbrev Inv-loop : tie.InvT-loop
-Inv-loop plan p s list₀ n f h₀ at₀ t₀ list h at t =
-    (t ≤ n)
-    × (length list ≡ length list₀)
-    × (h ≤ t)
-    × (at < f)
-    × (at ≡ (s + t) % f)
-    × (h ≡ held own plan p t s)
-    × AsNamed (lowerFrom own plan p s list₀) t list₀ list
+sub-smaller : tie.Need-sub-smaller
+sub-smaller c = search needs
 
-abbrev μ-loop : tie.MeasureT-loop
-μ-loop plan p s list₀ n f h₀ at₀ t₀ list h at t = n - t
-
-loop-holds : tie.Need-loop-holds Inv-loop μ-loop
-loop-holds c = (search needs, refl, search needs, search needs, rw add-zero (sym (mod-eq-of-lt (search needs))), held-none _ _ _, named-none _ _)
-
-mul-wide32 : tie.Need-mul-wide32 Inv-loop μ-loop
-mul-wide32 c = search needs
-
-slice-read-wide32 : tie.Need-slice-read-wide32 Inv-loop μ-loop
-slice-read-wide32 c = search needs
-
-wide32-requires : tie.Need-wide32-requires Inv-loop μ-loop
-wide32-requires c κs = search needs
-
-smaller-requires : tie.Need-smaller-requires Inv-loop μ-loop
+smaller-requires : tie.Need-smaller-requires
 smaller-requires c κs = search needs
 
-cast-list : tie.Need-cast-list Inv-loop μ-loop
-cast-list c = search needs
+lower-row-requires : tie.Need-lower-row-requires
+lower-row-requires c κs = (rw add-zero (sym (mod-eq-of-lt (c .before .before .before .before .pre .0))), search needs, omega (arith, c .before .smaller .ensures), omega (arith, c .before .smaller .ensures), omega (arith, c .before .smaller .ensures), held-none _ _ _)
 
-mul-list : tie.Need-mul-list Inv-loop μ-loop
-mul-list c = search needs
-
-slice-write-list : tie.Need-slice-write-list Inv-loop μ-loop
-slice-write-list c = search needs
-
-own-at-requires : tie.Need-own-at-requires Inv-loop μ-loop
-own-at-requires c κs = search needs
-
-add-h : tie.Need-add-h Inv-loop μ-loop
-add-h c = search needs
-
-after-requires : tie.Need-after-requires Inv-loop μ-loop
-after-requires c κs = search needs
-
-add-t : tie.Need-add-t Inv-loop μ-loop
-add-t c = search needs
-
-loop-less : tie.Need-loop-less Inv-loop μ-loop
-loop-less c = search needs
-
-loop-again : tie.Need-loop-again Inv-loop μ-loop
-loop-again c =
-    let l = c .before .before .before .before .before .before .loop in (
+lower-row-requires-2 : tie.Need-lower-row-requires-2
+lower-row-requires-2 c κs =
+    let e = c .before .before .before .before .before .before .smaller .ensures in
+    let l = c .before .before .before .before .lower-row .ensures .1 .goes-on _ (named-none _ _) in (
+      row-second _ _ _ (c .before .before .before .before .before .before .before .before .before .pre .0) (omega (arith, e, c .before .if1 .taken)),
       search needs,
-      simp length-set (l .inv .1),
       search needs,
-      c .after .ensures .0,
-      place-after _ _ _ _ _ (l .inv .4) (c .after .ensures .1),
-      held-turn _ _ _ _ _ _ _ (l .inv .4) (l .inv .5) (c .before .own-at .ensures .1),
-      lower-turn own _ _ _ _ _ _ _ _ _ (l .inv .6) (search needs) (l .inv .5) (c .before .before .smaller .ensures ∙ ap₂ min (c .before .before .before .wide32 .ensures .1) refl) refl,
+      omega (arith, l .as-long, c .before .before .before .before .before .before .before .before .before .pre .3),
+      omega (arith, e, c .before .before .before .before .before .before .before .before .before .pre .1),
+      c .before .before .before .before .lower-row .ensures .0,
     )
 
-same-length : tie.Need-same-length Inv-loop μ-loop
-same-length c = c .before .loop .inv .1
+same-length : tie.Need-same-length
+same-length c = (c .before .before .lower-row2 .ensures .1 .goes-on _ (c .before .before .before .before .before .before .before .lower-row .ensures .1 .goes-on _ (named-none _ _))) .as-long
 
-returns : tie.Need-returns Inv-loop μ-loop
-returns c = named-end _ _ _ _ _ (c .before .loop .inv .0) (search needs) (c .before .loop .inv .6)
+returns : tie.Need-returns
+returns c = c .before .before .lower-row2 .ensures .1 .goes-on _ (c .before .before .before .before .before .before .before .lower-row .ensures .1 .goes-on _ (named-none _ _))
+
+same-length-2 : tie.Need-same-length-2
+same-length-2 c = (c .before .before .before .lower-row .ensures .1 .goes-on _ (named-none _ _)) .as-long
+
+returns-2 : tie.Need-returns-2
+returns-2 c = named-end _ _ _ _ _ (omega (arith, c .before .before .before .before .before .smaller .ensures)) (search needs) (c .before .before .before .lower-row .ensures .1 .goes-on _ (named-none _ _))
 
 pub lower-from-spec : {M : Type 1} → statement M
 lower-from-spec =
     tie.close
     (tie.spec
-    Inv-loop
-    μ-loop
-    loop-holds
-    mul-wide32
-    slice-read-wide32
-    wide32-requires
+    sub-smaller
     smaller-requires
-    cast-list
-    mul-list
-    slice-write-list
-    own-at-requires
-    add-h
-    after-requires
-    add-t
-    loop-less
-    loop-again
+    lower-row-requires
+    lower-row-requires-2
     same-length
-    returns)
+    returns
+    same-length-2
+    returns-2)

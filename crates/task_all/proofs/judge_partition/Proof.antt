@@ -72,6 +72,7 @@ ask-task-requires c κs =
     let n = c .before .before .before .before .before .before .before .before .before .before .before .before .tasks .ensures in
     let d = longest-short _ (pre .0) _ _ (c .before .before .before .before .before .before .before .before .before .before .before .before .before .before .before .before .before .before .before .longest-deadline .ensures) in (
       pre .0 .in-order _ (omega (arith, n)),
+      omega arith,
       omega (arith, d),
       omega (arith, d, l .inv .1, pre .3),
       asked-small _ _ _ _ _ _ (omega (arith, n, pre .0 .few)) (omega (arith, d)) (λ k h. pre .0 .in-order k (omega (arith, n))) (pre .1) (l .inv .4),

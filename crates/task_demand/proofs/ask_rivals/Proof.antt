@@ -19,13 +19,13 @@ partition-requires : tie.Need-partition-requires Inv-loop μ-loop
 partition-requires c κs = search needs
 
 loop-holds : tie.Need-loop-holds Inv-loop μ-loop
-loop-holds c = (search needs, refl, asked-none _ _ _ _ (c .before .before .before .pre .3))
+loop-holds c = (search needs, refl, asked-none _ _ _ _ (c .before .before .before .pre .4))
 
 ask-task-requires : tie.Need-ask-task-requires Inv-loop μ-loop
 ask-task-requires c κs =
     let l = c .before .before .loop in
     let pre = c .before .before .before .before .before .before .pre in
-    (pre .0 .in-order _ (search needs), search needs, search needs, asked-small _ _ _ _ _ _ (search needs) (search needs) (λ j h. pre .0 .in-order j (omega arith)) (pre .3) (l .inv .2))
+    (pre .0 .in-order _ (search needs), pre .1, search needs, search needs, asked-small _ _ _ _ _ _ (search needs) (search needs) (λ j h. pre .0 .in-order j (omega arith)) (pre .4) (l .inv .2))
 
 add-j : tie.Need-add-j Inv-loop μ-loop
 add-j c = search needs

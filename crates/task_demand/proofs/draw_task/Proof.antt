@@ -24,7 +24,7 @@ draw-requires : tie.Need-draw-requires
 draw-requires c κs = let l = in-list _ _ _ _ (c .before .before .before .before .before .before .before .before .before .pre .0) (c .before .before .before .before .deadline .ensures) (c .before .before .before .wide .ensures) in (omega (arith, l), omega (arith, l, c .before .before .before .before .before .before .before .before .before .pre .2))
 
 ask-rivals-requires : tie.Need-ask-rivals-requires
-ask-rivals-requires c κs = let l = in-list _ _ _ _ (c .before .before .before .before .before .before .before .before .before .before .before .before .before .pre .0) (c .before .before .before .before .before .before .before .before .deadline .ensures) (c .before .before .before .before .before .before .before .wide .ensures) in (c .before .before .before .before .before .before .before .before .before .before .before .before .before .pre .0, l, omega (arith, l, c .before .before .before .before .before .before .before .before .before .before .before .before .before .pre .3), c .before .before .before .before .before .before .before .before .before .before .before .before .before .pre .1)
+ask-rivals-requires c κs = let l = in-list _ _ _ _ (c .before .before .before .before .before .before .before .before .before .before .before .before .before .pre .0) (c .before .before .before .before .before .before .before .before .deadline .ensures) (c .before .before .before .before .before .before .before .wide .ensures) in (c .before .before .before .before .before .before .before .before .before .before .before .before .before .pre .0, omega arith, l, omega (arith, l, c .before .before .before .before .before .before .before .before .before .before .before .before .before .pre .3), c .before .before .before .before .before .before .before .before .before .before .before .before .before .pre .1)
 
 same-length : tie.Need-same-length
 same-length c = c .before .before .before .before .before .before .draw .ensures .as-long
