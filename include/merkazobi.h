@@ -10,15 +10,14 @@
    Pointers: what is lent must be there for the whole length said, aligned as its type asks. A null pointer is good
    where the length is 0. What is lent for writing must not overlap anything else of the same call.
 
-   Cost: `merkazobi_read` and `merkazobi_section` take up to MERKAZOBI_READ_STACK bytes of stack, `merkazobi_list` up
-   to MERKAZOBI_LIST_STACK, every other call up to MERKAZOBI_STACK. At the limits a build, check, read or write takes
-   under a millisecond; a call over running counts walks plan, list (65,552 numbers at most) and questions;
-   merkazobi_held walks at most a frame, merkazobi_least two. A verdict walks as much for each scheduling point, the plain
-   engine for each tick up to the one that holds: some ten to twenty microseconds in a frame of 4,096, where D may be
-   4,096 and nearly every tick a point. A listing judges every task, and those that pass by both engines: with 128 such
-   tasks it takes some seconds, up to twice as many where they pass late. (What is said of check, verdict and listing is
-   reckoned from counted instructions, not timed.) A call of the desk goes through its 64 places a few times:
-   microseconds, whatever is asked. */
+   Cost: `merkazobi_read` and `merkazobi_section` take up to MERKAZOBI_READ_STACK bytes of stack, `merkazobi_verdict`
+   and `merkazobi_plain` up to MERKAZOBI_VERDICT_STACK, `merkazobi_list` up to MERKAZOBI_LIST_STACK, every other call up
+   to MERKAZOBI_STACK. At the limits a build, check, read or write takes under a millisecond; a call over running counts
+   walks plan, list (65,552 numbers at most) and questions; merkazobi_held walks at most a frame, merkazobi_least two.
+   merkazobi_curve walks, for each run of the partition, as far as n goes, but no further than a frame: a verdict makes
+   one curve up to D, a listing one for each partition that has tasks. At the limits that is some thousandths of a second
+   for a verdict and some hundredths at most for a listing; docs/TIMES.md has what was measured. A call of the desk goes
+   through its 64 places a few times: about a microsecond, whatever is asked. */
 #ifndef MERKAZOBI_H
 #define MERKAZOBI_H
 

@@ -27,7 +27,7 @@ gone-none t e (j ∷ js) h o =
     let two = gone-none t (ends j) js late (o .2) in
     (rw (lt-leb (ends j) t late) (two .0), rw (lt-leb (ends j) t late) (ap (λ (r : List Job). j ∷ r) (two .1)))
 
-pub kept-drop : (t e : ℕ) (js : List Job) → Chain e js → kept t js ≡ drop (goneBy t js) js
+kept-drop : (t e : ℕ) (js : List Job) → Chain e js → kept t js ≡ drop (goneBy t js) js
 kept-drop t e [] o = refl
 kept-drop t e (j ∷ js) o = by-end (leb (ends j) t) refl (kept-drop t (ends j) js (o .2)) where
   by-end : (b : Bool) → leb (ends j) t ≡ b → kept t js ≡ drop (goneBy t js) js

@@ -34,7 +34,7 @@ module _ (t c d : ℕ) where
   off-stays g b f p s h [] = refl
   off-stays g b f p s h (j ∷ l) = off-stays g b f p s h l
 
-  abbrev pub spotOf : Searching → Place
+  abbrev spotOf : Searching → Place
   spotOf e = pick (e .found || leb (e .start + c) d) (At (e .place) (e .start)) Nowhere
 
   abbrev Asks : Searching → Type 0

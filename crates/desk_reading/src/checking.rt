@@ -20,7 +20,7 @@ pub struct Checking {
 }
 
 // Whether the x of the job before is the rule's, with so much room behind that job.
-pub fn right_x(s: Checking, room: u64) -> bool
+fn right_x(s: Checking, room: u64) -> bool
     ensures { λ r. ⌜ r ≡ (eqb (s .flex) (min (s .own) room) || s .opening) ⌝ }
 {
     if wide(s.flex) == earlier(s.own, room) {

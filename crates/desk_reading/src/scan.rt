@@ -23,7 +23,7 @@ pub struct Scan {
 }
 
 // A rule is broken.
-pub fn breaks(s: Scan) -> Scan
+fn breaks(s: Scan) -> Scan
     ensures { λ r. ⌜ r ≡ broken s ⌝ }
 {
     let mut r = s;
@@ -32,7 +32,7 @@ pub fn breaks(s: Scan) -> Scan
 }
 
 // One more listed job.
-pub fn listed_step(s: Scan, j: Job) -> Scan
+fn listed_step(s: Scan, j: Job) -> Scan
     requires { ⌜ 0 < s .left ⌝ }
     ensures { λ r. ⌜ r ≡ listedStep s j ⌝ }
 {

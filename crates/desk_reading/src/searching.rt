@@ -28,7 +28,7 @@ pub struct Searching {
 }
 
 // The place is the one before j.
-pub fn closes(s: Searching, busy: bool, found: bool, j: Job) -> Searching
+fn closes(s: Searching, busy: bool, found: bool, j: Job) -> Searching
     ensures { λ r. ⌜ r ≡ searchClosed s busy found j ⌝ }
 {
     let mut r = s;
@@ -40,7 +40,7 @@ pub fn closes(s: Searching, busy: bool, found: bool, j: Job) -> Searching
 }
 
 // The search goes on behind j.
-pub fn goes_past(s: Searching, busy: bool, j: Job) -> Searching
+fn goes_past(s: Searching, busy: bool, j: Job) -> Searching
     ensures { λ r. ⌜ r ≡ searchPast s busy j ⌝ }
 {
     let mut r = s;
@@ -51,7 +51,7 @@ pub fn goes_past(s: Searching, busy: bool, j: Job) -> Searching
 }
 
 // Whether the first job left is running, j being the next one left.
-pub fn busy_after(s: Searching, j: Job) -> bool
+fn busy_after(s: Searching, j: Job) -> bool
     ensures { λ r. ⌜ r ≡ pick (eqb (s .place) 0) (ltb (start j) (s .time)) (s .busy) ⌝ }
 {
     if s.place == 0 {
@@ -61,7 +61,7 @@ pub fn busy_after(s: Searching, j: Job) -> bool
 }
 
 // The search, at a job left.
-pub fn look_at(s: Searching, j: Job) -> Searching
+fn look_at(s: Searching, j: Job) -> Searching
     ensures { λ r. ⌜ r ≡ searchLook s j ⌝ }
 {
     let busy = busy_after(s, j);
@@ -75,7 +75,7 @@ pub fn look_at(s: Searching, j: Job) -> Searching
 }
 
 // A job that ends by t is dropped.
-pub fn drops(s: Searching) -> Searching
+fn drops(s: Searching) -> Searching
     ensures { λ r. ⌜ r ≡ searchDropped s ⌝ }
 {
     let mut r = s;

@@ -65,6 +65,7 @@ fn put_task(
     put_pass(out, at, j + 1, partition, point, ticks[j])
 }
 
+// All tasks' lines, in the table's order.
 fn put_lines(
     table: &[u16],
     points: &[usize],

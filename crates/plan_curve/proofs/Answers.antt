@@ -1,6 +1,6 @@
 -- What the call answers, and every promise of specs/Theorems.antt, proved. Assumes nothing.
 use Prim.Native.Nat.{ℕ, _+_, _≤_, _<_}
-use mathlib.Core.Path.{_≡_, refl, sym, ap, _∙_}
+use mathlib.Core.Path.{_≡_, sym, ap, _∙_}
 use mathlib.Core.Logic.{_⊎_, inl, inr}
 use mathlib.Core.List.{List, _++_}
 use native.Mathlib.Omega.{arith}
@@ -13,9 +13,9 @@ use Rattle.rules.specs.declared.Filling.the-variants.{Fills, Refused}
 use Rattle.rules.proofs.Named.{listed-length, listed-at, new-tail}
 use Rattle.rules.proofs.Sum.{le-or-lt}
 use Rattle.theory.specs.Plan.{own, least}
-use Rattle.plan_curve.specs.Curve.{leastCurve, curveOf, DrawsCurve}
+use Rattle.plan_curve.specs.Curve.{leastCurve, curveOf}
 use Rattle.plan_curve.specs.Theorems.{CurveIs, CurveBy, curve-length, curve-done, CurveAnswers, CurveLeaves, CurveOne, Proved}
-use Rattle.plan_curve.proofs.Worst.{worst-start}
+use Rattle.plan_curve.proofs.Worst.{worst-behind-run, worst-start}
 
 pub short : (n room : ℕ) → room < n + 1 → Refused Output ≡ curveOf n room
 unfolding curveOf
@@ -57,4 +57,4 @@ curve-leaves plan p n m list o (a, b) = go (curveOf n (length list)) (curve-answ
         )
 
 pub proved : Proved
-proved = record { worst-start = worst-start; curve-is = curve-is; curve-answers = curve-answers; curve-leaves = curve-leaves; curve-one = curve-one }
+proved = record { worst-behind-run = worst-behind-run; worst-start = worst-start; curve-is = curve-is; curve-answers = curve-answers; curve-leaves = curve-leaves; curve-one = curve-one }

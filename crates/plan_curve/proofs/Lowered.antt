@@ -2,7 +2,7 @@
 use Prim.Native.Nat.{ℕ, zero, suc, _+_, _-_, _%_, _≤_, _<_, min}
 use mathlib.Core.Path.{_≡_, refl, sym, ap, ap₂, _∙_}
 use mathlib.Core.Logic.{_⊎_, inl, inr}
-use mathlib.Core.Bool.{Bool, true, false, _&&_, not}
+use mathlib.Core.Bool.{Bool, true, false}
 use mathlib.Core.List.{List}
 use native.Mathlib.Nat.{eq-or-lt-of-le, le-of-suc-le-suc, mod-eq-of-lt, mod-add-mod, mod-self}
 use native.Mathlib.Numerals.{add-one}
@@ -18,14 +18,14 @@ use Rattle.rules.proofs.Least.{smallest-zero}
 use Rattle.theory.specs.Plan.{owner, Rule, own, service, held, least}
 use Rattle.theory.proofs.Plan.{least-is-least, least-attained, least-bounds}
 use Rattle.plan_service.proofs.Turns.{empty-idle, empty-other}
-use Rattle.plan_curve.specs.Curve.{behindRun}
+use Rattle.plan_curve.specs.Curve.{startTried}
 use Rattle.plan_curve.specs.Contracts.{most, lowerFrom, LoweredOn, lowerAt}
 use Rattle.plan_curve.proofs.Worst.{worst-start}
 
 -- number t after the starts before s
 unfoldable pub lowered : Rule → List ℕ → ℕ → ℕ → ℕ → ℕ
 lowered rule plan p zero t = most (length plan) p t
-lowered rule plan p (suc s) t = pick (behindRun rule plan p s) (min (lowered rule plan p s t) (held rule plan p t s)) (lowered rule plan p s t)
+lowered rule plan p (suc s) t = pick (startTried rule plan p s) (min (lowered rule plan p s t) (held rule plan p t s)) (lowered rule plan p s t)
 
 pick-le : (b : Bool) (x y : ℕ) → pick b (min x y) x ≤ x
 pick-le true x y = omega arith
@@ -33,14 +33,14 @@ pick-le false x y = omega arith
 
 module _ (rule : Rule) (plan : List ℕ) (p t : ℕ) where
   -- no more than what a start that counts holds
-  lowered-le : (n c : ℕ) → c < n → behindRun rule plan p c ≡ true → lowered rule plan p n t ≤ held rule plan p t c
+  lowered-le : (n c : ℕ) → c < n → startTried rule plan p c ≡ true → lowered rule plan p n t ≤ held rule plan p t c
   unfolding lowered
   lowered-le zero c l b = absurd (omega arith)
   lowered-le (suc n) c l b = go (lowered-le n c) (eq-or-lt-of-le (le-of-suc-le-suc l))
     where
-      go : (c < n → behindRun rule plan p c ≡ true → lowered rule plan p n t ≤ held rule plan p t c) → (c ≡ n) ⊎ (c < n) → pick (behindRun rule plan p n) (min (lowered rule plan p n t) (held rule plan p t n)) (lowered rule plan p n t) ≤ held rule plan p t c
+      go : (c < n → startTried rule plan p c ≡ true → lowered rule plan p n t ≤ held rule plan p t c) → (c ≡ n) ⊎ (c < n) → pick (startTried rule plan p n) (min (lowered rule plan p n t) (held rule plan p t n)) (lowered rule plan p n t) ≤ held rule plan p t c
       go ih (inl e) = rw (← e, b) (omega arith)
-      go ih (inr m) = omega (arith, ih m b, pick-le (behindRun rule plan p n) (lowered rule plan p n t) (held rule plan p t n))
+      go ih (inr m) = omega (arith, ih m b, pick-le (startTried rule plan p n) (lowered rule plan p n t) (held rule plan p t n))
 
   most-is : 0 < length plan → most (length plan) p t ≡ t
   unfolding most
@@ -50,7 +50,7 @@ module _ (rule : Rule) (plan : List ℕ) (p t : ℕ) where
   lowered-ge : (n : ℕ) → 0 < length plan → least rule plan p t ≤ lowered rule plan p n t
   unfolding lowered
   lowered-ge zero h = rw (most-is h) (least-bounds rule plan p t)
-  lowered-ge (suc n) h = or (behindRun rule plan p n) (lowered-ge n h)
+  lowered-ge (suc n) h = or (startTried rule plan p n) (lowered-ge n h)
     where
       or : (b : Bool) → least rule plan p t ≤ lowered rule plan p n t → least rule plan p t ≤ pick b (min (lowered rule plan p n t) (held rule plan p t n)) (lowered rule plan p n t)
       or true i = omega (arith, least-is-least rule plan p t n h)
@@ -69,7 +69,7 @@ none plan p t e (yes z) = rw (e, eq-eqb (length plan) 0 e, eq-eqb p 0 z, smalles
 none plan p t e (no n) = rw (e, eq-eqb (length plan) 0 e, ne-eqb p 0 n, smallest-zero) (empty-other plan p 0 t e n)
 
 -- after all starts the numbers are least service
-pub lowered-all : (plan : List ℕ) (p t : ℕ) → lowered own plan p (length plan) t ≡ least own plan p t
+lowered-all : (plan : List ℕ) (p t : ℕ) → lowered own plan p (length plan) t ≡ least own plan p t
 lowered-all plan p t = go (ℕ-discrete (length plan) 0)
   where
     go : Dec (length plan ≡ 0) → lowered own plan p (length plan) t ≡ least own plan p t
@@ -78,9 +78,9 @@ lowered-all plan p t = go (ℕ-discrete (length plan) 0)
 
 -- ---- the laws that the code's proofs cite
 
-pub behind-first : (plan : List ℕ) (p s : ℕ) → s ≡ 0 → true ≡ behindRun own plan p s
-unfolding behindRun
-behind-first plan p s e = rw (eq-eqb s 0 e)
+pub tried-first : (plan : List ℕ) (p s : ℕ) → s ≡ 0 → true ≡ startTried own plan p s
+unfolding startTried
+tried-first plan p s e = rw (eq-eqb s 0 e)
 
 module _ (plan : List ℕ) (p s : ℕ) (l : s < length plan) (n : ¬ (s ≡ 0)) where
   at-tick : service own plan s ≡ getD plan s 0
@@ -91,17 +91,17 @@ module _ (plan : List ℕ) (p s : ℕ) (l : s < length plan) (n : ¬ (s ≡ 0)) 
   unfolding owner
   tick-before = ap (λ (x : ℕ). getD plan x 0) (mod-eq-of-lt (omega arith))
 
-  pub within-run : getD plan s 0 ≡ p → false ≡ behindRun own plan p s
-  unfolding behindRun
+  pub within-run : getD plan s 0 ≡ p → false ≡ startTried own plan p s
+  unfolding startTried
   within-run e = rw (ne-eqb s 0 n, at-tick, eq-eqb (getD plan s 0) p e)
 
-  pub behind-run-is : ¬ (getD plan s 0 ≡ p) → eqb (getD plan (s - 1) 0) p ≡ behindRun own plan p s
-  unfolding behindRun
-  behind-run-is h = rw (ne-eqb s 0 n, at-tick, ne-eqb (getD plan s 0) p h, tick-before)
+  pub tried-behind : ¬ (getD plan s 0 ≡ p) → eqb (getD plan (s - 1) 0) p ≡ startTried own plan p s
+  unfolding startTried
+  tried-behind h = rw (ne-eqb s 0 n, at-tick, ne-eqb (getD plan s 0) p h, tick-before)
 
 module _ (rule : Rule) (plan : List ℕ) (p s : ℕ) where
   -- one number more
-  pub lower-turn : (t h v : ℕ) (before cur after : List ℕ) → AsNamed (lowerFrom rule plan p s before) t before cur → t < length before → h ≡ held rule plan p t s
+  lower-turn : (t h v : ℕ) (before cur after : List ℕ) → AsNamed (lowerFrom rule plan p s before) t before cur → t < length before → h ≡ held rule plan p t s
       → v ≡ min (getD cur t 0) h → after ≡ set cur t v → AsNamed (lowerFrom rule plan p s before) (t + 1) before after
   unfolding lowerFrom
   lower-turn t h v before cur after w l eh ev ea =
@@ -118,11 +118,11 @@ module _ (rule : Rule) (plan : List ℕ) (p s : ℕ) where
   pub row-all : (b e t : ℕ) (from to : List ℕ) → t ≤ e → e ≤ t → LoweredOn rule plan p s b t from to → LoweredOn rule plan p s b e from to
   row-all b e t from to l g w = let z : t ≡ e = omega arith in rw z at w
 
-  pub start-counts : (n : ℕ) (before after : List ℕ) → behindRun rule plan p s ≡ true → AsNamed (lowerFrom rule plan p s before) n before after → AsNamed (lowerAt rule plan p s before) n before after
+  pub start-counts : (n : ℕ) (before after : List ℕ) → startTried rule plan p s ≡ true → AsNamed (lowerFrom rule plan p s before) n before after → AsNamed (lowerAt rule plan p s before) n before after
   unfolding lowerAt
   start-counts n before after e = named-as _ _ n before after (λ t l. rw e)
 
-  pub start-left : (n : ℕ) (l : List ℕ) → behindRun rule plan p s ≡ false → AsNamed (lowerAt rule plan p s l) n l l
+  pub start-left : (n : ℕ) (l : List ℕ) → startTried rule plan p s ≡ false → AsNamed (lowerAt rule plan p s l) n l l
   unfolding lowerAt
   start-left n l e = record { as-long = refl; done = λ t h. rw e; rest = λ t h. refl }
 

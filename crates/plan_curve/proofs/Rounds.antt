@@ -10,7 +10,7 @@ use native.Mathlib.Omega.{arith}
 use lib.Dec.{eqb}
 use lib.ListN.{length, getD, take}
 use lib.Seq.{take-all, length-take-le, getD-take}
-use Rattle.rules.specs.Walk.{only, count}
+use Rattle.rules.specs.Walk.{only}
 use Rattle.rules.proofs.Sum.{le-or-lt, count-ext}
 use Rattle.theory.specs.Plan.{owner, own, owned, held, least}
 use Rattle.theory.proofs.Plan.{least-is-least, least-attained}

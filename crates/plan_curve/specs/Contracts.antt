@@ -8,7 +8,7 @@ use lib.ListN.{length, getD}
 use Rattle.rules.specs.Walk.{pick}
 use Rattle.rules.specs.Contracts.{AsNamed}
 use Rattle.theory.specs.Plan.{Rule, service, held}
-use Rattle.plan_curve.specs.Curve.{behindRun}
+use Rattle.plan_curve.specs.Curve.{startTried}
 
 -- what t ticks of a plan with f can hold of p's at most; of an empty one every tick is idle
 unfoldable pub most : ℕ → ℕ → ℕ → ℕ
@@ -24,7 +24,7 @@ pub record LoweredOn (rule : Rule) (plan : List ℕ) (p s b e : ℕ) (from to : 
 
 -- number t lowered, where s is a start that counts
 unfoldable pub lowerAt : Rule → List ℕ → ℕ → ℕ → List ℕ → ℕ → ℕ
-lowerAt rule plan p s list t = pick (behindRun rule plan p s) (lowerFrom rule plan p s list t) (getD list t 0)
+lowerAt rule plan p s list t = pick (startTried rule plan p s) (lowerFrom rule plan p s list t) (getD list t 0)
 
 -- n numbers go no further than a frame of f and one tick, where there is a frame
 abbrev pub Framed : ℕ → ℕ → Type 0

@@ -24,6 +24,6 @@ curveOf n room = pick (ltb room (n + 1)) (Refused Output) (Fills (n + 1))
 abbrev pub DrawsCurve : List ℕ → ℕ → ℕ → List ℕ → List ℕ → Filling → Type 0
 DrawsCurve plan p n list o r = (r ≡ curveOf n (length list)) × (o ≡ leftBy r (leastCurve own plan p n) list)
 
--- tick s stands right behind one of p's runs; the frame's first tick is let in whatever is before it
-unfoldable pub behindRun : Rule → List ℕ → ℕ → ℕ → Bool
-behindRun rule plan p s = eqb s 0 || (not (eqb (service rule plan s) p) && eqb (service rule plan (s - 1)) p)
+-- the starts that are tried: tick s stands right behind one of p's runs, or is the frame's first
+unfoldable pub startTried : Rule → List ℕ → ℕ → ℕ → Bool
+startTried rule plan p s = eqb s 0 || (not (eqb (service rule plan s) p) && eqb (service rule plan (s - 1)) p)

@@ -1,5 +1,5 @@
 -- What is proved of the curve beyond its contract. Assumes nothing.
-use Prim.Native.Nat.{ℕ, _+_, _≤_, _<_}
+use Prim.Native.Nat.{ℕ, suc, _+_, _≤_, _<_}
 use mathlib.Core.Path.{_≡_}
 use mathlib.Core.Bool.{true}
 use mathlib.Core.List.{List}
@@ -7,15 +7,22 @@ use lib.ListN.{length, getD}
 use Rattle.rules.specs.declared.Refusal.the-variants.{Output}
 use Rattle.rules.specs.declared.Filling.{Filling}
 use Rattle.rules.specs.declared.Filling.the-variants.{Fills, Refused}
-use Rattle.theory.specs.Plan.{Rule, own, held, least}
-use Rattle.plan_curve.specs.Curve.{leastCurve, curveOf, DrawsCurve, behindRun}
+use Rattle.theory.specs.Plan.{Rule, own, service, held, least}
+use Rattle.plan_curve.specs.Curve.{leastCurve, curveOf, DrawsCurve, startTried}
 
--- "a worst stretch can be taken to start right behind one of the partition's runs": any stretch holds at least as much as one that starts there, or at
--- the frame's first tick (a partition that has every tick, or none, has no start behind a run)
+-- "a worst stretch can be taken to start right behind one of the partition's runs": of a partition that has a tick, and not every tick, any stretch holds
+-- at least as much as one that starts behind a tick of its own, at another's
+abbrev pub WorstBehindRun : Type 0
+WorstBehindRun =
+    (rule : Rule) (plan : List ℕ) (p t s a b : ℕ) → 0 < length plan → service rule plan a ≡ p → ¬ (service rule plan b ≡ p)
+    → (c : ℕ) × (service rule plan c ≡ p) × ¬ (service rule plan (suc c) ≡ p) × (held rule plan p t (suc c) ≤ held rule plan p t s)
+
+-- the same of any partition, of starts in the frame: one of those that are tried holds no more. The frame's first tick is one of them, for a partition may have
+-- every tick, or none
 abbrev pub WorstStart : Type 0
 WorstStart =
     (rule : Rule) (plan : List ℕ) (p t s : ℕ) → s < length plan
-    → (c : ℕ) × (c < length plan) × (behindRun rule plan p c ≡ true) × (held rule plan p t c ≤ held rule plan p t s)
+    → (c : ℕ) × (c < length plan) × (startTried rule plan p c ≡ true) × (held rule plan p t c ≤ held rule plan p t s)
 
 -- "each number is `least`": n + 1 numbers
 abbrev pub CurveIs : Type 0
@@ -46,6 +53,7 @@ CurveOne =
     → (r ≡ r′) × (o ≡ o′)
 
 pub record Proved : Type 0 where
+  pub worst-behind-run : WorstBehindRun
   pub worst-start : WorstStart
   pub curve-is : CurveIs
   pub curve-answers : CurveAnswers

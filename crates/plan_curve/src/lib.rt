@@ -1,12 +1,13 @@
 // The curve of least service: least(0) .. least(n) of one partition, worked out together. A worst stretch can be taken to
-// start right behind one of the partition's runs, so each of these starts is walked once, for all lengths.
+// start at the frame's first tick or right behind one of the partition's runs, so each of these starts is walked once, for
+// all lengths.
 ghost use mathlib.Core.Path.{_≡_};
 ghost use mathlib.Core.Bool.{true};
 ghost use Prim.Native.Nat.{_+_, _-_, _%_, _^_, _≤_, _<_};
 ghost use lib.ListN.{length};
 ghost use Rattle.rules.specs.Contracts.{AsNamed};
 ghost use Rattle.theory.specs.Plan.{own, held, least};
-ghost use Rattle.plan_curve.specs.Curve.{curveOf, DrawsCurve, behindRun};
+ghost use Rattle.plan_curve.specs.Curve.{DrawsCurve, startTried};
 ghost use Rattle.plan_curve.specs.Contracts.{most, lowerAt, lowerFrom, LoweredOn, Framed, Repeats};
 use plan_service::own_at;
 use rules::Filling;
@@ -15,10 +16,12 @@ use rules::numbers::smaller;
 use rules::numbers::wide;
 use rules::numbers::wide32;
 
-// Whether tick s of the frame is its first, or stands right behind one of p's runs.
-fn behind_run(plan: &[u16], p: usize, s: usize) -> bool
+const FEW: usize = 64; // numbers; a frame within the limits has fewer divisors
+
+// Whether stretches from tick s on are tried: it is the frame's first tick, or stands right behind one of p's runs.
+fn start_tried(plan: &[u16], p: usize, s: usize) -> bool
     requires { ⌜ s < length (now plan) ⌝ }
-    ensures { λ r. ⌜ r ≡ behindRun own (now (plan .entry)) p s ⌝ }
+    ensures { λ r. ⌜ r ≡ startTried own (now (plan .entry)) p s ⌝ }
 {
     if s == 0 {
         return true;
@@ -98,7 +101,7 @@ fn lower_at(plan: &[u16], p: usize, s: usize, list: &mut [u32], n: usize)
     ensures { λ _. ⌜ AsNamed (lowerAt own (now (plan .entry)) p s (now (list .entry))) n
         (now (list .entry)) (now (list .exit)) ⌝ }
 {
-    if behind_run(plan, p, s) {
+    if start_tried(plan, p, s) {
         lower_from(plan, p, s, list, n);
     }
 }
@@ -143,7 +146,7 @@ fn draw_frames(plan: &[u16], p: usize, list: &mut [u32], n: usize)
     }
 }
 
-// Whether p's ticks repeat after m ticks, as often as these go into the frame.
+// Whether p's ticks repeat after m ticks, as often as these go into the frame. Only a yes promises something.
 fn repeats(plan: &[u16], p: usize, m: usize) -> bool
     requires { ⌜ (0 < m) × (m ≤ length (now plan)) ⌝ }
     ensures { λ r. ⌜ (r ≡ true → Repeats own (now (plan .entry)) p m) ⌝ }
@@ -162,7 +165,7 @@ fn repeats(plan: &[u16], p: usize, m: usize) -> bool
     true
 }
 
-// The fewest ticks after which p's repeat: the frame itself at most.
+// The fewest ticks after which p's repeat, the frame itself at most; promised is that they do.
 fn shortest(plan: &[u16], p: usize) -> usize
     ensures { λ r. ⌜ (r ≤ length (now (plan .entry))) × Repeats own (now (plan .entry)) p r ⌝ }
 {
@@ -178,13 +181,23 @@ fn shortest(plan: &[u16], p: usize) -> usize
     f
 }
 
-// least(0) .. least(n - 1), into the first n numbers of the list: of as many ticks as p's repeat after, for that plan has
+// The ticks to take for the frame: a few numbers are drawn sooner than a shorter frame is found.
+fn frame_for(plan: &[u16], p: usize, n: usize) -> usize
+    ensures { λ r. ⌜ (r ≤ length (now (plan .entry))) × Repeats own (now (plan .entry)) p r ⌝ }
+{
+    if n < FEW {
+        return plan.len();
+    }
+    shortest(plan, p)
+}
+
+// least(0) .. least(n - 1), into the first n numbers of the list. p's ticks repeat after m, so the plan's first m ticks have
 // the same curve.
 pub fn draw(plan: &[u16], p: usize, list: &mut [u32], n: usize)
     requires { ⌜ (n ≤ 2 ^ 32) × (n ≤ length (now list)) ⌝ }
     ensures { λ _. ⌜ AsNamed (least own (now (plan .entry)) p) n (now (list .entry)) (now (list .exit)) ⌝ }
 {
-    let m = shortest(plan, p);
+    let m = frame_for(plan, p, n);
     draw_frames(&plan[..m], p, list, n);
 }
 

@@ -63,7 +63,7 @@ pub named-self : (o : ℕ → ℕ) (h : ℕ) (before after : List ℕ) → AsNam
 named-self o h before after w = record { as-long = refl; done = w .done; rest = λ t l. refl }
 
 -- new numbers in front leave what stands behind them
-pub behind-new : (new old : List ℕ) (n t : ℕ) → length new ≡ n → n ≤ t → getD (new ++ drop n old) t 0 ≡ getD old t 0
+behind-new : (new old : List ℕ) (n t : ℕ) → length new ≡ n → n ≤ t → getD (new ++ drop n old) t 0 ≡ getD old t 0
 behind-new new old n t m l =
     let e : t ≡ length new + (t - n) = omega arith in
     let s : n + (t - n) ≡ t = omega arith in

@@ -40,7 +40,7 @@ round-due x y h e = go (le-or-lt (roundUp (suc x) y) (roundUp x y))
         absurd (omega (arith, round-enough (suc x) y h))
     go (inr l) = omega (arith, upto)
 
-pub round-same : (x y : ℕ) → 0 < y → ¬ (roundUp x y * y ≡ x) → roundUp (suc x) y ≡ roundUp x y
+round-same : (x y : ℕ) → 0 < y → ¬ (roundUp x y * y ≡ x) → roundUp (suc x) y ≡ roundUp x y
 round-same x y h n = go (le-or-lt (roundUp x y * y) x)
   where
     go : (roundUp x y * y ≤ x) ⊎ (x < roundUp x y * y) → roundUp (suc x) y ≡ roundUp x y

@@ -1,5 +1,5 @@
 -- What is put at the tasks' places, task by task and partition by partition. Assumes nothing.
-use Prim.Native.Nat.{ℕ, suc, _+_, _≤_, _<_}
+use Prim.Native.Nat.{ℕ, _+_, _≤_, _<_}
 use mathlib.Core.Path.{_≡_, refl, sym, ap, _∙_}
 use mathlib.Core.Logic.{_⊎_, inl, inr}
 use mathlib.Core.Bool.{Bool, true, false}
@@ -18,8 +18,7 @@ use Rattle.rules.proofs.Least.{largest-zero, largest-le, largest-is}
 use Rattle.rules.proofs.Sum.{le-or-lt, only-eq, only-ne, only-self}
 use Rattle.rules.proofs.Tests.{good-times}
 use Rattle.theory.specs.Plan.{own, least}
-use Rattle.theory.specs.Task.{taskPoint, taskTick}
-use Rattle.task_demand.specs.Contracts.{allAsked, InOrder, Judgeable, Drawn}
+use Rattle.task_demand.specs.Contracts.{allAsked, Judgeable, Drawn}
 use Rattle.task_demand.proofs.Lists.{in-order}
 use Rattle.task_all.specs.Contracts.{deadlineIn, marked, judgedIn, JudgedIn, JudgeableAll}
 

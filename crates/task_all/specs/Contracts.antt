@@ -17,10 +17,11 @@ use Rattle.task_plain.specs.Contracts.{tickFits}
 unfoldable pub deadlineIn : List ℕ → ℕ → ℕ → ℕ
 deadlineIn ts p j = only (eqb (partition ts j) p) (deadline ts j)
 
--- the point and the tick of task j by the lists
+-- the point of task j by the lists
 abbrev pub pointBy : List ℕ → List ℕ → List ℕ → ℕ → ℕ
 pointBy curve asks ts j = first (pointFits curve asks (budget ts j) (deadline ts j)) (deadline ts j + 1)
 
+-- and its tick
 abbrev pub tickBy : List ℕ → List ℕ → List ℕ → ℕ → ℕ
 tickBy curve asks ts j = first (tickFits curve asks (budget ts j)) (deadline ts j + 1)
 

@@ -69,7 +69,7 @@ fn judge_task(
 }
 
 // All of p's tasks, with lists that are lent: the asks are zeros.
-fn judge_partition(
+fn judge_with(
     plan: &[u16],
     table: &[u16],
     p: u16,
@@ -98,7 +98,8 @@ fn judge_partition(
     }
 }
 
-fn judge_next(plan: &[u16], table: &[u16], p: u16, points: &mut [usize], ticks: &mut [usize])
+// The same, with lists of its own.
+fn judge_partition(plan: &[u16], table: &[u16], p: u16, points: &mut [usize], ticks: &mut [usize])
     requires { ⌜ JudgeableAll (now table)
         × (tasks (now table) ≤ length (now points)) × (tasks (now table) ≤ length (now ticks)) ⌝ }
     ensures { λ _. ⌜ JudgedIn (now (plan .entry)) (now (table .entry)) p
@@ -106,7 +107,7 @@ fn judge_next(plan: &[u16], table: &[u16], p: u16, points: &mut [usize], ticks: 
 {
     let mut curve = [0u32; TICKS];
     let mut asks = [0u32; TICKS];
-    judge_partition(plan, table, p, &mut curve, &mut asks, points, ticks);
+    judge_with(plan, table, p, &mut curve, &mut asks, points, ticks);
 }
 
 // The point and the tick of every task, each at the task's place, one past the deadline where the task fails.
@@ -121,6 +122,6 @@ pub fn judge_all(plan: &[u16], table: &[u16], parts: u16, points: &mut [usize], 
     let mut p = 0;
     while p < parts {
         p += 1;
-        judge_next(plan, table, p, points, ticks);
+        judge_partition(plan, table, p, points, ticks);
     }
 }

@@ -11,13 +11,13 @@ use lib.Dec.{eqb}
 use lib.ListN.{length, getD, set, replicate, length-set}
 use lib.Seq.{getD-set-same, getD-set-other}
 use Rattle.rules.specs.Limits.{longest, mostTasks}
-use Rattle.rules.specs.Walk.{only, sum, roundUp}
+use Rattle.rules.specs.Walk.{sum, roundUp}
 use Rattle.rules.specs.Contracts.{AsNamed}
 use Rattle.rules.specs.Table.{partition, budget, period}
 use Rattle.rules.proofs.Round.{round-enough, round-least}
 use Rattle.rules.proofs.Sum.{le-or-lt, only-eq, only-ne, only-self, sum-zero, sum-more}
 use Rattle.rules.proofs.Named.{named-as, named-then}
-use Rattle.task_demand.specs.Contracts.{asksOf, allAsked, withTask, withAsked, SmallFrom, Small, Added, Zeros, InOrder}
+use Rattle.task_demand.specs.Contracts.{asksOf, allAsked, withTask, withAsked, Small, Added, Zeros, InOrder}
 
 -- ---- a row of numbers
 
@@ -124,6 +124,9 @@ module _ (ts : List ℕ) (p j : ℕ) where
   unfolding withAsked allAsked
   asked-more n before cur after w v = named-then _ _ n before cur after w (named-as _ _ n cur after (λ t l. rw (sum-more (asksOf ts p t) j, w .done t l)) v)
 
+pub asked-of : (ts : List ℕ) (p q k n : ℕ) (before after : List ℕ) → p ≡ q → AsNamed (allAsked ts p k) n before after → AsNamed (allAsked ts q k) n before after
+asked-of ts p q k n before after e w = rw e at w
+
 pub asked-none : (ts : List ℕ) (p n : ℕ) (l : List ℕ) → Zeros l → AsNamed (allAsked ts p 0) n l l
 unfolding allAsked
 asked-none ts p n l z = record { as-long = refl; done = λ t g. z t ∙ sym (sum-zero (asksOf ts p t)); rest = λ t g. refl }
@@ -151,7 +154,7 @@ asks-small ts p t j o l =
       o .short,
     )
 
-pub all-small : (ts : List ℕ) (p t k : ℕ) → ((j : ℕ) → j < k → InOrder ts j) → t ≤ longest → allAsked ts p k t ≤ k * (2 * longest)
+all-small : (ts : List ℕ) (p t k : ℕ) → ((j : ℕ) → j < k → InOrder ts j) → t ≤ longest → allAsked ts p k t ≤ k * (2 * longest)
 unfolding allAsked sum
 all-small ts p t zero o l = omega arith
 all-small ts p t (suc k) o l = omega (arith, all-small ts p t k (λ j h. o j (omega arith)) l, asks-small ts p t k (o k (omega arith)) l)

@@ -7,7 +7,7 @@ use lib.Dec.{eqb, leb}
 use lib.ListN.{length, getD}
 use Rattle.rules.specs.Limits.{longest, mostTasks}
 use Rattle.rules.specs.Walk.{only, sum, roundUp}
-use Rattle.rules.specs.Table.{partition, budget, deadline, period, tasks}
+use Rattle.rules.specs.Table.{partition, budget, deadline, period}
 use Rattle.theory.specs.Plan.{own}
 use Rattle.theory.specs.Contracts.{leastFor}
 
@@ -27,10 +27,11 @@ withTask c y list t = getD list t 0 + c * roundUp t y
 unfoldable pub withAsked : List ℕ → ℕ → ℕ → List ℕ → ℕ → ℕ
 withAsked ts p j list t = getD list t 0 + asksOf ts p t j
 
--- numbers so small that one task more fits into 32 bits
+-- numbers so small, from place b on, that one task more fits into 32 bits
 pub record SmallFrom (b : ℕ) (list : List ℕ) : Type 0 where
   pub small : (t : ℕ) → b ≤ t → getD list t 0 < 2 ^ 31
 
+-- all of them
 abbrev pub Small : List ℕ → Type 0
 Small list = SmallFrom 0 list
 
@@ -41,6 +42,7 @@ pub record Added (x b e : ℕ) (from to : List ℕ) : Type 0 where
   pub before : (t : ℕ) → t < b → getD to t 0 ≡ getD from t 0
   pub behind : (t : ℕ) → e ≤ t → getD to t 0 ≡ getD from t 0
 
+-- a list of zeros, however far one looks
 abbrev pub Zeros : List ℕ → Type 0
 Zeros list = (t : ℕ) → getD list t 0 ≡ 0
 

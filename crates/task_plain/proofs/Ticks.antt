@@ -1,6 +1,6 @@
 -- Every tick from 1 on is tried; by the lists of a task that gives what the rules say. Assumes nothing.
-use Prim.Native.Nat.{ℕ, suc, _+_, _≤_, _<_}
-use mathlib.Core.Path.{_≡_, sym, ap, _∙_}
+use Prim.Native.Nat.{ℕ, suc, _+_, _≤_}
+use mathlib.Core.Path.{_≡_, ap}
 use mathlib.Core.Bool.{Bool, false, _&&_}
 use mathlib.Core.List.{List}
 use native.Mathlib.Numerals.{add-one}
@@ -12,7 +12,7 @@ use Rattle.rules.specs.Table.{budget, deadline}
 use Rattle.rules.proofs.First.{first-zero, first-more, first-ext}
 use Rattle.theory.specs.Plan.{own}
 use Rattle.theory.specs.Load.{holds}
-use Rattle.theory.specs.Task.{taskLoad, taskTick}
+use Rattle.theory.specs.Task.{taskTick}
 use Rattle.theory.specs.Contracts.{leastFor}
 use Rattle.theory.proofs.Tasks.{task-earliest}
 use Rattle.task_demand.specs.Contracts.{fitsAt, Drawn}

@@ -24,6 +24,7 @@ fn point_at(asks: &[u32], d: usize, t: usize) -> bool
     asks[t] < asks[t + 1]
 }
 
+// Whether t is a scheduling point, and holds; few ticks hold, so that is looked at first.
 fn point_fits(curve: &[u32], asks: &[u32], c: u16, d: usize, t: usize) -> bool
     requires { ⌜ (1 ≤ t) × (t ≤ d) × (d < length (now curve)) × (d < length (now asks)) ⌝ }
     ensures { λ r. ⌜ r ≡ pointFits (now (curve .entry)) (now (asks .entry)) c d t ⌝ }

@@ -1,4 +1,4 @@
-//! The curve of least service, up to the frame's length. In the longest frame it stands beside the
+//! The curve of least service, up to the frame's length but where n is named. In the longest frame it stands beside the
 //! same method and, where the name ends in `least`, beside the library's least service once for each
 //! t; in shorter ones, where that can be waited for, beside the second program's once for each t.
 
@@ -11,7 +11,7 @@ use crate::timing::line;
 
 /// So many runs of partition 1 with as many gaps, their lengths by lot. With half as many runs as
 /// ticks there would be no choice left: the plan would repeat every second tick.
-fn scattered(frame: usize, runs: usize) -> Vec<u16> {
+pub fn scattered(frame: usize, runs: usize) -> Vec<u16> {
     let mut rng = Rng::new(1);
     let mut lengths = vec![1; 2 * runs];
     for _ in 2 * runs..frame {
@@ -35,22 +35,21 @@ fn each(list: &mut [u32], least: impl Fn(u32) -> u64) -> Answer {
 }
 
 /// The library's curve beside another way to it.
-fn beside(name: &str, ticks: &[u16], mut other: impl FnMut(&mut [u32]) -> Answer) {
-    let [mut ours, mut theirs] = [vec![0; ticks.len() + 1], vec![0; ticks.len() + 1]];
-    let n = ticks.len() as u32;
+fn beside(name: &str, ticks: &[u16], n: usize, mut other: impl FnMut(&mut [u32]) -> Answer) {
+    let [mut ours, mut theirs] = [vec![0; n + 1], vec![0; n + 1]];
     line(
         name,
-        || library::curve(ticks, 1, n, &mut ours),
+        || library::curve(ticks, 1, n as u32, &mut ours),
         || other(&mut theirs),
     );
     assert_eq!(ours, theirs, "{name}");
 }
 
-fn lines(name: &str, ticks: &[u16]) {
-    beside(&format!("curve {name}, same"), ticks, |to| {
+fn lines(name: &str, ticks: &[u16], n: usize) {
+    beside(&format!("curve {name}, same"), ticks, n, |to| {
         steps::curve(ticks, 1, to)
     });
-    beside(&format!("curve {name}, least"), ticks, |to| {
+    beside(&format!("curve {name}, least"), ticks, n, |to| {
         each(to, |t| library::least(ticks, 1, t))
     });
 }
@@ -59,10 +58,22 @@ pub fn run() {
     for frame in [64, 256, 1024] {
         let ticks = scattered(frame, frame / 32);
         let name = format!("curve F {frame}, runs {}", frame / 32);
-        beside(&name, &ticks, |to| each(to, |t| plan::least(&ticks, 1, t)));
+        beside(&name, &ticks, frame, |to| {
+            each(to, |t| plan::least(&ticks, 1, t))
+        });
     }
     for runs in [1, 128, 2047] {
-        lines(&format!("F 4096, runs {runs}"), &scattered(4096, runs));
+        lines(
+            &format!("F 4096, runs {runs}"),
+            &scattered(4096, runs),
+            4096,
+        );
     }
-    lines("F 4096, m 4", &[1, 1, 0, 1].repeat(1024));
+    lines("F 4096, m 4", &[1, 1, 0, 1].repeat(1024), 4096);
+    // Each divisor of the frame is found wrong at the last tick only, if one is tried at all.
+    let mut all_but_one = vec![1; 3960];
+    all_but_one[3959] = 0;
+    for n in [1, 62, 63] {
+        lines(&format!("F 3960, n {n}"), &all_but_one, n);
+    }
 }

@@ -1,6 +1,7 @@
 //! How the time of a listing grows, as a table: the largest file, and files that differ from it in the
 //! frame (and with it in the deadlines and the number of runs), in the number of tasks, in the
-//! deadlines, or in the number of runs.
+//! deadlines, or in the number of runs. In the small ones reading the file and writing the text take
+//! most, which the library and the Rust beside it do each in its own way.
 
 use crate::files::{Shape, FAILING};
 use crate::list::listed;
@@ -33,7 +34,7 @@ pub fn run() {
             ..FAILING
         });
     }
-    for runs in [16, 256] {
+    for runs in [16, 256, 4096] {
         row(Shape { runs, ..FAILING });
     }
 }

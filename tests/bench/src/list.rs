@@ -100,6 +100,14 @@ pub fn run() {
         0,
     );
     largest("largest, 2048 runs", FAILING, 0);
+    largest(
+        "largest, 4096 runs",
+        Shape {
+            runs: 4096,
+            ..FAILING
+        },
+        0,
+    );
     largest("largest, 16 runs, late", Shape { runs: 16, ..LATE }, 112);
     largest("largest, 2048 runs, late", LATE, 112);
 }

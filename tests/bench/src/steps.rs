@@ -8,6 +8,9 @@ use second::{file, ticks, Answer};
 use crate::page;
 use crate::walk;
 
+/// Fewer numbers are drawn sooner than a shorter frame is found.
+const FEW: usize = 64;
+
 /// The shortest part of the plan after which the ticks of p repeat.
 pub fn repeated(plan: &[u16], p: u16) -> &[u16] {
     let own = |owner: &u16| *owner == p;
@@ -39,7 +42,11 @@ fn lower(plan: &[u16], p: u16, start: usize, list: &mut [u32]) {
 /// The least service of as many ticks as each place of the list says; behind a frame and one tick a frame
 /// more holds as much more as a frame holds.
 pub fn draw(plan: &[u16], p: u16, list: &mut [u32]) {
-    let plan = repeated(plan, p);
+    let plan = if list.len() < FEW {
+        plan
+    } else {
+        repeated(plan, p)
+    };
     let within = list.len().min(plan.len() + 1);
     let frame = &mut list[..within];
     for (least, t) in frame.iter_mut().zip(0..) {

@@ -1,9 +1,11 @@
 //! The verdict, by both engines: a failing task of deadline 4,096, so that every scheduling point, and
-//! by the plain engine every tick, is tried; of the last one every tick is a point. The lines that
+//! by the plain engine every tick, is tried; of the one named `all` every tick is a point. Where runs
+//! are named, the partition has so many that don't repeat. The lines that
 //! end in `points` have the library's other engine in the second program's place.
 
 use second::verdict;
 
+use crate::curve::scattered;
 use crate::library;
 use crate::steps;
 use crate::timing::line;
@@ -18,15 +20,26 @@ pub fn run() {
     let always = [
         1, 1, 1, 1, 1, 90, 700, 700, 1, 99, 900, 900, 1, 4000, 4096, 4096,
     ];
-    let parts = [4, 3, 4];
+    let often_own = |ticks: usize| [1, 1, 0, 1].repeat(ticks / 4);
     let cases = [
-        ("F 16", 16, &often),
-        ("F 256", 256, &often),
-        ("F 4096", 4096, &seldom),
-        ("F 4096, all", 4096, &always),
+        ("F 16", often_own(16), [4, 3, 4], &often),
+        ("F 256", often_own(256), [4, 3, 4], &often),
+        ("F 4096", often_own(4096), [4, 3, 4], &seldom),
+        ("F 4096, all", often_own(4096), [4, 3, 4], &always),
+        (
+            "F 4096, runs 128",
+            scattered(4096, 128),
+            [4096, 1, 4],
+            &seldom,
+        ),
+        (
+            "F 4096, runs 2047",
+            scattered(4096, 2047),
+            [4096, 1, 4],
+            &seldom,
+        ),
     ];
-    for (name, ticks, tasks) in cases {
-        let plan = [1, 1, 0, 1].repeat(ticks / 4);
+    for (name, plan, parts, tasks) in cases {
         let library = || library::verdict(&plan, &parts, tasks, 4);
         line(&format!("verdict {name}"), library, || {
             verdict::verdict(&plan, &parts, tasks, 4)

@@ -6,11 +6,11 @@ use borrow.Author.Needs.{needs}
 use Rattle.plan_curve.proofs.draw.Statement.{statement}
 use Rattle.plan_curve.proofs.draw.Tie as tie
 
-shortest-requires : tie.Need-shortest-requires
-shortest-requires c κs = search needs
+frame-for-requires : tie.Need-frame-for-requires
+frame-for-requires c κs = search needs
 
 slice-aggregate-draw-frames : tie.Need-slice-aggregate-draw-frames
-slice-aggregate-draw-frames c = sym (length-take-le (c .before .shortest .result) (c .before .before .before .before .args .plan .now) (c .before .shortest .ensures .0))
+slice-aggregate-draw-frames c = sym (length-take-le (c .before .frame-for .result) (c .before .before .before .before .args .plan .now) (c .before .frame-for .ensures .0))
 
 draw-frames-requires : tie.Need-draw-frames-requires
 draw-frames-requires c κs = search needs
@@ -19,9 +19,9 @@ same-length : tie.Need-same-length
 same-length c = c .before .before .draw-frames .ensures .as-long
 
 returns : tie.Need-returns
-returns c = let e = c .before .before .before .before .before .shortest .ensures in named-as _ _ _ _ _ (λ t l. rounds-least _ _ _ t (e .1) (e .0)) (c .before .before .draw-frames .ensures)
+returns c = let e = c .before .before .before .before .before .frame-for .ensures in named-as _ _ _ _ _ (λ t l. rounds-least _ _ _ t (e .1) (e .0)) (c .before .before .draw-frames .ensures)
 
 pub draw-spec : {M : Type 1} → statement M
 draw-spec =
     tie.close
-    (tie.spec shortest-requires slice-aggregate-draw-frames draw-frames-requires same-length returns)
+    (tie.spec frame-for-requires slice-aggregate-draw-frames draw-frames-requires same-length returns)

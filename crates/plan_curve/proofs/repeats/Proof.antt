@@ -1,6 +1,7 @@
-use Prim.Native.Nat.{_-_, _≤_}
-use mathlib.Core.Path.{sym}
+use Prim.Native.Nat.{_-_, _%_, _≤_}
+use mathlib.Core.Path.{_≡_, sym}
 use mathlib.Core.Bool.{true≢false}
+use lib.ListN.{length}
 use Rattle.plan_curve.proofs.Rounds.{AgainTo, again-none, again-more, again-all}
 use borrow.Author.Needs.{needs}
 use Rattle.plan_curve.proofs.repeats.Statement.{statement}
@@ -46,7 +47,9 @@ loop-again : tie.Need-loop-again Inv-loop μ-loop
 loop-again c = (search needs, again-more _ _ _ _ _ _ (c .before .before .before .before .loop .inv .1) (c .before .before .own-at .ensures .1) (c .before .own-at2 .ensures .1) (c .if2 .left))
 
 returns-3 : tie.Need-returns-3 Inv-loop μ-loop
-returns-3 c = λ e. again-all _ _ _ _ (c .before .before .before .before .pre .0) (c .before .before .if1 .left) (c .before .loop .inv .0) (search needs) (c .before .loop .inv .1)
+returns-3 c =
+    let whole : length (c .before .before .before .before .args .plan .now) % c .before .before .before .before .args .m ≡ 0 = c .before .before .if1 .left in
+    λ e. again-all _ _ _ _ (c .before .before .before .before .pre .0) whole (c .before .loop .inv .0) (search needs) (c .before .loop .inv .1)
 
 pub repeats-spec : {M : Type 1} → statement M
 repeats-spec =

@@ -28,8 +28,8 @@ loop-holds c = (search needs, refl, refl, upto-none _ _ _ (c .before .before .be
 add-p : tie.Need-add-p Inv-loop μ-loop
 add-p c = search needs
 
-judge-next-requires : tie.Need-judge-next-requires Inv-loop μ-loop
-judge-next-requires c κs = (all-judgeable _ _ (c .before .before .before .before .before .before .before .before .pre .0) (c .before .before .before .before .before .before .before .before .pre .1), omega (arith, c .before .before .before .before .before .before .before .before .pre .2, c .before .before .before .loop .inv .1), omega (arith, c .before .before .before .before .before .before .before .before .pre .3, c .before .before .before .loop .inv .2))
+judge-partition-requires : tie.Need-judge-partition-requires Inv-loop μ-loop
+judge-partition-requires c κs = (all-judgeable _ _ (c .before .before .before .before .before .before .before .before .pre .0) (c .before .before .before .before .before .before .before .before .pre .1), omega (arith, c .before .before .before .before .before .before .before .before .pre .2, c .before .before .before .loop .inv .1), omega (arith, c .before .before .before .before .before .before .before .before .pre .3, c .before .before .before .loop .inv .2))
 
 loop-less : tie.Need-loop-less Inv-loop μ-loop
 loop-less c = search needs
@@ -37,7 +37,7 @@ loop-less c = search needs
 loop-again : tie.Need-loop-again Inv-loop μ-loop
 loop-again c =
     let l = c .before .before .before .before .before .before .before .before .loop in
-    let e = c .before .before .before .before .judge-next .ensures in
+    let e = c .before .before .before .before .judge-partition .ensures in
     (search needs, e .points-in .as-long ∙ l .inv .1, e .ticks-in .as-long ∙ l .inv .2, upto-turn _ _ _ _ _ _ _ (l .inv .3) (e .points-in), upto-turn _ _ _ _ _ _ _ (l .inv .4) (e .ticks-in))
 
 same-length : tie.Need-same-length Inv-loop μ-loop
@@ -60,7 +60,7 @@ judge-all-spec =
     μ-loop
     loop-holds
     add-p
-    judge-next-requires
+    judge-partition-requires
     loop-less
     loop-again
     same-length

@@ -1,146 +1,35 @@
-use Prim.Native.Nat.{_+_, _-_, _≤_}
-use mathlib.Core.Path.{_≡_, refl, _∙_}
-use native.Mathlib.Omega.{arith}
-use lib.ListN.{length}
-use Rattle.rules.specs.Contracts.{AsNamed}
-use Rattle.rules.proofs.Named.{named-none, named-end}
-use Rattle.theory.specs.Plan.{own}
-use Rattle.theory.specs.Task.{taskPoint, taskTick}
-use Rattle.task_demand.specs.Contracts.{allAsked}
-use Rattle.task_demand.proofs.Asking.{asked-none, asked-small, asked-more}
-use Rattle.task_points.proofs.Points.{point-is}
-use Rattle.task_plain.proofs.Ticks.{tick-is}
-use Rattle.task_all.specs.Contracts.{judgedIn}
-use Rattle.task_all.proofs.Marks.{mark-turn, mark-long, judgeable-in, deadline-short, longest-short, none-of, drawn-in}
+use Prim.Native.Nat.{_+_}
+use Rattle.rules.specs.Limits.{longest}
+use Rattle.task_demand.proofs.Asking.{zeros-all}
 use borrow.Author.Needs.{needs}
 use Rattle.task_all.proofs.judge_partition.Statement.{statement}
 use Rattle.task_all.proofs.judge_partition.Tie as tie
 
-abbrev Inv-loop : tie.InvT-loop
-Inv-loop plan table p curve asks₀ points₀ ticks₀ d n j₀ asks points ticks j =
-    (j ≤ n)
-    × (length asks ≡ length asks₀)
-    × (length points ≡ length points₀)
-    × (length ticks ≡ length ticks₀)
-    × AsNamed (allAsked table p j) (d + 1) asks₀ asks
-    × AsNamed (judgedIn table p (taskPoint own plan table) points₀) j points₀ points
-    × AsNamed (judgedIn table p (taskTick own plan table) ticks₀) j ticks₀ ticks
+slice-aggregate-judge-with : tie.Need-slice-aggregate-judge-with
+slice-aggregate-judge-with c = search needs
 
-abbrev μ-loop : tie.MeasureT-loop
-μ-loop plan table p curve asks₀ points₀ ticks₀ d n j₀ asks points ticks j = n - j
+slice-aggregate-judge-with-2 : tie.Need-slice-aggregate-judge-with-2
+slice-aggregate-judge-with-2 c = search needs
 
-longest-deadline-requires : tie.Need-longest-deadline-requires Inv-loop μ-loop
-longest-deadline-requires c κs = search needs
+judge-with-requires : tie.Need-judge-with-requires
+judge-with-requires c κs = (search needs, zeros-all (longest + 1), search needs, search needs, search needs, search needs)
 
-returns : tie.Need-returns Inv-loop μ-loop
-returns c = none-of _ (c .before .before .before .before .before .before .before .before .pre .0) _ _ _ _ _ (c .before .longest-deadline .ensures) (c .if1 .taken)
+same-length : tie.Need-same-length
+same-length c = c .before .before .before .before .before .before .judge-with .ensures .points-in .as-long
 
-wide-requires : tie.Need-wide-requires Inv-loop μ-loop
-wide-requires c κs = search needs
+same-length-2 : tie.Need-same-length-2
+same-length-2 c = c .before .before .before .before .before .before .judge-with .ensures .ticks-in .as-long
 
-add-draw : tie.Need-add-draw Inv-loop μ-loop
-add-draw c = omega (arith, longest-short _ (c .before .before .before .before .before .before .before .before .before .before .pre .0) _ _ (c .before .before .before .longest-deadline .ensures))
-
-draw-requires : tie.Need-draw-requires Inv-loop μ-loop
-draw-requires c κs = let l = longest-short _ (c .before .before .before .before .before .before .before .before .before .before .pre .0) _ _ (c .before .before .before .longest-deadline .ensures) in (omega (arith, l), omega (arith, l, c .before .before .before .before .before .before .before .before .before .before .pre .2))
-
-tasks-requires : tie.Need-tasks-requires Inv-loop μ-loop
-tasks-requires c κs = search needs
-
-loop-holds : tie.Need-loop-holds Inv-loop μ-loop
-loop-holds c = (search needs, refl, refl, refl, asked-none _ _ _ _ (c .before .before .before .before .before .before .before .before .before .before .before .before .before .before .pre .1), named-none _ _, named-none _ _)
-
-judge-task-requires : tie.Need-judge-task-requires Inv-loop μ-loop
-judge-task-requires c κs =
-    let l = c .before .before .before .before .before .loop in
-    let pre = c .before .before .before .before .before .before .before .before .before .before .before .before .before .before .before .before .before .before .before .before .pre in
-    let n = c .before .before .before .before .before .before .tasks .ensures in (
-      deadline-short _ (pre .0) _ (omega (arith, n)),
-      omega (arith, c .before .before .before .before .before .before .before .before .before .draw .ensures .as-long, pre .2),
-      omega (arith, l .inv .1, pre .3),
-      omega (arith, n, l .inv .2, pre .4),
-      omega (arith, n, l .inv .3, pre .5),
-    )
-
-add-ask-task : tie.Need-add-ask-task Inv-loop μ-loop
-add-ask-task c = omega (arith, longest-short _ (c .before .before .before .before .before .before .before .before .before .before .before .before .before .before .before .before .before .before .before .before .before .before .before .before .before .before .pre .0) _ _ (c .before .before .before .before .before .before .before .before .before .before .before .before .before .before .before .before .before .before .before .longest-deadline .ensures))
-
-ask-task-requires : tie.Need-ask-task-requires Inv-loop μ-loop
-ask-task-requires c κs =
-    let l = c .before .before .before .before .before .before .before .before .before .before .before .loop in
-    let pre = c .before .before .before .before .before .before .before .before .before .before .before .before .before .before .before .before .before .before .before .before .before .before .before .before .before .before .pre in
-    let n = c .before .before .before .before .before .before .before .before .before .before .before .before .tasks .ensures in
-    let d = longest-short _ (pre .0) _ _ (c .before .before .before .before .before .before .before .before .before .before .before .before .before .before .before .before .before .before .before .longest-deadline .ensures) in (
-      pre .0 .in-order _ (omega (arith, n)),
-      omega arith,
-      omega (arith, d),
-      omega (arith, d, l .inv .1, pre .3),
-      asked-small _ _ _ _ _ _ (omega (arith, n, pre .0 .few)) (omega (arith, d)) (λ k h. pre .0 .in-order k (omega (arith, n))) (pre .1) (l .inv .4),
-    )
-
-add-j : tie.Need-add-j Inv-loop μ-loop
-add-j c = search needs
-
-loop-less : tie.Need-loop-less Inv-loop μ-loop
-loop-less c = search needs
-
-loop-again : tie.Need-loop-again Inv-loop μ-loop
-loop-again c =
-    let l = c .before .before .before .before .before .before .before .before .before .before .before .before .before .before .loop in
-    let pre = c .before .before .before .before .before .before .before .before .before .before .before .before .before .before .before .before .before .before .before .before .before .before .before .before .before .before .before .before .before .pre in
-    let n = c .before .before .before .before .before .before .before .before .before .before .before .before .before .before .before .tasks .ensures in
-    let e = c .before .before .before .before .before .before .before .before .before .before .before .before .before .before .before .before .before .before .before .before .before .before .longest-deadline .ensures in
-    let d = longest-short _ (pre .0) _ _ e in
-    let judged = c .before .before .before .before .before .before .before .before .judge-task .ensures in
-    let drawn = drawn-in _ (pre .0) _ _ _ _ _ _ _ _ _ (omega (arith, n)) e (c .before .before .before .before .before .before .before .before .before .before .before .before .before .before .before .before .before .before .before .before .wide .ensures) (omega (arith, d, pre .2)) (omega (arith, d, pre .3)) (c .before .before .before .before .before .before .before .before .before .before .before .before .before .before .before .before .before .before .draw .ensures) (l .inv .4) in (
-      search needs,
-      c .before .before .ask-task .ensures .as-long ∙ l .inv .1,
-      mark-long _ _ _ _ _ _ (judged .0) ∙ l .inv .2,
-      mark-long _ _ _ _ _ _ (judged .1) ∙ l .inv .3,
-      asked-more _ _ _ _ _ _ _ (l .inv .4) (c .before .before .ask-task .ensures),
-      mark-turn _ _ _ _ _ _ _ _ (l .inv .5) (omega (arith, n, pre .4)) (judged .0) (λ z. point-is _ _ _ _ _ (judgeable-in _ (pre .0) _ (omega (arith, n))) (drawn z) _ _ refl refl),
-      mark-turn _ _ _ _ _ _ _ _ (l .inv .6) (omega (arith, n, pre .5)) (judged .1) (λ z. tick-is _ _ _ _ _ _ _ (drawn z) refl refl),
-    )
-
-same-length : tie.Need-same-length Inv-loop μ-loop
-same-length c = c .before .before .before .before .before .draw .ensures .as-long
-
-same-length-2 : tie.Need-same-length-2 Inv-loop μ-loop
-same-length-2 c = c .before .loop .inv .1
-
-same-length-3 : tie.Need-same-length-3 Inv-loop μ-loop
-same-length-3 c = c .before .loop .inv .2
-
-same-length-4 : tie.Need-same-length-4 Inv-loop μ-loop
-same-length-4 c = c .before .loop .inv .3
-
-returns-2 : tie.Need-returns-2 Inv-loop μ-loop
-returns-2 c =
-    let l = c .before .loop in
-    let n = c .before .before .tasks .ensures in
-    record { points-in = named-end _ _ _ _ _ (omega (arith, n)) (omega (arith, n)) (l .inv .5); ticks-in = named-end _ _ _ _ _ (omega (arith, n)) (omega (arith, n)) (l .inv .6) }
+returns : tie.Need-returns
+returns c = search needs
 
 pub judge-partition-spec : {M : Type 1} → statement M
 judge-partition-spec =
     tie.close
     (tie.spec
-    Inv-loop
-    μ-loop
-    longest-deadline-requires
-    returns
-    wide-requires
-    add-draw
-    draw-requires
-    tasks-requires
-    loop-holds
-    judge-task-requires
-    add-ask-task
-    ask-task-requires
-    add-j
-    loop-less
-    loop-again
+    slice-aggregate-judge-with
+    slice-aggregate-judge-with-2
+    judge-with-requires
     same-length
     same-length-2
-    same-length-3
-    same-length-4
-    returns-2)
+    returns)

@@ -3,8 +3,9 @@ use mathlib.Core.Path.{_≡_, refl, _∙_}
 use native.Mathlib.Omega.{arith}
 use lib.ListN.{length}
 use Rattle.rules.specs.Contracts.{AsNamed}
+use Rattle.rules.specs.Table.{partition}
 use Rattle.task_demand.specs.Contracts.{allAsked}
-use Rattle.task_demand.proofs.Asking.{asked-none, asked-small, asked-more}
+use Rattle.task_demand.proofs.Asking.{asked-none, asked-small, asked-more, asked-of}
 use borrow.Author.Needs.{needs}
 use Rattle.task_demand.proofs.ask_rivals.Statement.{statement}
 use Rattle.task_demand.proofs.ask_rivals.Tie as tie
@@ -40,7 +41,10 @@ same-length : tie.Need-same-length Inv-loop μ-loop
 same-length c = c .before .loop .inv .1
 
 returns : tie.Need-returns Inv-loop μ-loop
-returns c = let e : c .before .loop .j ≡ c .before .before .before .before .before .args .i = omega arith in rw (← c .before .before .partition .ensures) (rw e at (c .before .loop .inv .2))
+returns c =
+    let e : c .before .loop .j ≡ c .before .before .before .before .before .args .i = omega arith in
+    let own : c .before .before .partition .result ≡ partition (c .before .before .before .before .before .args .tasks .now) (c .before .before .before .before .before .args .i) = c .before .before .partition .ensures in
+    asked-of _ _ _ _ _ _ _ own (rw e at (c .before .loop .inv .2))
 
 pub ask-rivals-spec : {M : Type 1} → statement M
 ask-rivals-spec =

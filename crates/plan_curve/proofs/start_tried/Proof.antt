@@ -1,11 +1,11 @@
 use mathlib.Core.Path.{sym, _∙_}
-use Rattle.plan_curve.proofs.Lowered.{behind-first, within-run, behind-run-is}
+use Rattle.plan_curve.proofs.Lowered.{tried-first, within-run, tried-behind}
 use borrow.Author.Needs.{needs}
-use Rattle.plan_curve.proofs.behind_run.Statement.{statement}
-use Rattle.plan_curve.proofs.behind_run.Tie as tie
+use Rattle.plan_curve.proofs.start_tried.Statement.{statement}
+use Rattle.plan_curve.proofs.start_tried.Tie as tie
 
 returns : tie.Need-returns
-returns c = behind-first _ _ _ (c .if1 .taken)
+returns c = tried-first _ _ _ (c .if1 .taken)
 
 mul-wide : tie.Need-mul-wide
 mul-wide c = search needs
@@ -32,10 +32,10 @@ wide-requires-2 : tie.Need-wide-requires-2
 wide-requires-2 c κs = search needs
 
 returns-3 : tie.Need-returns-3
-returns-3 c = rw (c .wide2 .ensures) (behind-run-is _ _ _ (search needs) (c .before .before .before .before .before .if1 .left) (rw (c .before .before .before .wide .ensures) at (c .before .before .if2 .left)))
+returns-3 c = rw (c .wide2 .ensures) (tried-behind _ _ _ (search needs) (c .before .before .before .before .before .if1 .left) (rw (c .before .before .before .wide .ensures) at (c .before .before .if2 .left)))
 
-pub behind-run-spec : {M : Type 1} → statement M
-behind-run-spec =
+pub start-tried-spec : {M : Type 1} → statement M
+start-tried-spec =
     tie.close
     (tie.spec
     returns
