@@ -10,6 +10,7 @@ use lib.ListN.{length, getD, drop, length-append, List·getD-append}
 use borrow.Author.Tests.{leb-true, leb-false, eqb-true, eq-eqb}
 use Rattle.rules.specs.Walk.{pick}
 use Rattle.rules.specs.Table.{partitions, goodPart, goodTask, goodTick}
+use Rattle.rules.specs.Terms.{goodGranule, usual, wanted}
 use Rattle.rules.specs.Filling.{leftBy}
 use Rattle.rules.specs.Refusals.{told}
 use Rattle.rules.specs.declared.Refusal.{Refusal}
@@ -65,14 +66,14 @@ plan-exactly plan ps = (planned plan ps, is-planned plan ps)
 
 pub plan-as-checked : PlanAsChecked
 unfolding checkOf planCheckOf planJudged
-plan-as-checked plan ps = go (tablesOf (length plan) ps []) (ticksJudged plan ps)
+plan-as-checked plan ps = go (tablesOf usual (length plan) ps []) (ticksJudged plan ps)
   where
-    go : (a b : Finding) → unless Refused a (unless Refused b (scanOf plan ps)) ≡ unless Refused (unless Refused a b) (scanOf plan ps)
+    go : (a b : Finding) → unless Refused a (unless Refused b (scanOf (wanted usual ps) plan ps)) ≡ unless Refused (unless Refused a b) (scanOf (wanted usual ps) plan ps)
     go Good b = refl
     go (Refused r) b = refl
 
 pub plan-places : PlanPlaces
-unfolding planJudged tablesOf
+unfolding planJudged tablesOf goodGranule
 plan-places plan ps r e =
     go (withinLimits (length plan) (length ps) 0) (lowest Partition (goodPart (length plan) ps) (partitions ps)) refl (lowest Task (goodTask (partitions ps) []) 0) refl (ticksJudged plan ps) refl e
   where

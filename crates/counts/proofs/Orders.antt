@@ -18,9 +18,10 @@ use Rattle.rules.specs.declared.Finding.{Finding}
 use Rattle.rules.specs.declared.Finding.the-variants.{Good, Refused}
 use Rattle.rules.proofs.First.{first-every}
 use Rattle.rules.proofs.Tests.{and-parts}
+use Rattle.rules.specs.Terms.{usual}
 use Rattle.tables.specs.Tables.{unless, tablesOf, ticksJudged}
 use Rattle.tables.specs.Contracts.{firstBadTick}
-use Rattle.tables.proofs.Chain.{not-good, lowest-good, good-lowest, within, good-exactly, unless-parts-hold}
+use Rattle.tables.proofs.Chain.{not-good, both-good, lowest-good, good-lowest, within, good-exactly, unless-parts-hold, usual-not-21}
 use Rattle.counts.specs.Counts.{rowWidth, needed, agreesAt, planJudged, listJudged, countsJudged, unlessGood, goodName, goodStretch}
 use Rattle.counts.specs.Contracts.{Sized}
 use Rattle.counts.specs.Theorems.{Planned, Counted}
@@ -65,32 +66,26 @@ pub tested : (b : Bool) (r : Refusal) → pick b Good (Refused r) ≡ Good → b
 tested true r e = refl
 tested false r e = absurd (not-good r e)
 
--- ---- two findings
-
-pub both : (a b : Finding) → unless Refused a b ≡ Good → (a ≡ Good) × (b ≡ Good)
-both Good b e = (refl, e)
-both (Refused r) b e = absurd (not-good r e)
-
 -- ---- 3, 6 and 8
 
 module _ (plan ps : List ℕ) where
-  pub plan-refused : (r : Refusal) → tablesOf (length plan) ps [] ≡ Refused r → Refused r ≡ planJudged plan ps
+  pub plan-refused : (r : Refusal) → tablesOf usual (length plan) ps [] ≡ Refused r → Refused r ≡ planJudged plan ps
   unfolding planJudged
   plan-refused r e = rw e
 
-  pub plan-next : tablesOf (length plan) ps [] ≡ Good → (r : Finding) → r ≡ ticksJudged plan ps → r ≡ planJudged plan ps
+  pub plan-next : tablesOf usual (length plan) ps [] ≡ Good → (r : Finding) → r ≡ ticksJudged plan ps → r ≡ planJudged plan ps
   unfolding planJudged
   plan-next e r h = rw e h
 
 pub planned : (plan ps : List ℕ) → planJudged plan ps ≡ Good → Planned plan ps
 unfolding planJudged
 planned plan ps e =
-    let a = both (tablesOf (length plan) ps []) (ticksJudged plan ps) e in
-    record { tables = good-exactly (length plan) ps [] .0 (a .0); ticks = lowest-good Tick (goodTick (partitions ps) plan) (length plan) (a .1) }
+    let a = both-good (tablesOf usual (length plan) ps []) (ticksJudged plan ps) e in
+    record { tables = good-exactly usual (length plan) ps [] .0 (a .0); ticks = lowest-good Tick (goodTick (partitions ps) plan) (length plan) (a .1) }
 
 pub is-planned : (plan ps : List ℕ) → Planned plan ps → planJudged plan ps ≡ Good
 unfolding planJudged
-is-planned plan ps g = rw (good-exactly (length plan) ps [] .1 (g .tables)) (good-lowest Tick (goodTick (partitions ps) plan) (length plan) (g .ticks))
+is-planned plan ps g = rw (good-exactly usual (length plan) ps [] .1 (g .tables)) (good-lowest Tick (goodTick (partitions ps) plan) (length plan) (g .ticks))
 
 pub sized : (plan ps : List ℕ) → Planned plan ps → Sized plan ps
 sized plan ps g = let w = within (length plan) (length ps) 0 (g .tables .limits) in (w .longest-frame, w .few-parts)
@@ -145,7 +140,7 @@ module _ (plan ps list : List ℕ) (named : Finding) (enough : Bool) (inside : F
 
   pub call-next : unless Refused (planJudged plan ps) named ≡ Good → unless Refused (listJudged plan ps list enough) inside ≡ countsJudged plan ps list named enough inside
   unfolding countsJudged
-  call-next e = let a = both (planJudged plan ps) named e in rw (a .0, a .1)
+  call-next e = let a = both-good (planJudged plan ps) named e in rw (a .0, a .1)
 
   pub is-called : Called plan ps list named enough inside → countsJudged plan ps list named enough inside ≡ Good
   unfolding countsJudged
@@ -156,7 +151,7 @@ pub plan-holds : (plan ps : List ℕ) {A : Type 0} (P : A → Type 0) (refused :
     → P (refused Limits) → ((k : ℕ) → P (refused (Partition k))) → ((t : ℕ) → P (refused (Tick t))) → P next → P (unless refused (planJudged plan ps) next)
 unfolding planJudged
 plan-holds plan ps P refused next three six eight h =
-    unless-parts-hold (length plan) ps (λ (f : Finding). P (unless refused f next)) Refused (ticksJudged plan ps) three six (ticks (ltb (firstBadTick (partitions ps) plan) (length plan)))
+    unless-parts-hold usual (length plan) ps (λ (f : Finding). P (unless refused f next)) Refused (ticksJudged plan ps) three usual-not-21 six (ticks (ltb (firstBadTick (partitions ps) plan) (length plan)))
   where
     ticks : (b : Bool) → P (unless refused (pick b (Refused (Tick (firstBadTick (partitions ps) plan + 1))) Good) next)
     ticks true = eight _

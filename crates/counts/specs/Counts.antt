@@ -17,6 +17,7 @@ use Rattle.rules.specs.declared.Finding.{Finding}
 use Rattle.rules.specs.declared.Finding.the-variants.{Good, Refused}
 use Rattle.rules.specs.declared.Filling.{Filling}
 use Rattle.rules.specs.declared.Filling.the-variants as filling
+use Rattle.rules.specs.Terms.{usual}
 use Rattle.tables.specs.Tables.{lowest, unless, tablesOf, ticksJudged}
 use Rattle.theory.specs.Plan.{own, held}
 use Rattle.counts.specs.declared.Holding.{Holding}
@@ -56,7 +57,7 @@ agreesAt plan list i = eqb (getD list i 0) (countAt plan i)
 
 -- "the checker's 3, 6 and 8"
 unfoldable pub planJudged : List ℕ → List ℕ → Finding
-planJudged plan ps = unless Refused (tablesOf (length plan) ps []) (ticksJudged plan ps)
+planJudged plan ps = unless Refused (tablesOf usual (length plan) ps []) (ticksJudged plan ps)
 
 -- "a list too short is 12; a list that disagrees with the plan is 20, after 12"; and whether the call's other output is long enough
 unfoldable pub listJudged : List ℕ → List ℕ → List ℕ → Bool → Finding

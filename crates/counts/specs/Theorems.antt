@@ -14,6 +14,7 @@ use Rattle.rules.specs.declared.Finding.{Finding}
 use Rattle.rules.specs.declared.Finding.the-variants.{Good, Refused}
 use Rattle.rules.specs.declared.Filling.{Filling}
 use Rattle.rules.specs.declared.Filling.the-variants as filling
+use Rattle.rules.specs.Terms.{usual, wanted}
 use Rattle.tables.specs.Tables.{unless, GoodTables}
 use Rattle.plan_check.specs.Check.{scanOf, checkOf}
 use Rattle.theory.specs.Plan.{own, held}
@@ -45,7 +46,7 @@ ListIs =
 
 -- a plan by the checker's 3, 6 and 8; it need not serve
 pub record Planned (plan ps : List ℕ) : Type 0 where
-  pub tables : GoodTables (length plan) ps []
+  pub tables : GoodTables usual (length plan) ps []
   pub ticks : Every (goodTick (partitions ps) plan) (length plan)
 
 -- a list that is the plan's: long enough, and each number the count
@@ -64,7 +65,7 @@ abbrev pub PlanExactly : Type 0
 PlanExactly = (plan ps : List ℕ) → (planJudged plan ps ≡ Good) ↔ Planned plan ps
 
 abbrev pub PlanAsChecked : Type 0
-PlanAsChecked = (plan ps : List ℕ) → checkOf plan ps ≡ unless Refused (planJudged plan ps) (scanOf plan ps)
+PlanAsChecked = (plan ps : List ℕ) → checkOf usual plan ps ≡ unless Refused (planJudged plan ps) (scanOf (wanted usual ps) plan ps)
 
 -- a bad record or tick is told with its place from 1, so that 8 with place 0 is never a tick's
 abbrev pub PlanPlaces : Type 0

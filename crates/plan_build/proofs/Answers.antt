@@ -13,6 +13,8 @@ use borrow.Author.Tests.{eq-eqb, le-ltb, le-leb, ltb-true, not-false}
 use Rattle.rules.specs.Walk.{pick, fails}
 use Rattle.rules.specs.Limits.{longest}
 use Rattle.rules.specs.Table.{cycle, partitions}
+use Rattle.rules.specs.Terms.{wanted}
+use Rattle.rules.specs.declared.Terms.{Terms}
 use Rattle.tables.specs.Tables.{GoodTables}
 use Rattle.rules.specs.Refusals.{told, toldFilling}
 use Rattle.rules.specs.declared.Refusal.{Refusal}
@@ -25,14 +27,14 @@ use Rattle.rules.proofs.Tests.{pick-second}
 use Rattle.rules.proofs.Known.{named, by-number, filling-refused, filling-as}
 use Rattle.theory.specs.Plan.{own}
 use Rattle.theory.specs.Harmonic.{pairs, Harmonic, frame, allWanted, planned, harmonicPlan}
-use Rattle.theory.proofs.Built.{harmonic-serves, harmonic-refused, harmonic-plan-good}
+use Rattle.theory.proofs.Built.{harmonic-serves, harmonic-refused, past-cycle-refused, harmonic-plan-good}
 use Rattle.plan_check.proofs.Answers.{check-serves}
 use Rattle.rules.specs.declared.Filling.{Filling}
 use Rattle.rules.specs.declared.Filling.the-variants.{Fills, Refused}
 use Rattle.plan_build.specs.Build.{unharmonic, laidOf, buildOf}
 use Rattle.plan_build.specs.Contracts.{clashes}
 use Rattle.rules.specs.Filling.{leftBy}
-use Rattle.plan_build.specs.Theorems.{BuiltServes, WantExactly, WantNone, WantChecked, UnharmonicExactly, FrameExactly, BuildOne, Proved}
+use Rattle.plan_build.specs.Theorems.{BuiltServes, WantExactly, PastCycleWant, WantNone, WantChecked, UnharmonicExactly, FrameExactly, BuildOne, Proved}
 use Rattle.plan_build.proofs.Orders.{counted-few, build-laid, laid-10, laid-11, laid-frame, laid}
 
 -- ---- 10: of any two cycles, one divides the other
@@ -67,113 +69,124 @@ module _ (ps : List ℕ) where
 
 -- ---- the answers
 
-module _ (ps : List ℕ) (room : ℕ) where
+module _ (terms : Terms) (ps : List ℕ) (room : ℕ) where
+  abbrev q : ℕ → ℕ
+  q = wanted terms ps
+
   harmonic-from : (unharmonic ps ≡ true) → ¬ Harmonic ps
   harmonic-from e h = absurd (true≢false (sym e ∙ is-harmonic ps h))
 
-  tens : buildOf ps room ≡ Refused Unharmonic → GoodTables longest ps [] × ¬ Harmonic ps
+  tens : buildOf terms ps room ≡ Refused Unharmonic → GoodTables terms longest ps [] × ¬ Harmonic ps
   unfolding buildOf laidOf
   tens e =
       let ten : Filling = Refused Unharmonic in
-      let a = unless-given longest ps [] Refused (laidOf ps room) ten
-      (λ q. let z : _≡_ {A = ℕ} 0 1 = cc in absurd (omega arith))
-      (λ k q. let z : _≡_ {A = ℕ} 0 1 = cc in absurd (omega arith))
-      (λ j q. let z : _≡_ {A = ℕ} 0 1 = cc in absurd (omega arith))
+      let a = unless-given terms longest ps [] Refused (laidOf q ps room) ten
+      (λ e. let z : _≡_ {A = ℕ} 0 1 = cc in absurd (omega arith))
+      (λ g e. let z : _≡_ {A = ℕ} 0 1 = cc in absurd (omega arith))
+      (λ k e. let z : _≡_ {A = ℕ} 0 1 = cc in absurd (omega arith))
+      (λ j e. let z : _≡_ {A = ℕ} 0 1 = cc in absurd (omega arith))
       e in
       (a .0, at (unharmonic ps) refl (a .1))
     where
       at : (u : Bool) → unharmonic ps ≡ u
-          → pick u (Refused Unharmonic) (pick (ltb (frame ps) (allWanted ps (frame ps))) (Refused Want) (pick (ltb room (frame ps)) (Refused Output) (Fills (frame ps)))) ≡ Refused Unharmonic → ¬ Harmonic ps
-      at true u q = harmonic-from u
-      at false u q =
-          let d = pick-second (ltb (frame ps) (allWanted ps (frame ps))) _ _ (Refused Unharmonic) (λ q. let z : _≡_ {A = ℕ} 0 1 = cc in absurd (omega arith)) q in
-          let o = pick-second (ltb room (frame ps)) _ _ (Refused Unharmonic) (λ q. let z : _≡_ {A = ℕ} 0 1 = cc in absurd (omega arith)) (d .1) in
+          → pick u (Refused Unharmonic) (pick (ltb (frame ps) (allWanted q ps (frame ps))) (Refused Want) (pick (ltb room (frame ps)) (Refused Output) (Fills (frame ps)))) ≡ Refused Unharmonic → ¬ Harmonic ps
+      at true u e = harmonic-from u
+      at false u e =
+          let d = pick-second (ltb (frame ps) (allWanted q ps (frame ps))) _ _ (Refused Unharmonic) (λ e. let z : _≡_ {A = ℕ} 0 1 = cc in absurd (omega arith)) e in
+          let o = pick-second (ltb room (frame ps)) _ _ (Refused Unharmonic) (λ e. let z : _≡_ {A = ℕ} 0 1 = cc in absurd (omega arith)) (d .1) in
           let z : _≡_ {A = ℕ} 0 1 = cc (o .1) in absurd (omega arith)
 
-  elevens : buildOf ps room ≡ Refused Want → GoodTables longest ps [] × Harmonic ps × (frame ps < allWanted ps (frame ps))
+  elevens : buildOf terms ps room ≡ Refused Want → GoodTables terms longest ps [] × Harmonic ps × (frame ps < allWanted q ps (frame ps))
   unfolding buildOf laidOf
   elevens e =
       let eleven : Filling = Refused Want in
-      let a = unless-given longest ps [] Refused (laidOf ps room) eleven
-      (λ q. let z : _≡_ {A = ℕ} 0 1 = cc in absurd (omega arith))
-      (λ k q. let z : _≡_ {A = ℕ} 0 1 = cc in absurd (omega arith))
-      (λ j q. let z : _≡_ {A = ℕ} 0 1 = cc in absurd (omega arith))
+      let a = unless-given terms longest ps [] Refused (laidOf q ps room) eleven
+      (λ e. let z : _≡_ {A = ℕ} 0 1 = cc in absurd (omega arith))
+      (λ g e. let z : _≡_ {A = ℕ} 0 1 = cc in absurd (omega arith))
+      (λ k e. let z : _≡_ {A = ℕ} 0 1 = cc in absurd (omega arith))
+      (λ j e. let z : _≡_ {A = ℕ} 0 1 = cc in absurd (omega arith))
       e in
-      let d = pick-second (unharmonic ps) _ _ eleven (λ q. let z : _≡_ {A = ℕ} 0 1 = cc in absurd (omega arith)) (a .1) in
-      (a .0, harmonic-is ps (d .0), at (ltb (frame ps) (allWanted ps (frame ps))) refl (d .1))
+      let d = pick-second (unharmonic ps) _ _ eleven (λ e. let z : _≡_ {A = ℕ} 0 1 = cc in absurd (omega arith)) (a .1) in
+      (a .0, harmonic-is ps (d .0), at (ltb (frame ps) (allWanted q ps (frame ps))) refl (d .1))
     where
-      at : (u : Bool) → ltb (frame ps) (allWanted ps (frame ps)) ≡ u
-          → pick u (Refused Want) (pick (ltb room (frame ps)) (Refused Output) (Fills (frame ps))) ≡ Refused Want → frame ps < allWanted ps (frame ps)
-      at true u q = ltb-true _ _ u
-      at false u q =
-          let o = pick-second (ltb room (frame ps)) _ _ (Refused Want) (λ q. let z : _≡_ {A = ℕ} 0 1 = cc in absurd (omega arith)) q in
+      at : (u : Bool) → ltb (frame ps) (allWanted q ps (frame ps)) ≡ u
+          → pick u (Refused Want) (pick (ltb room (frame ps)) (Refused Output) (Fills (frame ps))) ≡ Refused Want → frame ps < allWanted q ps (frame ps)
+      at true u e = ltb-true _ _ u
+      at false u e =
+          let o = pick-second (ltb room (frame ps)) _ _ (Refused Want) (λ e. let z : _≡_ {A = ℕ} 0 1 = cc in absurd (omega arith)) e in
           let z : _≡_ {A = ℕ} 0 1 = cc (o .1) in absurd (omega arith)
 
   -- the answer of a good table
-  good-laid : GoodTables longest ps [] → (r : Filling) → r ≡ laidOf ps room → buildOf ps room ≡ r
-  good-laid g r e = sym (build-laid ps room (good-exactly longest ps [] .1 g) r e)
+  good-laid : GoodTables terms longest ps [] → (r : Filling) → r ≡ laidOf q ps room → buildOf terms ps room ≡ r
+  good-laid g r e = sym (build-laid terms ps room (good-exactly terms longest ps [] .1 g) r e)
 
-  is-ten : GoodTables longest ps [] × ¬ Harmonic ps → buildOf ps room ≡ Refused Unharmonic
-  is-ten (g, h) = good-laid g _ (laid-10 ps room (at (unharmonic ps) refl))
+  is-ten : GoodTables terms longest ps [] × ¬ Harmonic ps → buildOf terms ps room ≡ Refused Unharmonic
+  is-ten (g, h) = good-laid g _ (laid-10 q ps room (at (unharmonic ps) refl))
     where
       at : (u : Bool) → unharmonic ps ≡ u → unharmonic ps ≡ true
       at true e = e
       at false e = absurd (h (harmonic-is ps e))
 
-  is-eleven : GoodTables longest ps [] × Harmonic ps × (frame ps < allWanted ps (frame ps)) → buildOf ps room ≡ Refused Want
-  is-eleven (g, h, l) = good-laid g _ (laid-11 ps room (is-harmonic ps h) _ _ refl refl l)
+  is-eleven : GoodTables terms longest ps [] × Harmonic ps × (frame ps < allWanted q ps (frame ps)) → buildOf terms ps room ≡ Refused Want
+  is-eleven (g, h, l) = good-laid g _ (laid-11 q ps room (is-harmonic ps h) _ _ refl refl l)
 
-  is-frame : (h : ℕ) → GoodTables longest ps [] × Harmonic ps × (allWanted ps (frame ps) ≤ frame ps) × (h ≡ frame ps) × (h ≤ room) → buildOf ps room ≡ Fills h
-  is-frame h (g, a, l, e, m) = good-laid g _ (laid-frame ps room (is-harmonic ps a) _ _ e refl (rw e l) m)
+  is-frame : (h : ℕ) → GoodTables terms longest ps [] × Harmonic ps × (allWanted q ps (frame ps) ≤ frame ps) × (h ≡ frame ps) × (h ≤ room) → buildOf terms ps room ≡ Fills h
+  is-frame h (g, a, l, e, m) = good-laid g _ (laid-frame q ps room (is-harmonic ps a) _ _ e refl (rw e l) m)
 
-  frames : (h : ℕ) → buildOf ps room ≡ Fills h → GoodTables longest ps [] × Harmonic ps × (allWanted ps (frame ps) ≤ frame ps) × (h ≡ frame ps) × (h ≤ room)
-  frames h e = let a = laid ps room h e in (a .good, harmonic-is ps (a .harmonic), a .enough, a .is-frame, a .fits)
+  frames : (h : ℕ) → buildOf terms ps room ≡ Fills h → GoodTables terms longest ps [] × Harmonic ps × (allWanted q ps (frame ps) ≤ frame ps) × (h ≡ frame ps) × (h ≤ room)
+  frames h e = let a = laid terms ps room h e in (a .good, harmonic-is ps (a .harmonic), a .enough, a .is-frame, a .fits)
 
 -- ---- what is written is accepted
 
 pub built-serves : BuiltServes
-built-serves ps out o h (e, left) =
-    let a = frames ps (length out) h (sym e) in
+built-serves terms ps out o h (e, left) =
+    let q = wanted terms ps in
+    let a = frames terms ps (length out) h (sym e) in
     let few = counted-few ps [] (a .0) .0 in
-    let w = harmonic-plan-good ps few (a .0 .parts) in
-    let n : length (harmonicPlan ps) ≡ h = listed-length (planned ps (partitions ps)) (frame ps) ∙ sym (a .3) in
-    let t : take h o ≡ harmonicPlan ps = rw left (take-at (harmonicPlan ps) (drop h out) h n) in
-    let g : GoodTables (length (harmonicPlan ps)) ps [] = rw (w .0) (other-frame longest (frame ps) ps [] (a .0) (w .1) (w .2) (w .3)) in
-    rw t (check-serves (harmonicPlan ps) ps .1 (g, (λ k l. le-leb _ _ (w .4 k)), harmonic-serves ps few (a .0 .parts) (a .1) (a .2)))
+    let w = harmonic-plan-good q ps few (a .0 .parts) in
+    let n : length (harmonicPlan q ps) ≡ h = listed-length (planned q ps (partitions ps)) (frame ps) ∙ sym (a .3) in
+    let t : take h o ≡ harmonicPlan q ps = rw left (take-at (harmonicPlan q ps) (drop h out) h n) in
+    let g : GoodTables terms (length (harmonicPlan q ps)) ps [] = rw (w .0) (other-frame longest (frame ps) ps [] (a .0) (w .1) (w .2) (w .3)) in
+    rw t (check-serves terms (harmonicPlan q ps) ps .1 (g, (λ k l. le-leb _ _ (w .4 k)), harmonic-serves q ps few (a .0 .parts) (a .1) (a .2)))
 
 -- ---- by the number that is told
 
-module _ (ps : List ℕ) (room n : ℕ) where
+module _ (terms : Terms) (ps : List ℕ) (room n : ℕ) where
   -- refused with a number from 1 on: by the refusal of that number
-  by : 1 ≤ n → ¬ (n ≡ 8) → toldFilling (buildOf ps room) .number ≡ n → (r : Refusal) × (buildOf ps room ≡ Refused (named n (told r .first) (told r .second) (told r .third) (told r .fourth)))
-  by l g e = let a = filling-refused (buildOf ps room) n l e in (a .0, a .1 ∙ ap Refused (by-number (a .0) n g (a .2)))
+  by : 1 ≤ n → ¬ (n ≡ 8) → toldFilling (buildOf terms ps room) .number ≡ n → (r : Refusal) × (buildOf terms ps room ≡ Refused (named n (told r .first) (told r .second) (told r .third) (told r .fourth)))
+  by l g e = let a = filling-refused (buildOf terms ps room) n l e in (a .0, a .1 ∙ ap Refused (by-number (a .0) n g (a .2)))
 
 pub want-exactly : WantExactly
-want-exactly ps room = (λ e. elevens ps room (by ps room 11 (omega arith) (λ q. absurd (omega arith)) e .1), λ h. rw (is-eleven ps room h))
+want-exactly terms ps room = (λ e. elevens terms ps room (by terms ps room 11 (omega arith) (λ q. absurd (omega arith)) e .1), λ h. rw (is-eleven terms ps room h))
+
+pub past-cycle-want : PastCycleWant
+past-cycle-want terms ps room g har k l h =
+    want-exactly terms ps room .1 (g, har, past-cycle-refused (wanted terms ps) ps (counted-few ps [] g .0) (g .parts) har k l h)
 
 pub want-none : WantNone
-want-none ps room e rule plan =
-    let a = want-exactly ps room .0 e in
-    harmonic-refused ps (counted-few ps [] (a .0) .0) (a .0 .parts) (a .1) (a .2) rule plan
+want-none terms ps room e rule plan =
+    let a = want-exactly terms ps room .0 e in
+    harmonic-refused (wanted terms ps) ps (counted-few ps [] (a .0) .0) (a .0 .parts) (a .1) (a .2) rule plan
 
 pub want-checked : WantChecked
-want-checked ps room e plan s = want-none ps room e own plan (check-serves plan ps .0 s .2)
+want-checked terms ps room e plan s = want-none terms ps room e own plan (check-serves terms plan ps .0 s .2)
 
 pub unharmonic-exactly : UnharmonicExactly
-unharmonic-exactly ps room = (λ e. tens ps room (by ps room 10 (omega arith) (λ q. absurd (omega arith)) e .1), λ h. rw (is-ten ps room h))
+unharmonic-exactly terms ps room = (λ e. tens terms ps room (by terms ps room 10 (omega arith) (λ q. absurd (omega arith)) e .1), λ h. rw (is-ten terms ps room h))
 
 pub frame-exactly : FrameExactly
-frame-exactly ps room h = (λ e. frames ps room h (filling-as (buildOf ps room) h e), λ a. rw (is-frame ps room h a))
+frame-exactly terms ps room h = (λ e. frames terms ps room h (filling-as (buildOf terms ps room) h e), λ a. rw (is-frame terms ps room h a))
 
 pub build-one : BuildOne
-build-one ps out o o′ r r′ a b =
+build-one terms ps out o o′ r r′ a b =
     let e : r ≡ r′ = a .0 ∙ sym (b .0) in
-    (e, a .1 ∙ ap (λ (x : Filling). leftBy x (harmonicPlan ps) out) e ∙ sym (b .1))
+    (e, a .1 ∙ ap (λ (x : Filling). leftBy x (harmonicPlan (wanted terms ps) ps) out) e ∙ sym (b .1))
 
 pub proved : Proved
 proved = record {
   built-serves = built-serves;
   want-exactly = want-exactly;
+  past-cycle-want = past-cycle-want;
   want-none = want-none;
   want-checked = want-checked;
   unharmonic-exactly = unharmonic-exactly;

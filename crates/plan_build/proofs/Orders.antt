@@ -7,14 +7,16 @@ use lib.ListN.{length}
 use lib.Dec.{ltb}
 use borrow.Author.Tests.{lt-ltb, le-ltb, ltb-false}
 use native.Mathlib.Omega.{arith}
-use Rattle.rules.specs.Limits.{longest, mostPartitions}
+use Rattle.rules.specs.Limits.{longest, mostGranule, mostPartitions}
 use Rattle.rules.specs.Table.{partitions, cycle, num, den}
+use Rattle.rules.specs.Terms.{wanted}
+use Rattle.rules.specs.declared.Terms.{Terms}
 use Rattle.tables.specs.Tables.{tablesOf, GoodTables}
 use Rattle.rules.specs.declared.Finding.the-variants as found
 use Rattle.rules.specs.declared.Refusal.{Refusal}
-use Rattle.rules.specs.declared.Refusal.the-variants.{Limits, Partition, Task, Unharmonic, Want, Output}
+use Rattle.rules.specs.declared.Refusal.the-variants.{Limits, Granule, Partition, Task, Unharmonic, Want, Output}
 use Rattle.tables.proofs.Chain.{within, good-exactly, unless-given}
-use Rattle.rules.proofs.Tests.{pick-second, good-share}
+use Rattle.rules.proofs.Tests.{pick-second, good-granule, good-share}
 use Rattle.rules.proofs.Answers.{no-filling}
 use Rattle.theory.specs.Harmonic.{frame, allWanted}
 use Rattle.rules.specs.declared.Filling.{Filling}
@@ -23,54 +25,58 @@ use Rattle.plan_build.specs.Build.{unharmonic, laidOf, buildOf}
 use Rattle.plan_lay.specs.Contracts.{Layable}
 
 -- how many records a good table has
-pub counted-few : (ps ts : List ℕ) → GoodTables longest ps ts → (1 ≤ partitions ps) × (partitions ps ≤ mostPartitions)
+pub counted-few : {terms : Terms} (ps ts : List ℕ) → GoodTables terms longest ps ts → (1 ≤ partitions ps) × (partitions ps ≤ mostPartitions)
 counted-few ps ts g = let w = within longest (length ps) (length ts) (g .limits) in (w .some-part, w .few-parts)
 
-module _ (ps : List ℕ) (room : ℕ) where
-  pub laid-10 : unharmonic ps ≡ true → Refused Unharmonic ≡ laidOf ps room
+module _ (q : ℕ → ℕ) (ps : List ℕ) (room : ℕ) where
+  pub laid-10 : unharmonic ps ≡ true → Refused Unharmonic ≡ laidOf q ps room
   unfolding laidOf
   laid-10 u = rw u
 
-  module _ (u : unharmonic ps ≡ false) (h w : ℕ) (eh : h ≡ frame ps) (ew : w ≡ allWanted ps h) where
-    pub laid-11 : h < w → Refused Want ≡ laidOf ps room
+  module _ (u : unharmonic ps ≡ false) (h w : ℕ) (eh : h ≡ frame ps) (ew : w ≡ allWanted q ps h) where
+    pub laid-11 : h < w → Refused Want ≡ laidOf q ps room
     unfolding laidOf
     laid-11 m = rw (u, ← eh, ← ew, lt-ltb h w m)
 
-    pub laid-12 : w ≤ h → room < h → Refused Output ≡ laidOf ps room
+    pub laid-12 : w ≤ h → room < h → Refused Output ≡ laidOf q ps room
     unfolding laidOf
     laid-12 m o = rw (u, ← eh, ← ew, le-ltb h w m, lt-ltb room h o)
 
-    pub laid-frame : w ≤ h → h ≤ room → Fills h ≡ laidOf ps room
+    pub laid-frame : w ≤ h → h ≤ room → Fills h ≡ laidOf q ps room
     unfolding laidOf
     laid-frame m o = rw (u, ← eh, ← ew, le-ltb h w m, le-ltb room h o)
 
-  pub build-tables : (r : Refusal) → tablesOf longest ps [] ≡ found.Refused r → Refused r ≡ buildOf ps room
+module _ (terms : Terms) (ps : List ℕ) (room : ℕ) where
+  abbrev q : ℕ → ℕ
+  q = wanted terms ps
+
+  pub build-tables : (r : Refusal) → tablesOf terms longest ps [] ≡ found.Refused r → Refused r ≡ buildOf terms ps room
   unfolding buildOf
   build-tables r e = rw e
 
-  pub build-laid : tablesOf longest ps [] ≡ found.Good → (r : Filling) → r ≡ laidOf ps room → r ≡ buildOf ps room
+  pub build-laid : tablesOf terms longest ps [] ≡ found.Good → (r : Filling) → r ≡ laidOf q ps room → r ≡ buildOf terms ps room
   unfolding buildOf
   build-laid e r h = rw e h
 
-  pub good-few : tablesOf longest ps [] ≡ found.Good → partitions ps ≤ mostPartitions
-  good-few e = counted-few ps [] (good-exactly longest ps [] .0 e) .1
+  pub good-few : tablesOf terms longest ps [] ≡ found.Good → (terms .granule ≤ mostGranule) × (partitions ps ≤ mostPartitions)
+  good-few e = let g = good-exactly terms longest ps [] .0 e in (good-granule (terms .granule) (g .granule) .1, counted-few ps [] g .1)
 
 -- ---- what an answer says
 
-pub record Laid (ps : List ℕ) (room h : ℕ) : Type 0 where
-  pub good : GoodTables longest ps []
+pub record Laid (terms : Terms) (ps : List ℕ) (room h : ℕ) : Type 0 where
+  pub good : GoodTables terms longest ps []
   pub harmonic : unharmonic ps ≡ false
-  pub enough : allWanted ps (frame ps) ≤ frame ps
+  pub enough : allWanted (wanted terms ps) ps (frame ps) ≤ frame ps
   pub is-frame : h ≡ frame ps
   pub fits : h ≤ room
 
-module _ (ps : List ℕ) (room : ℕ) where
-  pub laid : (h : ℕ) → buildOf ps room ≡ Fills h → Laid ps room h
+module _ (terms : Terms) (ps : List ℕ) (room : ℕ) where
+  pub laid : (h : ℕ) → buildOf terms ps room ≡ Fills h → Laid terms ps room h
   unfolding buildOf laidOf
   laid h e =
-      let a = unless-given longest ps [] Refused (laidOf ps room) (Fills h) (no-filling h Limits) (λ k. no-filling h (Partition k)) (λ j. no-filling h (Task (j + 1))) e in
+      let a = unless-given terms longest ps [] Refused (laidOf (wanted terms ps) ps room) (Fills h) (no-filling h Limits) (λ g. no-filling h Granule) (λ k. no-filling h (Partition k)) (λ j. no-filling h (Task (j + 1))) e in
       let d = pick-second (unharmonic ps) _ _ (Fills h) (no-filling h _) (a .1) in
-      let w = pick-second (ltb (frame ps) (allWanted ps (frame ps))) _ _ (Fills h) (no-filling h _) (d .1) in
+      let w = pick-second (ltb (frame ps) (allWanted (wanted terms ps) ps (frame ps))) _ _ (Fills h) (no-filling h _) (d .1) in
       let o = pick-second (ltb room (frame ps)) _ _ (Fills h) (no-filling h _) (w .1) in
       let eh : h ≡ frame ps = cc (o .1) in
       record {
@@ -81,5 +87,5 @@ module _ (ps : List ℕ) (room : ℕ) where
         fits = omega (arith, ltb-false room (frame ps) (o .0));
       }
 
-pub layable : (ps : List ℕ) → GoodTables longest ps [] → Layable ps
+pub layable : {terms : Terms} (ps : List ℕ) → GoodTables terms longest ps [] → Layable ps
 layable ps g = record { few = counted-few ps [] g .1; cycles = λ k l. good-share longest (cycle ps k) (num ps k) (den ps k) (g .parts k l) .0 }

@@ -1,4 +1,4 @@
--- What the builder answers. Assumes nothing.
+-- What the builder answers, where the partition at place k wants q k. Assumes nothing.
 use Prim.Native.Nat.{ℕ}
 use mathlib.Core.Path.{_≡_}
 use mathlib.Core.List.{List, []}
@@ -8,6 +8,8 @@ use lib.ListN.{length}
 use Rattle.rules.specs.Walk.{pick, fails, some}
 use Rattle.rules.specs.Limits.{longest}
 use Rattle.rules.specs.Table.{partitions}
+use Rattle.rules.specs.Terms.{wanted}
+use Rattle.rules.specs.declared.Terms.{Terms}
 use Rattle.tables.specs.Tables.{tablesOf, unless}
 use Rattle.rules.specs.declared.Refusal.the-variants.{Unharmonic, Want, Output}
 use Rattle.theory.specs.Harmonic.{pairs, frame, allWanted, harmonicPlan}
@@ -20,15 +22,15 @@ unfoldable pub unharmonic : List ℕ → Bool
 unharmonic ps = some (λ k. some (fails (pairs ps k)) k) (partitions ps)
 
 -- 10 "cycles not harmonic", 11 "want of ticks", 12 "output shorter than needed": of a good table, for an output of so many ticks
-unfoldable pub laidOf : List ℕ → ℕ → Filling
-laidOf ps room =
+unfoldable pub laidOf : (ℕ → ℕ) → List ℕ → ℕ → Filling
+laidOf q ps room =
     let h = frame ps in
-    pick (unharmonic ps) (Refused Unharmonic) (pick (ltb h (allWanted ps h)) (Refused Want) (pick (ltb room h) (Refused Output) (Fills h)))
+    pick (unharmonic ps) (Refused Unharmonic) (pick (ltb h (allWanted q ps h)) (Refused Want) (pick (ltb room h) (Refused Output) (Fills h)))
 
--- "the builder 3, 6, 10, 11, 12"
-unfoldable pub buildOf : List ℕ → ℕ → Filling
-buildOf ps room = unless Refused (tablesOf longest ps []) (laidOf ps room)
+-- "the builder 3, 6, 10, 11, 12" with "21, after 3"
+unfoldable pub buildOf : Terms → List ℕ → ℕ → Filling
+buildOf terms ps room = unless Refused (tablesOf terms longest ps []) (laidOf (wanted terms ps) ps room)
 
 -- the answer r of the call, and o what the output then holds
-abbrev pub Builds : List ℕ → List ℕ → List ℕ → Filling → Type 0
-Builds ps out o r = (r ≡ buildOf ps (length out)) × (o ≡ leftBy r (harmonicPlan ps) out)
+abbrev pub Builds : Terms → List ℕ → List ℕ → List ℕ → Filling → Type 0
+Builds terms ps out o r = (r ≡ buildOf terms ps (length out)) × (o ≡ leftBy r (harmonicPlan (wanted terms ps) ps) out)

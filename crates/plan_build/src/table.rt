@@ -1,10 +1,12 @@
 // What a table asks for: cycles of which one divides the other, the frame, and the ticks that all want in it.
+use rules::Terms;
 ghost use mathlib.Core.Path.{_≡_};
 ghost use Prim.Native.Nat.{_%_, _^_, _≤_, _<_};
 ghost use lib.Dec.{eqb};
 ghost use Rattle.rules.specs.Walk.{fails};
-ghost use Rattle.rules.specs.Limits.{mostPartitions};
+ghost use Rattle.rules.specs.Limits.{mostGranule, mostPartitions};
 ghost use Rattle.rules.specs.Table.{partitions};
+ghost use Rattle.rules.specs.Terms.{wanted};
 ghost use Rattle.theory.specs.Harmonic.{pairs, frame, allWanted};
 ghost use Rattle.plan_build.specs.Build.{unharmonic};
 ghost use Rattle.plan_build.specs.Contracts.{clashes};
@@ -76,27 +78,27 @@ pub fn unharmonic(parts: &[u16]) -> bool
 }
 
 // What place k wants in a frame of h ticks.
-fn wanted_in(parts: &[u16], h: usize, k: usize) -> usize
-    requires { ⌜ h < 2 ^ 16 ⌝ }
-    ensures { λ r. ⌜ (r < 2 ^ 48) × (r ≡ wantedIn (now (parts .entry)) h k) ⌝ }
+fn wanted_in(terms: Terms, parts: &[u16], h: usize, k: usize) -> usize
+    requires { ⌜ (terms .granule ≤ mostGranule) × (h < 2 ^ 16) ⌝ }
+    ensures { λ r. ⌜ (r < 2 ^ 53) × (r ≡ wantedIn (wanted terms (now (parts .entry))) (now (parts .entry)) h k) ⌝ }
 {
     let m = rules::records::cycle(parts, k);
     if m == 0 {
         return 0;
     }
-    rules::records::wanted(parts, k) * (h / rules::numbers::wide(m))
+    rules::records::wanted(terms, parts, k) * (h / rules::numbers::wide(m))
 }
 
 // What all want together in it: the sum of q·H/m.
-pub fn all_wanted(parts: &[u16], h: usize) -> usize
-    requires { ⌜ (h < 2 ^ 16) × (partitions (now parts) ≤ mostPartitions) ⌝ }
-    ensures { λ r. ⌜ r ≡ allWanted (now (parts .entry)) h ⌝ }
+pub fn all_wanted(terms: Terms, parts: &[u16], h: usize) -> usize
+    requires { ⌜ (terms .granule ≤ mostGranule) × (h < 2 ^ 16) × (partitions (now parts) ≤ mostPartitions) ⌝ }
+    ensures { λ r. ⌜ r ≡ allWanted (wanted terms (now (parts .entry))) (now (parts .entry)) h ⌝ }
 {
     let n = rules::records::partitions(parts);
     let mut all = 0;
     let mut k = 0;
     while k < n {
-        all = all + wanted_in(parts, h, k);
+        all = all + wanted_in(terms, parts, h, k);
         k += 1;
     }
     all

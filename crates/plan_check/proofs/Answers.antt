@@ -1,102 +1,76 @@
 -- What the checker's answers mean. Assumes nothing.
 use Prim.Native.Nat.{ℕ, _+_, _≤_, _<_}
-use mathlib.Core.Path.{_≡_, refl, sym, _∙_}
+use mathlib.Core.Path.{_≡_, refl, sym, ap, subst, _∙_}
+use mathlib.Core.Logic.{_⊎_, inl, inr}
 use mathlib.Core.Bool.{true, false}
 use mathlib.Core.List.{List, []}
 use lib.ListN.{length}
 use lib.Dec.{ltb}
-use borrow.Author.Tests.{le-ltb, ltb-true, ltb-false}
+use borrow.Author.Tests.{lt-ltb, le-ltb, ltb-true, ltb-false}
 use native.Mathlib.Omega.{arith}
 use Rattle.rules.specs.Walk.{Every}
-use Rattle.rules.specs.Table.{partitions, cycle, wanted, goodTick}
-use Rattle.tables.specs.Tables.{GoodTables}
+use Rattle.rules.specs.Table.{partitions, cycle, num, den, goodTick}
+use Rattle.rules.specs.Terms.{usual, wanted}
+use Rattle.rules.specs.declared.Terms.{Terms}
+use Rattle.tables.specs.Tables.{GoodTables, unless, ticksJudged}
 use Rattle.rules.specs.declared.Finding.{Finding}
 use Rattle.rules.specs.declared.Finding.the-variants.{Good, Refused}
-use Rattle.rules.specs.declared.Refusal.the-variants.{Limits, Partition, Task, Tick, Shortfall}
-use Rattle.rules.proofs.First.{first-none, first-past, first-before, first-at}
-use Rattle.rules.specs.Refusals.{telling}
+use Rattle.rules.specs.declared.Refusal.the-variants.{Limits, Granule, Partition, Task, Tick, Shortfall}
+use Rattle.rules.proofs.First.{first-none, first-past, first-before, first-at, first-upto, some-at}
+use Rattle.rules.specs.Refusals.{telling, toldFinding}
 use Rattle.rules.proofs.Known.{found-refused}
-use Rattle.rules.proofs.Tests.{pick-first, pick-second}
-use Rattle.tables.proofs.Chain.{not-good, lowest-none, good-lowest, within, unless-given, unless-good}
-use Rattle.theory.specs.Plan.{own, held, Serves}
-use Rattle.theory.proofs.Plan.{serves-in-frame}
+use Rattle.rules.proofs.Tests.{pick-first, pick-second, good-granule}
+use Rattle.tables.proofs.Chain.{not-good, lowest-none, good-lowest, within, unless-given, unless-good, usual-good}
+use Rattle.rules.proofs.Sum.{le-or-lt}
+use Rattle.theory.specs.Plan.{own, service, held, Serves}
+use Rattle.theory.proofs.Plan.{held-le, serves-in-frame}
+use Rattle.theory.proofs.Wants.{wants-no-less}
 use Rattle.plan_check.specs.Check.{shortAt, scanOf, planCheckOf, checkOf}
 use Rattle.plan_check.proofs.Orders.{shortIn, shortStart, shortPart, shortfall}
-use Rattle.plan_check.specs.Theorems.{CheckServes, FallsShort, CheckShort, CheckOne, Proved}
+use Rattle.plan_check.specs.Theorems.{CheckServes, AcceptedWithout, FallsShort, CheckShort, ShortFrom0, CheckPastCycle, CheckOne, Proved}
 
 -- a plan with good tables has ticks
-pub frame-some : {f : ℕ} (ps ts : List ℕ) → GoodTables f ps ts → 0 < f
-frame-some {f} ps ts g = within f (length ps) (length ts) (g .limits) .some-frame
+pub frame-some : {terms : Terms} {f : ℕ} (ps ts : List ℕ) → GoodTables terms f ps ts → 0 < f
+frame-some {f = f} ps ts g = within f (length ps) (length ts) (g .limits) .some-frame
 
-module _ (plan ps : List ℕ) where
+module _ (q : ℕ → ℕ) (plan ps : List ℕ) where
   -- ---- the scan
 
-  fed : (k s : ℕ) → shortAt plan ps k s ≡ false → wanted ps k ≤ held own plan (k + 1) (cycle ps k) s
+  fed : (k s : ℕ) → shortAt q plan ps k s ≡ false → q k ≤ held own plan (k + 1) (cycle ps k) s
   unfolding shortAt
   fed k s e = ltb-false _ _ e
 
   module _ (full : 0 < length plan) where
-    fed-all : (k : ℕ) → shortIn plan ps k ≡ false → (s : ℕ) → wanted ps k ≤ held own plan (k + 1) (cycle ps k) s
-    fed-all k e = serves-in-frame own plan (k + 1) (wanted ps k) (cycle ps k) full (λ s l. fed k s (first-past _ (length plan) (ltb-false _ _ e) s l))
+    fed-all : (k : ℕ) → shortIn q plan ps k ≡ false → (s : ℕ) → q k ≤ held own plan (k + 1) (cycle ps k) s
+    fed-all k e = serves-in-frame own plan (k + 1) (q k) (cycle ps k) full (λ s l. fed k s (first-past _ (length plan) (ltb-false _ _ e) s l))
 
-    scan-serves : scanOf plan ps ≡ Good → Serves own plan ps
+    scan-serves : scanOf q plan ps ≡ Good → Serves own q plan ps
     unfolding scanOf
     scan-serves e k s l =
-        let w = pick-second (ltb (shortPart plan ps) (partitions ps)) _ _ Good (not-good _) e in
+        let w = pick-second (ltb (shortPart q plan ps) (partitions ps)) _ _ Good (not-good _) e in
         fed-all k (first-past _ (partitions ps) (ltb-false _ _ (w .0)) k l) s
 
-  serves-scan : Serves own plan ps → scanOf plan ps ≡ Good
+  serves-scan : Serves own q plan ps → scanOf q plan ps ≡ Good
   unfolding scanOf shortAt
   serves-scan h =
-      let none : (k : ℕ) → k < partitions ps → shortIn plan ps k ≡ false =
-      λ k l. rw (first-none (shortAt plan ps k) (length plan) (λ s m. le-ltb _ _ (h k s l))) (le-ltb (length plan) (length plan) (omega arith)) in
-      rw (first-none (shortIn plan ps) (partitions ps) none, le-ltb (partitions ps) (partitions ps) (omega arith))
+      let none : (k : ℕ) → k < partitions ps → shortIn q plan ps k ≡ false =
+      λ k l. rw (first-none (shortAt q plan ps k) (length plan) (λ s m. le-ltb _ _ (h k s l))) (le-ltb (length plan) (length plan) (omega arith)) in
+      rw (first-none (shortIn q plan ps) (partitions ps) none, le-ltb (partitions ps) (partitions ps) (omega arith))
 
-  -- ---- accepted
-
-  -- every owner is 0 or a partition of the table
-  abbrev Owned : Type 0
-  Owned = Every (goodTick (partitions ps) plan) (length plan)
-
-  accepted : checkOf plan ps ≡ Good → GoodTables (length plan) ps [] × Owned × Serves own plan ps
-  unfolding checkOf planCheckOf
-  accepted e =
-      let a = unless-given (length plan) ps [] Refused (planCheckOf plan ps) Good (not-good Limits) (λ k. not-good (Partition k)) (λ j. not-good (Task (j + 1))) e in
-      let b = lowest-none Tick (goodTick (partitions ps) plan) (length plan) Refused (scanOf plan ps) Good (not-good _) (a .1) in
-      (a .0, b .0, scan-serves (frame-some ps [] (a .0)) (b .1))
-
-  accepts : GoodTables (length plan) ps [] × Owned × Serves own plan ps → checkOf plan ps ≡ Good
-  unfolding checkOf planCheckOf
-  accepts (g, t, s) =
-      let f = length plan in
-      unless-good f ps [] Refused (planCheckOf plan ps) g ∙ rw (good-lowest Tick (goodTick (partitions ps) plan) f t) (serves-scan s)
-
-  -- ---- refusal 9
-
+  -- what stops the scan
   module _ (p s h w : ℕ) where
     abbrev nine : Finding
     nine = Refused (Shortfall p s h w)
 
-    scanned : checkOf plan ps ≡ nine → (0 < length plan) × (scanOf plan ps ≡ nine)
-    unfolding checkOf planCheckOf
-    scanned e =
-        let a = unless-given (length plan) ps [] Refused (planCheckOf plan ps) nine
-        (λ q. let z : _≡_ {A = ℕ} 0 1 = cc in absurd (omega arith))
-        (λ k q. let z : _≡_ {A = ℕ} 0 1 = cc in absurd (omega arith))
-        (λ j q. let z : _≡_ {A = ℕ} 0 1 = cc in absurd (omega arith))
-        e in
-        let d = lowest-none Tick (goodTick (partitions ps) plan) (length plan) Refused (scanOf plan ps) nine (λ q. let z : _≡_ {A = ℕ} 0 1 = cc in absurd (omega arith)) (a .1) in
-        (frame-some ps [] (a .0), d .1)
-
-    stopped : (k : ℕ) → k ≡ shortPart plan ps → 0 < length plan → k < partitions ps → Refused (shortfall plan ps k (shortStart plan ps k)) ≡ nine → FallsShort plan ps p s h w
+    stopped : (k : ℕ) → k ≡ shortPart q plan ps → 0 < length plan → k < partitions ps → Refused (shortfall q plan ps k (shortStart q plan ps k)) ≡ nine → FallsShort q plan ps p s h w
     unfolding shortAt
     stopped k ek full inside e =
-        let here : shortIn plan ps k ≡ true = rw ek (first-at (shortIn plan ps) (partitions ps) (rw (← ek) inside)) in
-        let low : shortStart plan ps k < length plan = ltb-true _ _ here in
+        let here : shortIn q plan ps k ≡ true = rw ek (first-at (shortIn q plan ps) (partitions ps) (rw (← ek) inside)) in
+        let low : shortStart q plan ps k < length plan = ltb-true _ _ here in
         let ep : p ≡ k + 1 = cc in
-        let es : s ≡ shortStart plan ps k = cc in
-        let eh : h ≡ held own plan (k + 1) (cycle ps k) (shortStart plan ps k) = cc in
-        let ew : w ≡ wanted ps k = cc in
+        let es : s ≡ shortStart q plan ps k = cc in
+        let eh : h ≡ held own plan (k + 1) (cycle ps k) (shortStart q plan ps k) = cc in
+        let ew : w ≡ q k = cc in
         record {
           place = k;
           partition = ep;
@@ -104,26 +78,117 @@ module _ (plan ps : List ℕ) where
           in-frame = rw es low;
           holds = rw (ep, es) eh;
           wants = ew;
-          short = rw (eh, ew) (ltb-true _ _ (first-at (shortAt plan ps k) (length plan) low));
-          lowest-start = λ u l. rw (ep, ew) (fed k u (first-before (shortAt plan ps k) (length plan) u (rw es at l)));
-          lowest-partition = λ j l. fed-all full j (first-before (shortIn plan ps) (partitions ps) j (rw (← ek) l));
+          short = rw (eh, ew) (ltb-true _ _ (first-at (shortAt q plan ps k) (length plan) low));
+          lowest-start = λ u l. rw (ep, ew) (fed k u (first-before (shortAt q plan ps k) (length plan) u (rw es at l)));
+          lowest-partition = λ j l. fed-all full j (first-before (shortIn q plan ps) (partitions ps) j (rw (← ek) l));
         }
 
-    short : checkOf plan ps ≡ nine → FallsShort plan ps p s h w
+    short-scan : 0 < length plan → scanOf q plan ps ≡ nine → FallsShort q plan ps p s h w
     unfolding scanOf
-    short e =
-        let a = scanned e in
-        let b = pick-first (ltb (shortPart plan ps) (partitions ps)) _ _ nine (λ q. let z : _≡_ {A = ℕ} 0 1 = cc in absurd (omega arith)) (a .1) in
-        stopped (shortPart plan ps) refl (a .0) (ltb-true _ _ (b .0)) (b .1)
+    short-scan full e =
+        let b = pick-first (ltb (shortPart q plan ps) (partitions ps)) _ _ nine (λ q. let z : _≡_ {A = ℕ} 0 1 = cc in absurd (omega arith)) e in
+        stopped (shortPart q plan ps) refl full (ltb-true _ _ (b .0)) (b .1)
+
+  -- a place that wants more than its cycle has
+  module _ (k : ℕ) (inside : k < partitions ps) (past : cycle ps k < q k) (full : 0 < length plan) where
+    start-0 : shortAt q plan ps k 0 ≡ true
+    unfolding shortAt
+    start-0 = lt-ltb (held own plan (k + 1) (cycle ps k) 0) (q k) (omega (arith, past, held-le (service own plan) (k + 1) (cycle ps k) 0))
+
+    at-0 : shortStart q plan ps k ≡ 0
+    at-0 = omega (arith, first-upto (shortAt q plan ps k) (length plan) 0 start-0)
+
+    none-above : shortPart q plan ps ≤ k
+    none-above = first-upto (shortIn q plan ps) (partitions ps) k (some-at (shortAt q plan ps k) (length plan) 0 full start-0)
+
+    pub past-cycle : (p s h w : ℕ) × (scanOf q plan ps ≡ Refused (Shortfall p s h w)) × ((p < k + 1) ⊎ ((p ≡ k + 1) × (s ≡ 0)))
+    unfolding scanOf
+    past-cycle =
+        let j = shortPart q plan ps in
+        (j + 1, shortStart q plan ps j, held own plan (j + 1) (cycle ps j) (shortStart q plan ps j), q j, rw (lt-ltb j (partitions ps) (omega (arith, none-above))), where-it-is (le-or-lt k j))
+      where
+        where-it-is : (k ≤ shortPart q plan ps) ⊎ (shortPart q plan ps < k) → (shortPart q plan ps + 1 < k + 1) ⊎ ((shortPart q plan ps + 1 ≡ k + 1) × (shortStart q plan ps (shortPart q plan ps) ≡ 0))
+        where-it-is (inl l) = let e : shortPart q plan ps ≡ k = omega (arith, none-above) in inr (omega arith, rw e at-0)
+        where-it-is (inr l) = inl (omega arith)
+
+module _ (terms : Terms) (plan ps : List ℕ) where
+  abbrev q : ℕ → ℕ
+  q = wanted terms ps
+
+  -- ---- accepted
+
+  -- every owner is 0 or a partition of the table
+  abbrev Owned : Type 0
+  Owned = Every (goodTick (partitions ps) plan) (length plan)
+
+  accepted : checkOf terms plan ps ≡ Good → GoodTables terms (length plan) ps [] × Owned × Serves own q plan ps
+  unfolding checkOf planCheckOf
+  accepted e =
+      let a = unless-given terms (length plan) ps [] Refused (planCheckOf q plan ps) Good (not-good Limits) (λ g. not-good Granule) (λ k. not-good (Partition k)) (λ j. not-good (Task (j + 1))) e in
+      let b = lowest-none Tick (goodTick (partitions ps) plan) (length plan) Refused (scanOf q plan ps) Good (not-good _) (a .1) in
+      (a .0, b .0, scan-serves q plan ps (frame-some ps [] (a .0)) (b .1))
+
+  accepts : GoodTables terms (length plan) ps [] × Owned × Serves own q plan ps → checkOf terms plan ps ≡ Good
+  unfolding checkOf planCheckOf
+  accepts (g, t, s) =
+      let f = length plan in
+      unless-good terms f ps [] Refused (planCheckOf q plan ps) g ∙ rw (good-lowest Tick (goodTick (partitions ps) plan) f t) (serves-scan q plan ps s)
+
+  -- ---- refusal 9
+
+  scanned : (p s h w : ℕ) → checkOf terms plan ps ≡ Refused (Shortfall p s h w) → (0 < length plan) × (scanOf q plan ps ≡ Refused (Shortfall p s h w))
+  unfolding checkOf planCheckOf
+  scanned p s h w e =
+      let nine : Finding = Refused (Shortfall p s h w) in
+      let a = unless-given terms (length plan) ps [] Refused (planCheckOf q plan ps) nine
+      (λ q. let z : _≡_ {A = ℕ} 0 1 = cc in absurd (omega arith))
+      (λ g q. let z : _≡_ {A = ℕ} 0 1 = cc in absurd (omega arith))
+      (λ k q. let z : _≡_ {A = ℕ} 0 1 = cc in absurd (omega arith))
+      (λ j q. let z : _≡_ {A = ℕ} 0 1 = cc in absurd (omega arith))
+      e in
+      let d = lowest-none Tick (goodTick (partitions ps) plan) (length plan) Refused (scanOf q plan ps) nine (λ q. let z : _≡_ {A = ℕ} 0 1 = cc in absurd (omega arith)) (a .1) in
+      (frame-some ps [] (a .0), d .1)
+
+  short : (p s h w : ℕ) → checkOf terms plan ps ≡ Refused (Shortfall p s h w) → FallsShort q plan ps p s h w
+  short p s h w e = let a = scanned p s h w e in short-scan q plan ps p s h w (a .0) (a .1)
 
 pub check-serves : CheckServes
-check-serves plan ps = (accepted plan ps, accepts plan ps)
+check-serves terms plan ps = (accepted terms plan ps, accepts terms plan ps)
+
+pub accepted-without : AcceptedWithout
+accepted-without terms plan ps e =
+    let a = accepted terms plan ps e in
+    let g : GoodTables usual (length plan) ps [] = record { limits = a .0 .limits; granule = usual-good; parts = a .0 .parts; tasks = a .0 .tasks } in
+    let less : (k : ℕ) → wanted usual ps k ≤ wanted terms ps k =
+    λ k. wants-no-less (terms .granule) (cycle ps k) (num ps k) (den ps k) (good-granule (terms .granule) (a .0 .granule) .0) in
+    accepts usual plan ps (g, a .1, λ k s l. omega (arith, less k, a .2 k s l))
 
 pub check-short : CheckShort
-check-short plan ps p s h w e = short plan ps p s h w (found-refused (checkOf plan ps) (telling 9 p s h w) (omega arith) (λ q. absurd (omega arith)) e)
+check-short terms plan ps p s h w e = short terms plan ps p s h w (found-refused (checkOf terms plan ps) (telling 9 p s h w) (omega arith) (λ q. absurd (omega arith)) e)
+
+-- of good records and ticks, 9 as the scan says
+pub short-from-0 : (q : ℕ → ℕ) (plan ps : List ℕ) → 0 < length plan → Every (goodTick (partitions ps) plan) (length plan) → ShortFrom0 q plan ps (toldFinding (planCheckOf q plan ps))
+unfolding planCheckOf
+short-from-0 q plan ps full owned k inside past =
+    let a = past-cycle q plan ps k inside past full in
+    let e : unless Refused (ticksJudged plan ps) (scanOf q plan ps) ≡ Refused (Shortfall (a .0) (a .1) (a .2) (a .3)) =
+    rw (good-lowest Tick (goodTick (partitions ps) plan) (length plan) owned) (a .4) in
+    (a .0, a .1, a .2, a .3, ap toldFinding e, short-scan q plan ps (a .0) (a .1) (a .2) (a .3) full (a .4), a .5)
+
+pub check-past-cycle : CheckPastCycle
+unfolding checkOf
+check-past-cycle terms plan ps good owned =
+    let e : checkOf terms plan ps ≡ planCheckOf (wanted terms ps) plan ps = unless-good terms (length plan) ps [] Refused (planCheckOf (wanted terms ps) plan ps) good in
+    subst (λ (f : Finding). ShortFrom0 (wanted terms ps) plan ps (toldFinding f)) (sym e) (short-from-0 (wanted terms ps) plan ps (frame-some ps [] good) owned)
 
 pub check-one : CheckOne
-check-one plan ps r r′ e f = e ∙ sym f
+check-one terms plan ps r r′ e f = e ∙ sym f
 
 pub proved : Proved
-proved = record { check-serves = check-serves; check-short = check-short; check-one = check-one }
+proved = record {
+  check-serves = check-serves;
+  accepted-without = accepted-without;
+  check-short = check-short;
+  check-past-cycle = check-past-cycle;
+  check-one = check-one;
+}

@@ -1,13 +1,15 @@
 // The checker: whether every stretch of a plan holds what each partition wants.
 use rules::Finding;
 use rules::Refusal;
+use rules::Terms;
 ghost use mathlib.Core.Path.{_≡_};
+ghost use Rattle.rules.specs.Terms.{wanted};
 ghost use Rattle.plan_check.specs.Check.{scanOf, planCheckOf, Checks};
 
 // Refusal 9 alone: the lowest partition's lowest start whose stretch holds too little. It is public for a caller
 // whose plan is judged already, as the listing's is by the reader.
-pub fn scan(plan: &[u16], parts: &[u16]) -> Finding
-    ensures { λ r. ⌜ r ≡ scanOf (now (plan .entry)) (now (parts .entry)) ⌝ }
+pub fn scan(terms: Terms, plan: &[u16], parts: &[u16]) -> Finding
+    ensures { λ r. ⌜ r ≡ scanOf (wanted terms (now (parts .entry))) (now (plan .entry)) (now (parts .entry)) ⌝ }
 {
     let f = plan.len();
     let n = rules::records::partitions(parts);
@@ -15,7 +17,7 @@ pub fn scan(plan: &[u16], parts: &[u16]) -> Finding
     let mut k = 0;
     'scan: while k < n {
         let m = rules::numbers::wide(rules::records::cycle(parts, k));
-        let q = rules::records::wanted(parts, k);
+        let q = rules::records::wanted(terms, parts, k);
         let mut stretch = plan_service::stretch_from(plan, k + 1, m, 0);
         while stretch.start < f {
             if stretch.held < q {
@@ -35,23 +37,23 @@ pub fn scan(plan: &[u16], parts: &[u16]) -> Finding
 }
 
 // Refusals 8 and 9, of tables whose numbers are within their limits.
-pub fn check_plan(plan: &[u16], parts: &[u16]) -> Finding
-    ensures { λ r. ⌜ r ≡ planCheckOf (now (plan .entry)) (now (parts .entry)) ⌝ }
+pub fn check_plan(terms: Terms, plan: &[u16], parts: &[u16]) -> Finding
+    ensures { λ r. ⌜ r ≡ planCheckOf (wanted terms (now (parts .entry))) (now (plan .entry)) (now (parts .entry)) ⌝ }
 {
     let ticks = tables::judge_ticks(plan, parts);
     match ticks {
         Finding::Refused(r) => Finding::Refused(r),
-        Finding::Good => scan(plan, parts),
+        Finding::Good => scan(terms, plan, parts),
     }
 }
 
 // Whether the plan serves the table.
-pub fn check(plan: &[u16], parts: &[u16]) -> Finding
-    ensures { λ r. ⌜ Checks (now (plan .entry)) (now (parts .entry)) r ⌝ }
+pub fn check(terms: Terms, plan: &[u16], parts: &[u16]) -> Finding
+    ensures { λ r. ⌜ Checks terms (now (plan .entry)) (now (parts .entry)) r ⌝ }
 {
-    let tables = tables::judge_partitions(plan.len(), parts);
+    let tables = tables::judge_partitions(terms, plan.len(), parts);
     match tables {
         Finding::Refused(r) => Finding::Refused(r),
-        Finding::Good => check_plan(plan, parts),
+        Finding::Good => check_plan(terms, plan, parts),
     }
 }

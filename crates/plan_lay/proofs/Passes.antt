@@ -13,7 +13,7 @@ use Rattle.rules.specs.Walk.{pick, only, walk}
 use Rattle.rules.proofs.First.{walk-zero, walk-more}
 use Rattle.rules.proofs.Sum.{only-self, count-ext}
 use Rattle.theory.specs.Plan.{owned}
-use Rattle.rules.specs.Table.{cycle, wanted}
+use Rattle.rules.specs.Table.{cycle}
 use Rattle.rules.specs.Contracts.{AsNamed}
 use Rattle.rules.proofs.Named.{named-none, named-turn, named-as, named-then}
 use Rattle.theory.specs.Harmonic.{taken, give, turn, planned}
@@ -40,22 +40,25 @@ give-same p q m o o′ t e =
     rw (e t (omega arith), c)
 
 -- the numbers that a turn gives by
-pub turn-is : (ps : List ℕ) (r k q m h : ℕ) (o : ℕ → ℕ) (before after : List ℕ) → k ≡ taken ps r → q ≡ wanted ps k → m ≡ cycle ps k
-    → AsNamed (give (k + 1) q m o) h before after → AsNamed (turn ps r o) h before after
+pub turn-is : (q : ℕ → ℕ) (ps : List ℕ) (r k w m h : ℕ) (o : ℕ → ℕ) (before after : List ℕ) → k ≡ taken ps r → w ≡ q k → m ≡ cycle ps k
+    → AsNamed (give (k + 1) w m o) h before after → AsNamed (turn q ps r o) h before after
 unfolding turn
-turn-is ps r k q m h o before after ek eq em w = rw (← ek, ← eq, ← em) w
+turn-is q ps r k w m h o before after ek ew em v = rw (← ek, ← ew, ← em) v
 
--- one partition's turn, on what the turns before it left
-pub planned-turn : (ps : List ℕ) (r h : ℕ) (before cur after : List ℕ) → AsNamed (planned ps r) h before cur → AsNamed (turn ps r (tickOf cur)) h cur after → AsNamed (planned ps (r + 1)) h before after
-unfolding planned turn
-planned-turn ps r h before cur after v w =
-    named-then (planned ps r) (planned ps (r + 1)) h before cur after v
-    (named-as (turn ps r (tickOf cur)) (planned ps (r + 1)) h cur after
-    (λ t l. give-same _ _ _ (tickOf cur) (planned ps r) t (λ u g. v .done u (omega arith)) ∙ sym (ap (λ (f : ℕ → ℕ). f t) (walk-more (turn ps) idle r))) w)
+module _ (q : ℕ → ℕ) (ps : List ℕ) where
+  -- one partition's turn, on what the turns before it left
+  pub planned-turn : (r h : ℕ) (before cur after : List ℕ) → AsNamed (planned q ps r) h before cur → AsNamed (turn q ps r (tickOf cur)) h cur after
+      → AsNamed (planned q ps (r + 1)) h before after
+  unfolding planned turn
+  planned-turn r h before cur after v w =
+      named-then (planned q ps r) (planned q ps (r + 1)) h before cur after v
+      (named-as (turn q ps r (tickOf cur)) (planned q ps (r + 1)) h cur after
+      (λ t l. give-same _ _ _ (tickOf cur) (planned q ps r) t (λ u g. v .done u (omega arith)) ∙ sym (ap (λ (f : ℕ → ℕ). f t) (walk-more (turn q ps) idle r))) w)
 
-pub planned-none : (ps : List ℕ) (h : ℕ) (before after : List ℕ) → AsNamed idle h before after → AsNamed (planned ps 0) h before after
-unfolding planned
-planned-none ps h before after w = named-as idle (walk (turn ps) idle 0) h before after (λ t l. sym (ap (λ (f : ℕ → ℕ). f t) (walk-zero (turn ps) idle))) w
+  pub planned-none : (h : ℕ) (before after : List ℕ) → AsNamed idle h before after → AsNamed (planned q ps 0) h before after
+  unfolding planned
+  planned-none h before after w =
+      named-as idle (walk (turn q ps) idle 0) h before after (λ t l. sym (ap (λ (f : ℕ → ℕ). f t) (walk-zero (turn q ps) idle))) w
 
 -- the loop that gives, at tick t: its place in its cycle, and the idle ticks seen there
 pub record Giving (p q m : ℕ) (before : List ℕ) (t at seen : ℕ) (cur : List ℕ) : Type 0 where

@@ -1,11 +1,13 @@
 // The harmonic rule's plan, laid into the caller's output turn by turn.
 use order::taken;
+use rules::Terms;
 ghost use mathlib.Core.Path.{_≡_};
 ghost use Prim.Native.Nat.{_+_, _≤_, _<_};
 ghost use lib.ListN.{length, set};
 ghost use lib.Dec.{eqb};
 ghost use Rattle.rules.specs.Walk.{pick, only};
 ghost use Rattle.rules.specs.Table.{partitions};
+ghost use Rattle.rules.specs.Terms.{wanted};
 ghost use Rattle.rules.specs.Contracts.{AsNamed};
 ghost use Rattle.theory.specs.Harmonic.{give, turn, planned};
 ghost use Rattle.plan_lay.specs.Contracts.{tickOf, givenTick, Layable};
@@ -66,28 +68,28 @@ fn give(out: &mut [u16], h: usize, p: u16, q: usize, m: usize)
 }
 
 // The turn of the partition that is taken after r others.
-fn turn(parts: &[u16], out: &mut [u16], h: usize, r: usize)
+fn turn(terms: Terms, parts: &[u16], out: &mut [u16], h: usize, r: usize)
     requires { ⌜ Layable (now parts) × (r < partitions (now parts)) × (h ≤ length (now out)) ⌝ }
-    ensures { λ _. ⌜ AsNamed (turn (now (parts .entry)) r (tickOf (now (out .entry)))) h
+    ensures { λ _. ⌜ AsNamed (turn (wanted terms (now (parts .entry))) (now (parts .entry)) r (tickOf (now (out .entry)))) h
         (now (out .entry)) (now (out .exit)) ⌝ }
 {
     let k = taken(parts, r);
-    let q = rules::records::wanted(parts, k);
+    let q = rules::records::wanted(terms, parts, k);
     let m = rules::numbers::wide(rules::records::cycle(parts, k));
     give(out, h, (k + 1) as u16, q, m);
 }
 
 // The whole plan, in the first h ticks.
-pub fn lay(parts: &[u16], out: &mut [u16], h: usize)
+pub fn lay(terms: Terms, parts: &[u16], out: &mut [u16], h: usize)
     requires { ⌜ Layable (now parts) × (h ≤ length (now out)) ⌝ }
-    ensures { λ _. ⌜ AsNamed (planned (now (parts .entry)) (partitions (now (parts .entry)))) h
+    ensures { λ _. ⌜ AsNamed (planned (wanted terms (now (parts .entry))) (now (parts .entry)) (partitions (now (parts .entry)))) h
         (now (out .entry)) (now (out .exit)) ⌝ }
 {
     clear(out, h);
     let n = rules::records::partitions(parts);
     let mut r = 0;
     while r < n {
-        turn(parts, out, h, r);
+        turn(terms, parts, out, h, r);
         r += 1;
     }
 }

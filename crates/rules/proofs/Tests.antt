@@ -6,8 +6,9 @@ use Prim.Native.Nat.{ℕ, _≤_, _<_}
 use lib.Dec.{T, leb}
 use borrow.Author.Tests.{leb-true}
 use Rattle.rules.specs.Walk.{pick, first}
-use Rattle.rules.specs.Limits.{longest, finestShare}
+use Rattle.rules.specs.Limits.{longest, finestShare, mostGranule}
 use Rattle.rules.specs.Table.{goodShare, goodTimes}
+use Rattle.rules.specs.Terms.{goodGranule}
 use Rattle.rules.proofs.First.{first-at, first-past}
 use Rattle.rules.proofs.Sum.{le-or-lt}
 
@@ -56,6 +57,11 @@ any-or-none p n = go (le-or-lt n (first p n))
     go : (n ≤ first p n) ⊎ (first p n < n) → ((k : ℕ) × (k < n) × (p k ≡ true)) ⊎ ((k : ℕ) → k < n → p k ≡ false)
     go (inl h) = inr (first-past p n h)
     go (inr h) = inl (first p n, h, first-at p n h)
+
+-- "g from 1 to 16"
+pub good-granule : (g : ℕ) → goodGranule g ≡ true → (1 ≤ g) × (g ≤ mostGranule)
+unfolding goodGranule
+good-granule g e = let a = and-parts (leb 1 g) (leb g mostGranule) e in (leb-true 1 g (a .0), leb-true g mostGranule (a .1))
 
 -- "Share num/den with 1 ≤ num ≤ den ≤ 1,000"
 pub good-share : (limit m n d : ℕ) → goodShare limit m n d ≡ true → (1 ≤ m) × (m ≤ limit) × (1 ≤ n) × (n ≤ d) × (d ≤ finestShare)

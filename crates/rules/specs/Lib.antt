@@ -1,6 +1,7 @@
 pub mod Limits
 pub mod Walk
 pub mod Table
+pub mod Terms
 pub mod Filling
 pub mod Refusals
 pub mod Contracts

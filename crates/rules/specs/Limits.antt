@@ -17,6 +17,10 @@ longest = 4096
 abbrev pub finestShare : ℕ
 finestShare = 1000
 
+-- document 02, ask 5: "g from 1 to 16"
+abbrev pub mostGranule : ℕ
+mostGranule = 16
+
 -- "Desk: 64 jobs"
 abbrev pub places : ℕ
 places = 64

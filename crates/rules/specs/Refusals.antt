@@ -2,7 +2,7 @@
 use Prim.Native.Nat.{ℕ}
 use mathlib.Core.Path.{_≡_}
 use Rattle.rules.specs.declared.Refusal.{Refusal}
-use Rattle.rules.specs.declared.Refusal.the-variants.{Short, Edition, Limits, Offset, Length, Partition, Task, Tick, Asked, Shortfall, Unharmonic, Want, Output, Rules, Numbers, Past, Busy, Full, NoPlace, TooFar, Counts, Beyond}
+use Rattle.rules.specs.declared.Refusal.the-variants.{Short, Edition, Limits, Offset, Length, Partition, Task, Tick, Asked, Shortfall, Unharmonic, Want, Output, Rules, Numbers, Past, Busy, Full, NoPlace, TooFar, Counts, Granule, Beyond}
 use Rattle.rules.specs.declared.Told.{Told}
 use Rattle.rules.specs.declared.Finding.{Finding}
 use Rattle.rules.specs.declared.Finding.the-variants as found
@@ -44,6 +44,8 @@ told NoPlace = placed 18 0
 told TooFar = placed 19 0
 -- "a list that disagrees with the plan is 20"
 told Counts = placed 20 0
+-- "g outside 1 to 16 is 21"
+told Granule = placed 21 0
 -- "a tick outside the plan or a stretch longer than the frame is 26"
 told (Beyond question) = questioned 26 question
 

@@ -39,17 +39,13 @@ period ts j = fieldAt taskWidth ts j 3
 abbrev pub tasks : List ℕ → ℕ
 tasks ts = length ts / taskWidth
 
--- "A partition with cycle m wants q = num·m/den, rounded up to a whole number."
-unfoldable pub wants : ℕ → ℕ → ℕ → ℕ
-wants m n d = roundUp (n * m) d
+-- document 02, ask 5: "the smallest multiple of g that is at least num·m/den"
+unfoldable pub wants : ℕ → ℕ → ℕ → ℕ → ℕ
+wants g m n d = roundUp (n * m) (d * g) * g
 
 -- the answer r of the call
-abbrev pub WantsIs : ℕ → ℕ → ℕ → ℕ → Type 0
-WantsIs m n d r = r ≡ wants m n d
-
--- what the partition at place k wants
-abbrev pub wanted : List ℕ → ℕ → ℕ
-wanted ps k = wants (cycle ps k) (num ps k) (den ps k)
+abbrev pub WantsIs : ℕ → ℕ → ℕ → ℕ → ℕ → Type 0
+WantsIs g m n d r = r ≡ wants g m n d
 
 -- "Share num/den with 1 ≤ num ≤ den ≤ 1,000", and a cycle from 1 to the limit
 unfoldable pub goodShare : ℕ → ℕ → ℕ → ℕ → Bool

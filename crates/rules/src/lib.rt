@@ -1,12 +1,13 @@
 // The rules that every call shares: limits, tables behind accessors, and why a call refuses.
 ghost use mathlib.Core.Path.{_≡_};
 ghost use Rattle.rules.specs.Refusals.{told, placed, questioned};
+ghost use Rattle.rules.specs.Terms.{usual};
 
 pub mod limits; // limits.rt: every limit and width by name
 pub mod numbers; // numbers.rt: what numbers need everywhere
 pub mod records; // records.rt: the tables behind accessors, and ticks wanted
 
-// Why a call refuses: document 01's table, from 1 to 19, and 20 and 26 of document 02.
+// Why a call refuses: document 01's table, from 1 to 19, and 20, 21 and 26 of document 02.
 pub enum Refusal {
     Short,
     Edition,
@@ -34,6 +35,7 @@ pub enum Refusal {
     NoPlace,
     TooFar,
     Counts,
+    Granule,
     Beyond(usize),
 }
 
@@ -47,6 +49,11 @@ pub struct Told {
     pub fourth: usize,
 }
 
+// The terms of a call: what is given with it besides its tables and its plan.
+pub struct Terms {
+    pub granule: usize,
+}
+
 // What is found of a call's tables or its plan: nothing tells against them, or a refusal.
 pub enum Finding {
     Good,
@@ -57,6 +64,13 @@ pub enum Finding {
 pub enum Filling {
     Fills(usize),
     Refused(Refusal),
+}
+
+// The terms of a call that is given none.
+pub fn usual() -> Terms
+    ensures { λ r. ⌜ r ≡ usual ⌝ }
+{
+    Terms { granule: 1 }
 }
 
 pub fn tell(r: Refusal) -> Told
@@ -95,6 +109,7 @@ pub fn tell(r: Refusal) -> Told
         Refusal::NoPlace => numbered(18, 0),
         Refusal::TooFar => numbered(19, 0),
         Refusal::Counts => numbered(20, 0),
+        Refusal::Granule => numbered(21, 0),
         Refusal::Beyond(question) => questioned(26, question),
     }
 }

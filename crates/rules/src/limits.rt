@@ -10,6 +10,8 @@ pub const LONGEST_PERIOD: u16 = LONGEST as u16;
 
 pub const FINEST_SHARE: u16 = 1000;
 
+pub const MOST_GRANULE: usize = 16;
+
 pub const PLACES: usize = 64;
 
 pub const LATEST: u32 = 1000000;

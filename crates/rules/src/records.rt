@@ -1,8 +1,11 @@
 // The flat tables behind accessors: only these functions know how many numbers a record has.
 ghost use mathlib.Core.Path.{_≡_};
-ghost use Prim.Native.Nat.{_<_};
+ghost use Prim.Native.Nat.{_*_, _^_, _<_};
 ghost use lib.ListN.{getD};
-ghost use Rattle.rules.specs.Table.{fieldAt, cycle, num, den, partitions, partition, budget, deadline, period, tasks, WantsIs, wanted};
+ghost use Rattle.rules.specs.Walk.{roundUp};
+ghost use Rattle.rules.specs.Table.{fieldAt, cycle, num, den, partitions, partition, budget, deadline, period, tasks, WantsIs};
+ghost use Rattle.rules.specs.Terms.{wanted};
+use crate::Terms;
 use crate::limits::PART_WIDTH;
 use crate::limits::TASK_WIDTH;
 use crate::numbers::wide;
@@ -81,19 +84,34 @@ pub fn period(table: &[u16], j: usize) -> u16
     field_at(table, TASK_WIDTH, j, 3)
 }
 
-// num·m/den, rounded up (0 where den is 0).
-pub fn wants(m: u16, num: u16, den: u16) -> usize
-    ensures { λ r. ⌜ WantsIs m num den r ⌝ }
+// The smallest multiple of the granule that is at least x (0 where the granule is 0).
+fn up_to_granule(granule: usize, x: usize) -> usize
+    requires { ⌜ x < 2 ^ 33 ⌝ }
+    ensures { λ r. ⌜ r ≡ roundUp x granule * granule ⌝ }
+{
+    if granule == 0 {
+        return 0;
+    }
+    let over = x % granule;
+    if over == 0 {
+        return x;
+    }
+    x - over + granule
+}
+
+// The smallest multiple of the granule that is at least num·m/den (0 where den or the granule is 0).
+pub fn wants(granule: usize, m: u16, num: u16, den: u16) -> usize
+    ensures { λ r. ⌜ WantsIs granule m num den r ⌝ }
 {
     if den == 0 {
         return 0;
     }
-    (wide(num) * wide(m) + (wide(den) - 1)) / wide(den)
+    up_to_granule(granule, (wide(num) * wide(m) + (wide(den) - 1)) / wide(den))
 }
 
 // What the partition at place k wants.
-pub fn wanted(parts: &[u16], k: usize) -> usize
-    ensures { λ r. ⌜ r ≡ wanted (now (parts .entry)) k ⌝ }
+pub fn wanted(terms: Terms, parts: &[u16], k: usize) -> usize
+    ensures { λ r. ⌜ r ≡ wanted terms (now (parts .entry)) k ⌝ }
 {
-    wants(cycle(parts, k), num(parts, k), den(parts, k))
+    wants(terms.granule, cycle(parts, k), num(parts, k), den(parts, k))
 }

@@ -2,7 +2,7 @@
 use Prim.Native.Nat.{ℕ, _+_, _/_, _%_, _≤_, _<_}
 use mathlib.Core.Path.{_≡_, refl, sym, subst, _∙_}
 use mathlib.Core.Logic.{_↔_, _⊎_, inl, inr, ⊎-elim}
-use mathlib.Core.Bool.{Bool, true, false, not, _&&_}
+use mathlib.Core.Bool.{Bool, true, false, not, true≢false, _&&_}
 use mathlib.Core.List.{List, []}
 use native.Mathlib.Nat.{not-suc-le-zero}
 use native.Mathlib.Omega.{arith}
@@ -11,11 +11,13 @@ use lib.Dec.{ltb, leb, eqb}
 use borrow.Author.Tests.{lt-ltb, le-ltb, ltb-true, ltb-false, le-leb, leb-true, eqb-true, eq-eqb, not-true, not-false}
 use Rattle.rules.specs.Limits.{mostPartitions, mostTasks, longest, finestShare, partWidth, taskWidth}
 use Rattle.rules.specs.Walk.{pick, first, fails, Every}
+use Rattle.rules.specs.Terms.{goodGranule}
+use Rattle.rules.specs.declared.Terms.{Terms}
 use Rattle.rules.specs.Table.{partitions, cycle, num, den, tasks, goodShare, goodPart, goodTask}
 use Rattle.tables.specs.Contracts.{firstBadPart, firstBadTask, firstBadTick}
-use Rattle.tables.specs.Tables.{countedIn, withinLimits, lowest, unless, tablesOf, ticksJudged, GoodTables}
+use Rattle.tables.specs.Tables.{countedIn, withinLimits, lowest, unless, termsJudged, recordsJudged, tablesOf, ticksJudged, GoodTables}
 use Rattle.rules.specs.declared.Refusal.{Refusal}
-use Rattle.rules.specs.declared.Refusal.the-variants.{Limits, Partition, Task, Tick}
+use Rattle.rules.specs.declared.Refusal.the-variants.{Limits, Granule, Partition, Task, Tick}
 use Rattle.rules.specs.declared.Finding.{Finding}
 use Rattle.rules.specs.declared.Finding.the-variants.{Good, Refused}
 use Rattle.rules.proofs.First.{first-found, first-done, first-at, first-before, every-first, first-every}
@@ -99,18 +101,20 @@ share-within f g m n d e h =
 
 -- good tables are good for every frame that no cycle is longer than
 pub other-frame :
-    (f g : ℕ) (ps ts : List ℕ) → GoodTables f ps ts → 1 ≤ g → g ≤ longest → ((k : ℕ) → k < partitions ps → cycle ps k ≤ g)
-    → GoodTables g ps ts
+    {terms : Terms} (f g : ℕ) (ps ts : List ℕ) → GoodTables terms f ps ts → 1 ≤ g → g ≤ longest → ((k : ℕ) → k < partitions ps → cycle ps k ≤ g)
+    → GoodTables terms g ps ts
 other-frame f g ps ts a l m h = record {
   limits = within-frame f g (length ps) (length ts) (a .limits) (framed g l m);
+  granule = a .granule;
   parts = λ k i. share-within f g (cycle ps k) (num ps k) (den ps k) (a .parts k i) (h k i);
   tasks = a .tasks;
 }
 
 -- and without their tasks
-pub without-tasks : (f : ℕ) (ps ts : List ℕ) → GoodTables f ps ts → GoodTables f ps []
+pub without-tasks : {terms : Terms} (f : ℕ) (ps ts : List ℕ) → GoodTables terms f ps ts → GoodTables terms f ps []
 without-tasks f ps ts a = record {
   limits = within-none f (length ps) (length ts) (a .limits);
+  granule = a .granule;
   parts = a .parts;
   tasks = λ j l. absurd (not-suc-le-zero l);
 }
@@ -125,6 +129,11 @@ pub found-then : {A : Type 0} (b : Bool) (refused : Refusal → A) (r : Refusal)
     → unless refused (pick b (Refused r) Good) next ≡ pick b (refused r) next
 found-then true refused r next = refl
 found-then false refused r next = refl
+
+-- both are good, where nothing tells against the call
+pub both-good : (f next : Finding) → unless Refused f next ≡ Good → (f ≡ Good) × (next ≡ Good)
+both-good Good next e = (refl, e)
+both-good (Refused r) next e = absurd (not-good r e)
 
 -- what is no refusal of the lowest place comes behind good records
 module _ (refusal : ℕ → Refusal) (good : ℕ → Bool) (n : ℕ) where
@@ -170,97 +179,128 @@ module _ (plan ps : List ℕ) (t : ℕ) (et : t ≡ firstBadTick (partitions ps)
   pub ticks-good : length plan ≤ t → Good ≡ ticksJudged plan ps
   ticks-good h = rw (← et, le-ltb t (length plan) h)
 
-module _ (frame : ℕ) (ps ts : List ℕ) where
-  pub tables-3 : withinLimits frame (length ps) (length ts) ≡ false → Refused Limits ≡ tablesOf frame ps ts
+module _ (terms : Terms) (frame : ℕ) (ps ts : List ℕ) where
+  abbrev within-all : Bool
+  within-all = withinLimits frame (length ps) (length ts)
+
+  abbrev good-terms : Bool
+  good-terms = goodGranule (terms .granule)
+
+  pub tables-3 : within-all ≡ false → Refused Limits ≡ tablesOf terms frame ps ts
   unfolding tablesOf
   tables-3 e = rw e
 
-  module _ (w : withinLimits frame (length ps) (length ts) ≡ true) (k : ℕ) (ek : k ≡ firstBadPart frame ps) where
-    pub tables-6 : k < partitions ps → Refused (Partition (k + 1)) ≡ tablesOf frame ps ts
+  pub tables-21 : within-all ≡ true → good-terms ≡ false → Refused Granule ≡ tablesOf terms frame ps ts
+  unfolding tablesOf
+  tables-21 w e = rw (w, e)
+
+  module _ (w : within-all ≡ true) (g : good-terms ≡ true) (k : ℕ) (ek : k ≡ firstBadPart frame ps) where
+    pub tables-6 : k < partitions ps → Refused (Partition (k + 1)) ≡ tablesOf terms frame ps ts
     unfolding tablesOf
-    tables-6 h = rw (w, ← ek, lt-ltb k (partitions ps) h)
+    tables-6 h = rw (w, g, ← ek, lt-ltb k (partitions ps) h)
 
     module _ (hk : partitions ps ≤ k) (j : ℕ) (ej : j ≡ firstBadTask (partitions ps) ts) where
-      pub tables-7 : j < tasks ts → Refused (Task (j + 1)) ≡ tablesOf frame ps ts
+      pub tables-7 : j < tasks ts → Refused (Task (j + 1)) ≡ tablesOf terms frame ps ts
       unfolding tablesOf
-      tables-7 h = rw (w, ← ek, le-ltb k (partitions ps) hk, ← ej, lt-ltb j (tasks ts) h)
+      tables-7 h = rw (w, g, ← ek, le-ltb k (partitions ps) hk, ← ej, lt-ltb j (tasks ts) h)
 
-      pub tables-good : tasks ts ≤ j → Good ≡ tablesOf frame ps ts
+      pub tables-good : tasks ts ≤ j → Good ≡ tablesOf terms frame ps ts
       unfolding tablesOf
-      tables-good h = rw (w, ← ek, le-ltb k (partitions ps) hk, ← ej, le-ltb j (tasks ts) h)
+      tables-good h = rw (w, g, ← ek, le-ltb k (partitions ps) hk, ← ej, le-ltb j (tasks ts) h)
 
   -- ---- what it means
 
-  good-of : tablesOf frame ps ts ≡ Good → GoodTables frame ps ts
+  good-of : tablesOf terms frame ps ts ≡ Good → GoodTables terms frame ps ts
   unfolding tablesOf
   good-of e =
-      let a = pick-first (withinLimits frame (length ps) (length ts)) _ _ Good (not-good Limits) e in
-      let b = lowest-none Partition (goodPart frame ps) (partitions ps) Refused (lowest Task (goodTask (partitions ps) ts) (tasks ts)) Good (not-good _) (a .1) in
-      record { limits = a .0; parts = b .0; tasks = lowest-good Task (goodTask (partitions ps) ts) (tasks ts) (b .1) }
+      let a = pick-first within-all _ _ Good (not-good Limits) e in
+      let t = both-good (termsJudged terms) (recordsJudged frame ps ts) (a .1) in
+      let g = pick-first good-terms Good (Refused Granule) Good (not-good Granule) (t .0) in
+      let b = lowest-none Partition (goodPart frame ps) (partitions ps) Refused (lowest Task (goodTask (partitions ps) ts) (tasks ts)) Good (not-good _) (t .1) in
+      record { limits = a .0; granule = g .0; parts = b .0; tasks = lowest-good Task (goodTask (partitions ps) ts) (tasks ts) (b .1) }
 
-  of-good : GoodTables frame ps ts → tablesOf frame ps ts ≡ Good
+  of-good : GoodTables terms frame ps ts → tablesOf terms frame ps ts ≡ Good
   unfolding tablesOf
   of-good g =
       let p : firstBadPart frame ps ≡ partitions ps = every-first (goodPart frame ps) (partitions ps) (g .parts) in
       let t : firstBadTask (partitions ps) ts ≡ tasks ts = every-first (goodTask (partitions ps) ts) (tasks ts) (g .tasks) in
-      rw (g .limits, p, le-ltb (partitions ps) (partitions ps) (omega arith), t, le-ltb (tasks ts) (tasks ts) (omega arith))
+      rw (g .limits, g .granule, p, le-ltb (partitions ps) (partitions ps) (omega arith), t, le-ltb (tasks ts) (tasks ts) (omega arith))
 
-  -- nothing is refused exactly where the tables are good
-  pub good-exactly : (tablesOf frame ps ts ≡ Good) ↔ GoodTables frame ps ts
+  -- nothing is refused exactly where terms and tables are good
+  pub good-exactly : (tablesOf terms frame ps ts ≡ Good) ↔ GoodTables terms frame ps ts
   good-exactly = (good-of, of-good)
 
-  -- what holds of 3, of any 6 and of any 7 with a place from 1 on holds of the chain's refusal
-  pub refusals : (P : Refusal → Type 0) → P Limits → ((k : ℕ) → P (Partition k)) → ((j : ℕ) → P (Task (j + 1))) → (r : Refusal) → tablesOf frame ps ts ≡ Refused r → P r
+  -- what holds of 3, of 21 where the granule is bad, of any 6 and of any 7 with a place from 1 on holds of the chain's refusal
+  pub refusals : (P : Refusal → Type 0) → P Limits → (good-terms ≡ false → P Granule) → ((k : ℕ) → P (Partition k)) → ((j : ℕ) → P (Task (j + 1)))
+      → (r : Refusal) → tablesOf terms frame ps ts ≡ Refused r → P r
   unfolding tablesOf
-  refusals P three six seven r e =
-      at (withinLimits frame (length ps) (length ts)) (ltb (firstBadPart frame ps) (partitions ps)) (ltb (firstBadTask (partitions ps) ts) (tasks ts)) e
+  refusals P three twenty-one six seven r e =
+      at within-all good-terms (ltb (firstBadPart frame ps) (partitions ps)) (ltb (firstBadTask (partitions ps) ts) (tasks ts)) refl e
     where
       same : (q : Refusal) → P q → _≡_ {A = Finding} (Refused q) (Refused r) → P r
       same q h e = let z : q ≡ r = cc in subst P z h
 
-      at : (a b c : Bool) → pick a (unless Refused (pick b (Refused (Partition (firstBadPart frame ps + 1))) Good) (pick c (Refused (Task (firstBadTask (partitions ps) ts + 1))) Good)) (Refused Limits) ≡ Refused r → P r
-      at false b c e = same Limits three e
-      at true true c e = same (Partition (firstBadPart frame ps + 1)) (six _) e
-      at true false true e = same (Task (firstBadTask (partitions ps) ts + 1)) (seven _) e
-      at true false false e = let z : _≡_ {A = ℕ} 0 1 = cc in absurd (omega arith)
+      at : (a g b c : Bool) → good-terms ≡ g
+          → pick a (unless Refused (pick g Good (Refused Granule)) (unless Refused (pick b (Refused (Partition (firstBadPart frame ps + 1))) Good) (pick c (Refused (Task (firstBadTask (partitions ps) ts + 1))) Good))) (Refused Limits) ≡ Refused r
+          → P r
+      at false g b c h e = same Limits three e
+      at true false b c h e = same Granule (twenty-one h) e
+      at true true true c h e = same (Partition (firstBadPart frame ps + 1)) (six _) e
+      at true true false true h e = same (Task (firstBadTask (partitions ps) ts + 1)) (seven _) e
+      at true true false false h e = let z : _≡_ {A = ℕ} 0 1 = cc in absurd (omega arith)
 
   -- a call's answer is what follows good tables, or the chain's refusal
-  pub unless-cases : {A : Type 0} (refused : Refusal → A) (next z : A) → unless refused (tablesOf frame ps ts) next ≡ z
-      → (GoodTables frame ps ts × (next ≡ z)) ⊎ ((r : Refusal) × (tablesOf frame ps ts ≡ Refused r) × (refused r ≡ z))
-  unless-cases refused next z e = go (tablesOf frame ps ts) refl e
+  pub unless-cases : {A : Type 0} (refused : Refusal → A) (next z : A) → unless refused (tablesOf terms frame ps ts) next ≡ z
+      → (GoodTables terms frame ps ts × (next ≡ z)) ⊎ ((r : Refusal) × (tablesOf terms frame ps ts ≡ Refused r) × (refused r ≡ z))
+  unless-cases refused next z e = go (tablesOf terms frame ps ts) refl e
     where
-      go : (t : Finding) → tablesOf frame ps ts ≡ t → unless refused t next ≡ z
-          → (GoodTables frame ps ts × (next ≡ z)) ⊎ ((r : Refusal) × (tablesOf frame ps ts ≡ Refused r) × (refused r ≡ z))
+      go : (t : Finding) → tablesOf terms frame ps ts ≡ t → unless refused t next ≡ z
+          → (GoodTables terms frame ps ts × (next ≡ z)) ⊎ ((r : Refusal) × (tablesOf terms frame ps ts ≡ Refused r) × (refused r ≡ z))
       go Good h e = inl (good-of h, e)
       go (Refused r) h e = inr (r, h, e)
 
   -- one that is no refusal of the chain is what follows
   pub unless-given : {A : Type 0} (refused : Refusal → A) (next z : A)
-      → ¬ (refused Limits ≡ z) → ((k : ℕ) → ¬ (refused (Partition k) ≡ z)) → ((j : ℕ) → ¬ (refused (Task (j + 1)) ≡ z))
-      → unless refused (tablesOf frame ps ts) next ≡ z → GoodTables frame ps ts × (next ≡ z)
-  unless-given refused next z three six seven e =
-      ⊎-elim (λ g. g) (λ h. absurd (refusals (λ r. ¬ (refused r ≡ z)) three six seven (h .0) (h .1) (h .2))) (unless-cases refused next z e)
+      → ¬ (refused Limits ≡ z) → (good-terms ≡ false → ¬ (refused Granule ≡ z)) → ((k : ℕ) → ¬ (refused (Partition k) ≡ z)) → ((j : ℕ) → ¬ (refused (Task (j + 1)) ≡ z))
+      → unless refused (tablesOf terms frame ps ts) next ≡ z → GoodTables terms frame ps ts × (next ≡ z)
+  unless-given refused next z three twenty-one six seven e =
+      ⊎-elim (λ g. g) (λ h. absurd (refusals (λ r. ¬ (refused r ≡ z)) three twenty-one six seven (h .0) (h .1) (h .2))) (unless-cases refused next z e)
 
-  -- what holds of the answers to 3, to any 6 and 7 and of what follows holds of the answer
+  -- what holds of the answers to 3, to 21 where the granule is bad, to any 6 and 7 and of what follows holds of the answer
   pub unless-holds : {A : Type 0} (P : A → Type 0) (refused : Refusal → A) (next : A)
-      → P (refused Limits) → ((k : ℕ) → P (refused (Partition k))) → ((j : ℕ) → P (refused (Task (j + 1)))) → P next → P (unless refused (tablesOf frame ps ts) next)
-  unless-holds P refused next three six seven h = go (tablesOf frame ps ts) refl
+      → P (refused Limits) → (good-terms ≡ false → P (refused Granule)) → ((k : ℕ) → P (refused (Partition k))) → ((j : ℕ) → P (refused (Task (j + 1)))) → P next
+      → P (unless refused (tablesOf terms frame ps ts) next)
+  unless-holds P refused next three twenty-one six seven h = go (tablesOf terms frame ps ts) refl
     where
-      go : (t : Finding) → tablesOf frame ps ts ≡ t → P (unless refused t next)
+      go : (t : Finding) → tablesOf terms frame ps ts ≡ t → P (unless refused t next)
       go Good e = h
-      go (Refused r) e = refusals (λ r. P (refused r)) three six seven r e
+      go (Refused r) e = refusals (λ r. P (refused r)) three twenty-one six seven r e
 
   -- and of good tables it is what follows
-  pub unless-good : {A : Type 0} (refused : Refusal → A) (next : A) → GoodTables frame ps ts → unless refused (tablesOf frame ps ts) next ≡ next
+  pub unless-good : {A : Type 0} (refused : Refusal → A) (next : A) → GoodTables terms frame ps ts → unless refused (tablesOf terms frame ps ts) next ≡ next
   unless-good refused next g = rw (of-good g)
 
 -- without tasks there is no 7
-pub unless-parts-hold : (frame : ℕ) (ps : List ℕ) {A : Type 0} (P : A → Type 0) (refused : Refusal → A) (next : A)
-    → P (refused Limits) → ((k : ℕ) → P (refused (Partition k))) → P next → P (unless refused (tablesOf frame ps []) next)
+pub unless-parts-hold : (terms : Terms) (frame : ℕ) (ps : List ℕ) {A : Type 0} (P : A → Type 0) (refused : Refusal → A) (next : A)
+    → P (refused Limits) → (goodGranule (terms .granule) ≡ false → P (refused Granule)) → ((k : ℕ) → P (refused (Partition k))) → P next
+    → P (unless refused (tablesOf terms frame ps []) next)
 unfolding tablesOf first
-unless-parts-hold frame ps P refused next three six h = at (withinLimits frame (length ps) 0) (ltb (firstBadPart frame ps) (partitions ps))
+unless-parts-hold terms frame ps P refused next three twenty-one six h =
+    at (withinLimits frame (length ps) 0) (goodGranule (terms .granule)) (ltb (firstBadPart frame ps) (partitions ps)) refl
   where
-    at : (a b : Bool) → P (unless refused (pick a (unless Refused (pick b (Refused (Partition (firstBadPart frame ps + 1))) Good) Good) (Refused Limits)) next)
-    at false b = three
-    at true true = six _
-    at true false = h
+    at : (a g b : Bool) → goodGranule (terms .granule) ≡ g
+        → P (unless refused (pick a (unless Refused (pick g Good (Refused Granule)) (unless Refused (pick b (Refused (Partition (firstBadPart frame ps + 1))) Good) Good)) (Refused Limits)) next)
+    at false g b e = three
+    at true false b e = twenty-one e
+    at true true true e = six _
+    at true true false e = h
+
+-- ---- calls that are given no terms
+
+pub usual-good : goodGranule 1 ≡ true
+unfolding goodGranule
+usual-good = refl
+
+-- 21 is none of theirs
+pub usual-not-21 : {A : Type 0} → goodGranule 1 ≡ false → A
+usual-not-21 e = absurd (true≢false (sym usual-good ∙ e))

@@ -1,18 +1,21 @@
-// What tells against tables: the limits, good records, and the one chain of the refusals 3, 6 and 7; and against a plan's
-// ticks: 8.
+// What tells against terms and tables: the limits, good records, and the one chain of the refusals 3, 21, 6 and 7; and
+// against a plan's ticks: 8.
 ghost use mathlib.Core.Path.{_≡_};
 ghost use mathlib.Core.List.{[]};
 ghost use Prim.Native.Nat.{_<_};
 ghost use Rattle.rules.specs.Walk.{fails};
+ghost use Rattle.rules.specs.Terms.{goodGranule};
 ghost use Rattle.rules.specs.Table.{goodShare, goodTimes, goodPart, goodTask, goodTick};
 ghost use Rattle.tables.specs.Contracts.{firstBadPart, firstBadTask, firstBadTick};
 ghost use Rattle.tables.specs.Tables.{countedIn, withinLimits, unless, tablesOf, ticksJudged};
 ghost use Rattle.rules.specs.declared.Finding.the-variants.{Refused};
 use rules::Finding;
 use rules::Refusal;
+use rules::Terms;
 use rules::limits::FINEST_SHARE;
 use rules::limits::LONGEST;
 use rules::limits::LONGEST_PERIOD;
+use rules::limits::MOST_GRANULE;
 use rules::limits::MOST_PARTITIONS;
 use rules::limits::MOST_TASKS;
 use rules::limits::PART_WIDTH;
@@ -53,6 +56,15 @@ pub fn within_limits(frame: usize, parts: usize, tasks: usize) -> bool
         return false;
     }
     counted_in(0, MOST_TASKS, TASK_WIDTH, tasks)
+}
+
+pub fn good_granule(granule: usize) -> bool
+    ensures { λ r. ⌜ r ≡ goodGranule granule ⌝ }
+{
+    if granule < 1 {
+        return false;
+    }
+    granule <= MOST_GRANULE
 }
 
 pub fn good_share(limit: usize, m: u16, num: u16, den: u16) -> bool
@@ -161,12 +173,15 @@ pub fn first_bad_tick(plan: &[u16], parts: usize) -> usize
     n
 }
 
-// What tells against the tables, for cycles no longer than the frame: 3, 6 and 7.
-pub fn judge_tables(frame: usize, parts: &[u16], table: &[u16]) -> Finding
-    ensures { λ r. ⌜ r ≡ tablesOf frame (now (parts .entry)) (now (table .entry)) ⌝ }
+// What tells against the terms and the tables, for cycles no longer than the frame: 3, 21, 6 and 7.
+pub fn judge_tables(terms: Terms, frame: usize, parts: &[u16], table: &[u16]) -> Finding
+    ensures { λ r. ⌜ r ≡ tablesOf terms frame (now (parts .entry)) (now (table .entry)) ⌝ }
 {
     if !within_limits(frame, parts.len(), table.len()) {
         return Finding::Refused(Refusal::Limits);
+    }
+    if !good_granule(terms.granule) {
+        return Finding::Refused(Refusal::Granule);
     }
     let k = first_bad_part(parts, frame);
     if k < partitions(parts) {
@@ -180,10 +195,10 @@ pub fn judge_tables(frame: usize, parts: &[u16], table: &[u16]) -> Finding
 }
 
 // The same where no tasks are asked about.
-pub fn judge_partitions(frame: usize, parts: &[u16]) -> Finding
-    ensures { λ r. ⌜ r ≡ tablesOf frame (now (parts .entry)) [] ⌝ }
+pub fn judge_partitions(terms: Terms, frame: usize, parts: &[u16]) -> Finding
+    ensures { λ r. ⌜ r ≡ tablesOf terms frame (now (parts .entry)) [] ⌝ }
 {
-    judge_tables(frame, parts, &parts[..0])
+    judge_tables(terms, frame, parts, &parts[..0])
 }
 
 // What tells against a plan's ticks: 8.

@@ -10,11 +10,13 @@ use lib.ListN.{length}
 use borrow.Author.Tests.{le-leb, leb-true, leb-false}
 use Rattle.rules.specs.Walk.{pick, Every}
 use Rattle.rules.specs.Table.{partitions, tasks, deadline, goodTask}
+use Rattle.rules.specs.Terms.{wanted}
+use Rattle.rules.specs.declared.Terms.{Terms}
 use Rattle.tables.specs.Tables.{unless, GoodTables}
 use Rattle.rules.specs.declared.Refusal.{Refusal}
 use Rattle.rules.specs.declared.Refusal.the-variants.{Task, Tick, Shortfall}
 use Rattle.rules.specs.declared.Told.{Told}
-use Rattle.rules.specs.Refusals.{placed}
+use Rattle.rules.specs.Refusals.{placed, telling, toldFinding}
 use Rattle.rules.proofs.Known.{named, by-told}
 use Rattle.tables.proofs.Chain.{unless-given, unless-good}
 use Rattle.rules.proofs.Tests.{pick-first, pick-second}
@@ -24,14 +26,14 @@ use Rattle.theory.proofs.Tasks.{run-theorem, endless-theorem}
 use Rattle.rules.specs.declared.Finding.{Finding}
 use Rattle.rules.specs.declared.Finding.the-variants as found
 use Rattle.plan_check.specs.Check.{scanOf, planCheckOf}
-use Rattle.plan_check.proofs.Answers.{frame-some}
+use Rattle.plan_check.proofs.Answers.{frame-some, short-from-0}
 use Rattle.plan_check.proofs.Orders.{shortPart}
 use Rattle.tables.specs.Contracts.{firstBadTick}
 use Rattle.task_verdict.specs.declared.Judged.{Judged}
 use Rattle.task_verdict.specs.declared.Judged.the-variants.{Pass, Fail, Refused}
 use Rattle.task_verdict.specs.Verdict.{placeOf, answerableOf, passAt, verdictBy, toldJudged}
-use Rattle.task_verdict.specs.Theorems.{Answered, AnsweredExactly, OutsideTable, PassExactly, FailExactly, EndsInTime, EndsInTimeForEver, Engine}
-use Rattle.task_verdict.proofs.Orders.{is-pass, is-fail, answerable, judged-refused, answer}
+use Rattle.task_verdict.specs.Theorems.{Answered, AnsweredExactly, OutsideTable, VerdictPastCycle, PassExactly, FailExactly, EndsInTime, EndsInTimeForEver, Engine}
+use Rattle.task_verdict.proofs.Orders.{is-pass, is-fail, answerable, plan-found, judged-refused, answer}
 
 -- ---- a pass at t, unless that is past d
 
@@ -85,26 +87,27 @@ no-seven true d t p s h w e = let z : _≡_ {A = ℕ} 0 1 = cc in absurd (omega 
 no-seven false true t p s h w e = let z : _≡_ {A = ℕ} 0 1 = cc in absurd (omega arith)
 no-seven false false t p s h w e = let z : _≡_ {A = ℕ} 0 1 = cc in absurd (omega arith)
 
-plan-no-seven : (plan ps : List ℕ) → ¬ (planCheckOf plan ps ≡ found.Refused (Task 0))
+plan-no-seven : (q : ℕ → ℕ) (plan ps : List ℕ) → ¬ (planCheckOf q plan ps ≡ found.Refused (Task 0))
 unfolding planCheckOf scanOf
-plan-no-seven plan ps = no-seven (ltb (firstBadTick (partitions ps) plan) (length plan)) (ltb (shortPart plan ps) (partitions ps)) _ _ _ _ _
+plan-no-seven q plan ps = no-seven (ltb (firstBadTick (partitions ps) plan) (length plan)) (ltb (shortPart q plan ps) (partitions ps)) _ _ _ _ _
 
-module _ (plan ps ts : List ℕ) (place : ℕ) where
-  outside : answerableOf plan ps ts place ≡ found.Refused (Task 0) → GoodTables (length plan) ps ts × (leb 1 place && leb place (tasks ts) ≡ false)
+module _ (terms : Terms) (plan ps ts : List ℕ) (place : ℕ) where
+  outside : answerableOf terms plan ps ts place ≡ found.Refused (Task 0) → GoodTables terms (length plan) ps ts × (leb 1 place && leb place (tasks ts) ≡ false)
   unfolding answerableOf placeOf
   outside e =
-      let a = unless-given (length plan) ps ts found.Refused (placeOf plan ps ts place) (found.Refused (Task 0))
+      let a = unless-given terms (length plan) ps ts found.Refused (placeOf (wanted terms ps) plan ps ts place) (found.Refused (Task 0))
       (λ q. let z : _≡_ {A = ℕ} 0 1 = cc in absurd (omega arith))
+      (λ g q. let z : _≡_ {A = ℕ} 0 1 = cc in absurd (omega arith))
       (λ k q. let z : _≡_ {A = ℕ} 0 1 = cc in absurd (omega arith))
       (λ j q. let z : j + 1 ≡ 0 = cc in absurd (omega arith))
       e in
-      (a .0, pick-second (leb 1 place && leb place (tasks ts)) (planCheckOf plan ps) _ (found.Refused (Task 0)) (plan-no-seven plan ps) (a .1) .0)
+      (a .0, pick-second (leb 1 place && leb place (tasks ts)) (planCheckOf (wanted terms ps) plan ps) _ (found.Refused (Task 0)) (plan-no-seven (wanted terms ps) plan ps) (a .1) .0)
 
-  is-outside : GoodTables (length plan) ps ts → leb 1 place && leb place (tasks ts) ≡ false → answerableOf plan ps ts place ≡ found.Refused (Task 0)
+  is-outside : GoodTables terms (length plan) ps ts → leb 1 place && leb place (tasks ts) ≡ false → answerableOf terms plan ps ts place ≡ found.Refused (Task 0)
   unfolding answerableOf placeOf
-  is-outside g e = unless-good (length plan) ps ts found.Refused (placeOf plan ps ts place) g ∙ rw e
+  is-outside g e = unless-good terms (length plan) ps ts found.Refused (placeOf (wanted terms ps) plan ps ts place) g ∙ rw e
 
-  within : Answered plan ps ts place → place - 1 < tasks ts
+  within : Answered terms plan ps ts place → place - 1 < tasks ts
   within a = omega (arith, a .from-1, a .listed)
 
 -- ---- of an engine whose t is at most D exactly where the task passes
@@ -115,10 +118,10 @@ Enough engine =
     → TaskPasses own plan ts i ↔ (engine plan ts i ≤ deadline ts i)
 
 module _ (engine : List ℕ → List ℕ → ℕ → ℕ) (enough : Enough engine) where
-  abbrev judge : List ℕ → List ℕ → List ℕ → ℕ → Judged
+  abbrev judge : Terms → List ℕ → List ℕ → List ℕ → ℕ → Judged
   judge = verdictBy engine
 
-  module _ (plan ps ts : List ℕ) (place : ℕ) where
+  module _ (terms : Terms) (plan ps ts : List ℕ) (place : ℕ) where
     abbrev d : ℕ
     d = deadline ts (place - 1)
 
@@ -126,51 +129,51 @@ module _ (engine : List ℕ → List ℕ → ℕ → ℕ) (enough : Enough engin
     t = engine plan ts (place - 1)
 
     -- what a verdict that is given says of the input
-    pub given : (z : Judged) → Given z → judge plan ps ts place ≡ z → Answered plan ps ts place × (passAt d t ≡ z)
+    pub given : (z : Judged) → Given z → judge terms plan ps ts place ≡ z → Answered terms plan ps ts place × (passAt d t ≡ z)
     unfolding verdictBy
-    given z g e = let s = after-given (answerableOf plan ps ts place) (passAt d t) z g e in (answerable plan ps ts place (s .0), s .1)
+    given z g e = let s = after-given (answerableOf terms plan ps ts place) (passAt d t) z g e in (answerable terms plan ps ts place (s .0), s .1)
 
-    refused : (r : Refusal) → judge plan ps ts place ≡ Refused r → answerableOf plan ps ts place ≡ found.Refused r
+    refused : (r : Refusal) → judge terms plan ps ts place ≡ Refused r → answerableOf terms plan ps ts place ≡ found.Refused r
     unfolding verdictBy
-    refused r = at (answerableOf plan ps ts place)
+    refused r = at (answerableOf terms plan ps ts place)
       where
         at : (c : Finding) → unless Refused c (passAt d t) ≡ Refused r → c ≡ found.Refused r
         at found.Good e = absurd (not-refused d t r e)
         at (found.Refused q) e = let f : q ≡ r = cc e in ap found.Refused f
 
-    pub reached : Answered plan ps ts place → TaskPasses own plan ts (place - 1) ↔ (t ≤ d)
-    reached a = enough plan ts (partitions ps) (a .good .tasks) (place - 1) (within plan ps ts place a)
+    pub reached : Answered terms plan ps ts place → TaskPasses own plan ts (place - 1) ↔ (t ≤ d)
+    reached a = enough plan ts (partitions ps) (a .good .tasks) (place - 1) (within terms plan ps ts place a)
 
-    passed : (u : ℕ) → judge plan ps ts place ≡ Pass u → Answered plan ps ts place × TaskPasses own plan ts (place - 1)
+    passed : (u : ℕ) → judge terms plan ps ts place ≡ Pass u → Answered terms plan ps ts place × TaskPasses own plan ts (place - 1)
     passed u e = let w = given (Pass u) (pass-given u) e in (w .0, reached (w .0) .1 (pass-at d t u (w .1) .1))
 
-    pub passes : Answered plan ps ts place × TaskPasses own plan ts (place - 1) → (u : ℕ) × (judge plan ps ts place ≡ Pass u)
-    passes (a, p) = (t, answer plan ps ts place engine a ∙ is-pass d t (reached a .0 p))
+    pub passes : Answered terms plan ps ts place × TaskPasses own plan ts (place - 1) → (u : ℕ) × (judge terms plan ps ts place ≡ Pass u)
+    passes (a, p) = (t, answer terms plan ps ts place engine a ∙ is-pass d t (reached a .0 p))
 
-    failed : judge plan ps ts place ≡ Fail → Answered plan ps ts place × ¬ TaskPasses own plan ts (place - 1)
+    failed : judge terms plan ps ts place ≡ Fail → Answered terms plan ps ts place × ¬ TaskPasses own plan ts (place - 1)
     failed e =
         let w = given Fail fail-given e in
         (w .0, λ p. absurd (omega (arith, reached (w .0) .0 p, fail-at d t (w .1))))
 
-    fails : Answered plan ps ts place × ¬ TaskPasses own plan ts (place - 1) → judge plan ps ts place ≡ Fail
-    fails (a, n) = answer plan ps ts place engine a ∙ at (leb t d) refl
+    fails : Answered terms plan ps ts place × ¬ TaskPasses own plan ts (place - 1) → judge terms plan ps ts place ≡ Fail
+    fails (a, n) = answer terms plan ps ts place engine a ∙ at (leb t d) refl
       where
         at : (b : Bool) → leb t d ≡ b → passAt d t ≡ Fail
         at true e = absurd (n (reached a .1 (leb-true t d e)))
         at false e = is-fail d t (leb-false t d e)
 
   answered-exactly : AnsweredExactly judge
-  answered-exactly plan ps ts place = (
-    λ h. given plan ps ts place (judge plan ps ts place) (λ r e. h r (sym e)) refl .0,
-    λ a r e. not-refused (d plan ps ts place) (t plan ps ts place) r (sym (answer plan ps ts place engine a) ∙ e),
+  answered-exactly terms plan ps ts place = (
+    λ h. given terms plan ps ts place (judge terms plan ps ts place) (λ r e. h r (sym e)) refl .0,
+    λ a r e. not-refused (d terms plan ps ts place) (t terms plan ps ts place) r (sym (answer terms plan ps ts place engine a) ∙ e),
   )
 
   outside-table : OutsideTable judge
-  outside-table plan ps ts place = (
-    λ e. let q = seven-refused (judge plan ps ts place) (placed 7 0) (omega arith) (λ q. absurd (omega arith)) e in
-        let a = outside plan ps ts place (refused plan ps ts place (Task 0) q) in
+  outside-table terms plan ps ts place = (
+    λ e. let q = seven-refused (judge terms plan ps ts place) (placed 7 0) (omega arith) (λ q. absurd (omega arith)) e in
+        let a = outside terms plan ps ts place (refused terms plan ps ts place (Task 0) q) in
         (a .0, λ i. absurd (true≢false (sym (rw (le-leb 1 place (i .0), le-leb place (tasks ts) (i .1))) ∙ a .1))),
-    λ a. rw (← judged-refused plan ps ts place engine (Task 0) (is-outside plan ps ts place (a .0) (none (leb 1 place) (leb place (tasks ts)) refl refl (a .1)))),
+    λ a. rw (← judged-refused terms plan ps ts place engine (Task 0) (is-outside terms plan ps ts place (a .0) (none (leb 1 place) (leb place (tasks ts)) refl refl (a .1)))),
   )
     where
       none : (b c : Bool) → leb 1 place ≡ b → leb place (tasks ts) ≡ c → ¬ ((1 ≤ place) × (place ≤ tasks ts)) → b && c ≡ false
@@ -178,26 +181,38 @@ module _ (engine : List ℕ → List ℕ → ℕ → ℕ) (enough : Enough engin
       none true false e f n = refl
       none false c e f n = refl
 
+  verdict-past-cycle : VerdictPastCycle judge
+  unfolding verdictBy
+  verdict-past-cycle terms plan ps ts place good inside owned k l h =
+      let a = short-from-0 (wanted terms ps) plan ps (frame-some ps ts good) owned k l h in
+      let e : answerableOf terms plan ps ts place ≡ planCheckOf (wanted terms ps) plan ps = plan-found terms plan ps ts place good inside in
+      (a .0, a .1, a .2, a .3, nine (planCheckOf (wanted terms ps) plan ps) (answerableOf terms plan ps ts place) (a .0) (a .1) (a .2) (a .3) e (a .4), a .5, a .6)
+    where
+      nine : (f c : Finding) (p s h w : ℕ) → c ≡ f → toldFinding f ≡ telling 9 p s h w → toldJudged (unless Refused c (passAt (deadline ts (place - 1)) (engine plan ts (place - 1)))) ≡ telling 9 p s h w
+      nine found.Good c p s h w e g = let z : _≡_ {A = ℕ} 0 9 = ap (λ (u : Told). u .number) g in absurd (omega arith)
+      nine (found.Refused r) c p s h w e g = rw e g
+
   pass-exactly : PassExactly judge
-  pass-exactly plan ps ts place = (λ w. passed plan ps ts place (w .0) (w .1), passes plan ps ts place)
+  pass-exactly terms plan ps ts place = (λ w. passed terms plan ps ts place (w .0) (w .1), passes terms plan ps ts place)
 
   fail-exactly : FailExactly judge
-  fail-exactly plan ps ts place = (failed plan ps ts place, fails plan ps ts place)
+  fail-exactly terms plan ps ts place = (failed terms plan ps ts place, fails terms plan ps ts place)
 
   ends-in-time : EndsInTime judge
-  ends-in-time plan ps ts place u c v N start work ran legal r h =
-      let w = passed plan ps ts place u v in
-      run-theorem own plan ts (partitions ps) (frame-some ps ts (w .0 .good)) (w .0 .good .tasks) (place - 1) (within plan ps ts place (w .0)) (w .1) N start work ran legal r h
+  ends-in-time terms plan ps ts place u c v N start work ran legal r h =
+      let w = passed terms plan ps ts place u v in
+      run-theorem own plan ts (partitions ps) (frame-some ps ts (w .0 .good)) (w .0 .good .tasks) (place - 1) (within terms plan ps ts place (w .0)) (w .1) N start work ran legal r h
 
   ends-in-time-for-ever : EndsInTimeForEver judge
-  ends-in-time-for-ever plan ps ts place u c v start work ran legal r =
-      let w = passed plan ps ts place u v in
-      endless-theorem own plan ts (partitions ps) (frame-some ps ts (w .0 .good)) (w .0 .good .tasks) (place - 1) (within plan ps ts place (w .0)) (w .1) start work ran legal r
+  ends-in-time-for-ever terms plan ps ts place u c v start work ran legal r =
+      let w = passed terms plan ps ts place u v in
+      endless-theorem own plan ts (partitions ps) (frame-some ps ts (w .0 .good)) (w .0 .good .tasks) (place - 1) (within terms plan ps ts place (w .0)) (w .1) start work ran legal r
 
   pub engine-proved : Engine judge
   engine-proved = record {
     answered-exactly = answered-exactly;
     outside-table = outside-table;
+    verdict-past-cycle = verdict-past-cycle;
     pass-exactly = pass-exactly;
     fail-exactly = fail-exactly;
     ends-in-time = ends-in-time;

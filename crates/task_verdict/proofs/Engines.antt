@@ -8,6 +8,7 @@ use lib.Dec.{leb}
 use borrow.Author.Tests.{leb-true, leb-false}
 use Rattle.rules.specs.Walk.{pick}
 use Rattle.rules.specs.Table.{deadline}
+use Rattle.rules.specs.declared.Terms.{Terms}
 use Rattle.tables.specs.Tables.{unless}
 use Rattle.theory.specs.Plan.{own}
 use Rattle.theory.specs.Task.{taskLoad, taskPoint, taskTick}
@@ -29,28 +30,28 @@ by-ticks : Enough (taskTick own)
 by-ticks plan ts parts good i h = ticks-exactly own plan ts i
 
 pass-point : PassPoint
-pass-point plan ps ts place u e =
-    let w = given (taskPoint own) by-points plan ps ts place (Pass u) (pass-given u) e in
+pass-point terms plan ps ts place u e =
+    let w = given (taskPoint own) by-points terms plan ps ts place (Pass u) (pass-given u) e in
     let p = pass-at (deadline ts (place - 1)) (taskPoint own plan ts (place - 1)) u (w .1) in
     rw (p .0) (points.point-smallest (taskLoad ts) (leastFor own plan ts (place - 1)) (place - 1) (omega (arith, p .1, task-last ts (place - 1))))
 
-module _ (plan ps ts : List ℕ) (place : ℕ) where
-  passed-tick : (u : ℕ) → plainOf plan ps ts place ≡ Pass u → Answered plan ps ts place × EarliestTick plan ts (place - 1) u
+module _ (terms : Terms) (plan ps ts : List ℕ) (place : ℕ) where
+  passed-tick : (u : ℕ) → plainOf terms plan ps ts place ≡ Pass u → Answered terms plan ps ts place × EarliestTick plan ts (place - 1) u
   passed-tick u e =
-      let w = given (taskTick own) by-ticks plan ps ts place (Pass u) (pass-given u) e in
+      let w = given (taskTick own) by-ticks terms plan ps ts place (Pass u) (pass-given u) e in
       let p = pass-at (deadline ts (place - 1)) (taskTick own plan ts (place - 1)) u (w .1) in
       let s = points.tick-smallest (taskLoad ts) (leastFor own plan ts (place - 1)) (place - 1) (omega (arith, p .1, task-last ts (place - 1))) in
       rw (p .0) (w .0, record { from-1 = s .0; to-deadline = p .1; holds = s .1; smallest = s .2 })
 
-  tick-passed : (u : ℕ) → Answered plan ps ts place × EarliestTick plan ts (place - 1) u → plainOf plan ps ts place ≡ Pass u
+  tick-passed : (u : ℕ) → Answered terms plan ps ts place × EarliestTick plan ts (place - 1) u → plainOf terms plan ps ts place ≡ Pass u
   tick-passed u (a, s) =
-      let w = passes (taskTick own) by-ticks plan ps ts place (a, (u, s .from-1, omega (arith, s .to-deadline, task-last ts (place - 1)), s .holds)) in
+      let w = passes (taskTick own) by-ticks terms plan ps ts place (a, (u, s .from-1, omega (arith, s .to-deadline, task-last ts (place - 1)), s .holds)) in
       let q = passed-tick (w .0) (w .1) .1 in
       let e : w .0 ≡ u = omega (arith, q .smallest u (s .from-1) (s .holds), s .smallest (w .0) (q .from-1) (q .holds)) in
       w .1 ∙ ap Pass e
 
 pass-tick : PassTick
-pass-tick plan ps ts place u = (passed-tick plan ps ts place u, tick-passed plan ps ts place u)
+pass-tick terms plan ps ts place u = (passed-tick terms plan ps ts place u, tick-passed terms plan ps ts place u)
 
 -- two that are at most d alike are said alike
 said-alike : (d t u : ℕ) → (t ≤ d → u ≤ d) → (u ≤ d → t ≤ d) → withoutTick (passAt d u) ≡ withoutTick (passAt d t)
@@ -65,22 +66,22 @@ said-alike d t u f g = at (leb t d) (leb u d) refl refl
 
 engines-alike : EnginesAlike
 unfolding verdictBy
-engines-alike plan ps ts place = at (answerableOf plan ps ts place) refl
+engines-alike terms plan ps ts place = at (answerableOf terms plan ps ts place) refl
   where
-    at : (c : Finding) → answerableOf plan ps ts place ≡ c
+    at : (c : Finding) → answerableOf terms plan ps ts place ≡ c
         → withoutTick (unless Refused c (passAt (deadline ts (place - 1)) (taskTick own plan ts (place - 1))))
         ≡ withoutTick (unless Refused c (passAt (deadline ts (place - 1)) (taskPoint own plan ts (place - 1))))
     at found.Good e =
-        let a = answerable plan ps ts place e in
-        let p = reached (taskPoint own) by-points plan ps ts place a in
-        let q = reached (taskTick own) by-ticks plan ps ts place a in
+        let a = answerable terms plan ps ts place e in
+        let p = reached (taskPoint own) by-points terms plan ps ts place a in
+        let q = reached (taskTick own) by-ticks terms plan ps ts place a in
         said-alike _ _ _ (λ h. q .0 (p .1 h)) (λ h. p .0 (q .1 h))
     at (found.Refused r) e = refl
 
 tick-at-most-point : TickAtMostPoint
-tick-at-most-point plan ps ts place u v e f =
-    let a = pass-at (deadline ts (place - 1)) (taskPoint own plan ts (place - 1)) u (given (taskPoint own) by-points plan ps ts place (Pass u) (pass-given u) e .1) in
-    let b = pass-at (deadline ts (place - 1)) (taskTick own plan ts (place - 1)) v (given (taskTick own) by-ticks plan ps ts place (Pass v) (pass-given v) f .1) in
+tick-at-most-point terms plan ps ts place u v e f =
+    let a = pass-at (deadline ts (place - 1)) (taskPoint own plan ts (place - 1)) u (given (taskPoint own) by-points terms plan ps ts place (Pass u) (pass-given u) e .1) in
+    let b = pass-at (deadline ts (place - 1)) (taskTick own plan ts (place - 1)) v (given (taskTick own) by-ticks terms plan ps ts place (Pass v) (pass-given v) f .1) in
     omega (arith, a .0, b .0, points.tick-at-most-point (taskLoad ts) (leastFor own plan ts (place - 1)) (place - 1))
 
 pub proved : Proved
@@ -91,6 +92,6 @@ proved = record {
   pass-tick = pass-tick;
   engines-alike = engines-alike;
   tick-at-most-point = tick-at-most-point;
-  verdict-one = λ plan ps ts place r r′ e f. e ∙ sym f;
-  plain-one = λ plan ps ts place r r′ e f. e ∙ sym f;
+  verdict-one = λ terms plan ps ts place r r′ e f. e ∙ sym f;
+  plain-one = λ terms plan ps ts place r r′ e f. e ∙ sym f;
 }

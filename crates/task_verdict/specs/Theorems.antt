@@ -5,7 +5,10 @@ use mathlib.Core.Logic.{_↔_}
 use mathlib.Core.Bool.{true}
 use mathlib.Core.List.{List}
 use lib.ListN.{length}
-use Rattle.rules.specs.Table.{partition, tasks, deadline}
+use Rattle.rules.specs.Walk.{Every}
+use Rattle.rules.specs.Table.{partitions, partition, tasks, deadline, goodTick}
+use Rattle.rules.specs.Terms.{wanted}
+use Rattle.rules.specs.declared.Terms.{Terms}
 use Rattle.tables.specs.Tables.{GoodTables}
 use Rattle.theory.specs.Plan.{own, least}
 use Rattle.theory.specs.Run.{Ran, done, LegalTo, Legal}
@@ -13,59 +16,68 @@ use Rattle.theory.specs.Load.{demand, point}
 use Rattle.theory.specs.Task.{taskLoad, TaskPasses}
 use Rattle.rules.specs.declared.Finding.the-variants as found
 use Rattle.plan_check.specs.Check.{checkOf}
+use Rattle.plan_check.specs.Theorems.{ShortFrom0}
 use Rattle.rules.specs.Refusals.{placed}
 use Rattle.task_verdict.specs.declared.Judged.{Judged}
 use Rattle.task_verdict.specs.declared.Judged.the-variants.{Pass, Fail, Refused}
 use Rattle.task_verdict.specs.Verdict.{verdictOf, plainOf, Judges, JudgesPlainly, toldJudged}
 
 -- nothing is refused: the plan is accepted, the tables are good, and the place is in the table
-pub record Answered (plan ps ts : List ℕ) (place : ℕ) : Type 0 where
-  pub accepted : checkOf plan ps ≡ found.Good
-  pub good : GoodTables (length plan) ps ts
+pub record Answered (terms : Terms) (plan ps ts : List ℕ) (place : ℕ) : Type 0 where
+  pub accepted : checkOf terms plan ps ≡ found.Good
+  pub good : GoodTables terms (length plan) ps ts
   pub from-1 : 1 ≤ place
   pub listed : place ≤ tasks ts
 
 -- ==== of either engine: `judge` is what its entry answers
 
-module _ (judge : List ℕ → List ℕ → List ℕ → ℕ → Judged) where
+module _ (judge : Terms → List ℕ → List ℕ → List ℕ → ℕ → Judged) where
   -- a verdict is given exactly then
   abbrev pub AnsweredExactly : Type 0
-  AnsweredExactly = (plan ps ts : List ℕ) (place : ℕ) → ((r : _) → ¬ (judge plan ps ts place ≡ Refused r)) ↔ Answered plan ps ts place
+  AnsweredExactly = (terms : Terms) (plan ps ts : List ℕ) (place : ℕ) → ((r : _) → ¬ (judge terms plan ps ts place ≡ Refused r)) ↔ Answered terms plan ps ts place
 
   -- "a place outside the table is 7 with place 0, after the other 7s", and before 8 and 9: whatever the plan
   abbrev pub OutsideTable : Type 0
   OutsideTable =
-      (plan ps ts : List ℕ) (place : ℕ)
-      → (toldJudged (judge plan ps ts place) ≡ placed 7 0) ↔ (GoodTables (length plan) ps ts × ¬ ((1 ≤ place) × (place ≤ tasks ts)))
+      (terms : Terms) (plan ps ts : List ℕ) (place : ℕ)
+      → (toldJudged (judge terms plan ps ts place) ≡ placed 7 0) ↔ (GoodTables terms (length plan) ps ts × ¬ ((1 ≤ place) × (place ≤ tasks ts)))
 
   -- "Task i passes exactly when demand(t) ≤ least(t) for some t from 1 to D."
   abbrev pub PassExactly : Type 0
   PassExactly =
-      (plan ps ts : List ℕ) (place : ℕ)
-      → ((t : ℕ) × (judge plan ps ts place ≡ Pass t)) ↔ (Answered plan ps ts place × TaskPasses own plan ts (place - 1))
+      (terms : Terms) (plan ps ts : List ℕ) (place : ℕ)
+      → ((t : ℕ) × (judge terms plan ps ts place ≡ Pass t)) ↔ (Answered terms plan ps ts place × TaskPasses own plan ts (place - 1))
 
   abbrev pub FailExactly : Type 0
   FailExactly =
-      (plan ps ts : List ℕ) (place : ℕ)
-      → (judge plan ps ts place ≡ Fail) ↔ (Answered plan ps ts place × ¬ TaskPasses own plan ts (place - 1))
+      (terms : Terms) (plan ps ts : List ℕ) (place : ℕ)
+      → (judge terms plan ps ts place ≡ Fail) ↔ (Answered terms plan ps ts place × ¬ TaskPasses own plan ts (place - 1))
 
   -- Demand 3, first half: "Plan accepted and task passes ⇒ every job of that task ends within D in every legal run, even if other tasks fail."
   abbrev pub EndsInTime : Type 0
   EndsInTime =
-      (plan ps ts : List ℕ) (place t : ℕ) → checkOf plan ps ≡ found.Good → judge plan ps ts place ≡ Pass t
+      (terms : Terms) (plan ps ts : List ℕ) (place t : ℕ) → checkOf terms plan ps ≡ found.Good → judge terms plan ps ts place ≡ Pass t
       → (N start : ℕ) (work : ℕ → ℕ → ℕ) (ran : ℕ → Ran) → LegalTo N own plan start ts work ran
       → (r : ℕ) → r + deadline ts (place - 1) ≤ N → done ran (place - 1) r (r + deadline ts (place - 1)) ≡ work (place - 1) r
 
   -- the same of runs without end
   abbrev pub EndsInTimeForEver : Type 0
   EndsInTimeForEver =
-      (plan ps ts : List ℕ) (place t : ℕ) → checkOf plan ps ≡ found.Good → judge plan ps ts place ≡ Pass t
+      (terms : Terms) (plan ps ts : List ℕ) (place t : ℕ) → checkOf terms plan ps ≡ found.Good → judge terms plan ps ts place ≡ Pass t
       → (start : ℕ) (work : ℕ → ℕ → ℕ) (ran : ℕ → Ran) → Legal own plan start ts work ran
       → (r : ℕ) → done ran (place - 1) r (r + deadline ts (place - 1)) ≡ work (place - 1) r
+
+  -- document 02, ask 5: where a place of the partitions wants more than its cycle has, 9 as the checker tells it
+  abbrev pub VerdictPastCycle : Type 0
+  VerdictPastCycle =
+      (terms : Terms) (plan ps ts : List ℕ) (place : ℕ) → GoodTables terms (length plan) ps ts → (1 ≤ place) × (place ≤ tasks ts)
+      → Every (goodTick (partitions ps) plan) (length plan)
+      → ShortFrom0 (wanted terms ps) plan ps (toldJudged (judge terms plan ps ts place))
 
   pub record Engine : Type 0 where
     pub answered-exactly : AnsweredExactly
     pub outside-table : OutsideTable
+    pub verdict-past-cycle : VerdictPastCycle
     pub pass-exactly : PassExactly
     pub fail-exactly : FailExactly
     pub ends-in-time : EndsInTime
@@ -76,7 +88,7 @@ module _ (judge : List ℕ → List ℕ → List ℕ → ℕ → Judged) where
 -- "A pass reports the smallest scheduling point that holds."
 abbrev pub PassPoint : Type 0
 PassPoint =
-    (plan ps ts : List ℕ) (place t : ℕ) → verdictOf plan ps ts place ≡ Pass t
+    (terms : Terms) (plan ps ts : List ℕ) (place t : ℕ) → verdictOf terms plan ps ts place ≡ Pass t
     → (point (taskLoad ts) (place - 1) t ≡ true) × (demand (taskLoad ts) (place - 1) t ≤ least own plan (partition ts (place - 1)) t)
     × ((u : ℕ) → point (taskLoad ts) (place - 1) u ≡ true → demand (taskLoad ts) (place - 1) u ≤ least own plan (partition ts (place - 1)) u → t ≤ u)
 
@@ -89,8 +101,8 @@ pub record EarliestTick (plan ts : List ℕ) (i t : ℕ) : Type 0 where
 
 abbrev pub PassTick : Type 0
 PassTick =
-    (plan ps ts : List ℕ) (place t : ℕ)
-    → (plainOf plan ps ts place ≡ Pass t) ↔ (Answered plan ps ts place × EarliestTick plan ts (place - 1) t)
+    (terms : Terms) (plan ps ts : List ℕ) (place t : ℕ)
+    → (plainOf terms plan ps ts place ≡ Pass t) ↔ (Answered terms plan ps ts place × EarliestTick plan ts (place - 1) t)
 
 -- ==== of both
 
@@ -102,18 +114,18 @@ withoutTick (Refused r) = Refused r
 
 -- "both give pass or fail alike for every plan and task table", and refuse alike
 abbrev pub EnginesAlike : Type 0
-EnginesAlike = (plan ps ts : List ℕ) (place : ℕ) → withoutTick (plainOf plan ps ts place) ≡ withoutTick (verdictOf plan ps ts place)
+EnginesAlike = (terms : Terms) (plan ps ts : List ℕ) (place : ℕ) → withoutTick (plainOf terms plan ps ts place) ≡ withoutTick (verdictOf terms plan ps ts place)
 
 -- the tick "may be below the scheduling point", and is never above it
 abbrev pub TickAtMostPoint : Type 0
-TickAtMostPoint = (plan ps ts : List ℕ) (place t u : ℕ) → verdictOf plan ps ts place ≡ Pass t → plainOf plan ps ts place ≡ Pass u → u ≤ t
+TickAtMostPoint = (terms : Terms) (plan ps ts : List ℕ) (place t u : ℕ) → verdictOf terms plan ps ts place ≡ Pass t → plainOf terms plan ps ts place ≡ Pass u → u ≤ t
 
 -- "any two outcomes it permits are equal"
 abbrev pub VerdictOne : Type 0
-VerdictOne = (plan ps ts : List ℕ) (place : ℕ) (r r′ : Judged) → Judges plan ps ts place r → Judges plan ps ts place r′ → r ≡ r′
+VerdictOne = (terms : Terms) (plan ps ts : List ℕ) (place : ℕ) (r r′ : Judged) → Judges terms plan ps ts place r → Judges terms plan ps ts place r′ → r ≡ r′
 
 abbrev pub PlainOne : Type 0
-PlainOne = (plan ps ts : List ℕ) (place : ℕ) (r r′ : Judged) → JudgesPlainly plan ps ts place r → JudgesPlainly plan ps ts place r′ → r ≡ r′
+PlainOne = (terms : Terms) (plan ps ts : List ℕ) (place : ℕ) (r r′ : Judged) → JudgesPlainly terms plan ps ts place r → JudgesPlainly terms plan ps ts place r′ → r ≡ r′
 
 pub record Proved : Type 0 where
   pub by-points : Engine verdictOf

@@ -1,7 +1,9 @@
 // The verdict: whether a task passes, by either engine. One that passes meets its deadline in every legal run.
 use rules::Finding;
 use rules::Refusal;
+use rules::Terms;
 ghost use mathlib.Core.Path.{_≡_};
+ghost use Rattle.rules.specs.Terms.{wanted};
 ghost use Rattle.task_verdict.specs.Verdict.{placeOf, answerableOf, passAt, Judges, JudgesPlainly};
 
 // What is said of a task: it passes at a point or a tick, fails, or why a verdict is refused.
@@ -12,8 +14,8 @@ pub enum Judged {
 }
 
 // What is found for a place counted from 1, in tables whose records are good.
-fn at_place(plan: &[u16], parts: &[u16], table: &[u16], place: usize) -> Finding
-    ensures { λ r. ⌜ r ≡ placeOf (now (plan .entry)) (now (parts .entry)) (now (table .entry)) place ⌝ }
+fn at_place(terms: Terms, plan: &[u16], parts: &[u16], table: &[u16], place: usize) -> Finding
+    ensures { λ r. ⌜ r ≡ placeOf (wanted terms (now (parts .entry))) (now (plan .entry)) (now (parts .entry)) (now (table .entry)) place ⌝ }
 {
     if place < 1 {
         return Finding::Refused(Refusal::Task(0));
@@ -21,17 +23,17 @@ fn at_place(plan: &[u16], parts: &[u16], table: &[u16], place: usize) -> Finding
     if rules::records::tasks(table) < place {
         return Finding::Refused(Refusal::Task(0));
     }
-    plan_check::check_plan(plan, parts)
+    plan_check::check_plan(terms, plan, parts)
 }
 
 // Whether a verdict is given for a place, or why it is refused.
-fn answerable(plan: &[u16], parts: &[u16], table: &[u16], place: usize) -> Finding
-    ensures { λ r. ⌜ r ≡ answerableOf (now (plan .entry)) (now (parts .entry)) (now (table .entry)) place ⌝ }
+fn answerable(terms: Terms, plan: &[u16], parts: &[u16], table: &[u16], place: usize) -> Finding
+    ensures { λ r. ⌜ r ≡ answerableOf terms (now (plan .entry)) (now (parts .entry)) (now (table .entry)) place ⌝ }
 {
-    let tables = tables::judge_tables(plan.len(), parts, table);
+    let tables = tables::judge_tables(terms, plan.len(), parts, table);
     match tables {
         Finding::Refused(r) => Finding::Refused(r),
-        Finding::Good => at_place(plan, parts, table, place),
+        Finding::Good => at_place(terms, plan, parts, table, place),
     }
 }
 
@@ -46,10 +48,10 @@ fn pass_at(d: u16, t: usize) -> Judged
 }
 
 // Whether the task at a place, counted from 1, passes: by its scheduling points.
-pub fn verdict(plan: &[u16], parts: &[u16], table: &[u16], place: usize) -> Judged
-    ensures { λ r. ⌜ Judges (now (plan .entry)) (now (parts .entry)) (now (table .entry)) place r ⌝ }
+pub fn verdict(terms: Terms, plan: &[u16], parts: &[u16], table: &[u16], place: usize) -> Judged
+    ensures { λ r. ⌜ Judges terms (now (plan .entry)) (now (parts .entry)) (now (table .entry)) place r ⌝ }
 {
-    let given = answerable(plan, parts, table, place);
+    let given = answerable(terms, plan, parts, table, place);
     match given {
         Finding::Refused(r) => Judged::Refused(r),
         Finding::Good => {
@@ -60,10 +62,10 @@ pub fn verdict(plan: &[u16], parts: &[u16], table: &[u16], place: usize) -> Judg
 }
 
 // The same by the plain engine, tick by tick.
-pub fn plain(plan: &[u16], parts: &[u16], table: &[u16], place: usize) -> Judged
-    ensures { λ r. ⌜ JudgesPlainly (now (plan .entry)) (now (parts .entry)) (now (table .entry)) place r ⌝ }
+pub fn plain(terms: Terms, plan: &[u16], parts: &[u16], table: &[u16], place: usize) -> Judged
+    ensures { λ r. ⌜ JudgesPlainly terms (now (plan .entry)) (now (parts .entry)) (now (table .entry)) place r ⌝ }
 {
-    let given = answerable(plan, parts, table, place);
+    let given = answerable(terms, plan, parts, table, place);
     match given {
         Finding::Refused(r) => Judged::Refused(r),
         Finding::Good => {

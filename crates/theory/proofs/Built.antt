@@ -3,19 +3,19 @@ use mathlib.Core.Path.{_≡_, ap, _∙_, subst}
 use mathlib.Core.Logic.{_⊎_, inl, inr}
 use mathlib.Core.List.{List}
 use Prim.Native.Nat.{ℕ, zero, suc, _+_, _*_, _/_, _%_, _≤_, _<_}
-use native.Mathlib.Nat.{mul-mod-left}
+use native.Mathlib.Nat.{div-add-mod', mul-comm, mul-le-mul-right, mul-mod-left, suc-mul, zero-mul}
 use native.Mathlib.Omega.{arith}
 use lib.ListN.{getD}
 use Rattle.rules.proofs.Tests.{good-share}
 use Rattle.rules.specs.Walk.{sum, Every}
 use Rattle.rules.specs.Limits.{longest}
-use Rattle.rules.specs.Table.{cycle, num, den, partitions, wanted, goodPart}
-use Rattle.rules.proofs.Sum.{le-or-lt}
+use Rattle.rules.specs.Table.{cycle, num, den, partitions, goodPart}
+use Rattle.rules.proofs.Sum.{le-or-lt, sum-term}
 use Rattle.rules.proofs.Named.{listed-length, listed-at, listed-past}
 use Rattle.rules.proofs.Least.{largest-le, largest-is}
 use Rattle.theory.specs.Plan.{service, owned}
 use Rattle.theory.specs.Harmonic.{Harmonic, frame, allWanted, rank, taken, turn, planned, harmonicPlan}
-use Rattle.theory.specs.Theorems.{HarmonicServes, HarmonicRefused, HarmonicPlanGood}
+use Rattle.theory.specs.Theorems.{HarmonicServes, HarmonicRefused, PastCycleRefused, HarmonicPlanGood}
 use Rattle.theory.proofs.Order.{Sooner, pairs-divide, rank-below, taken-rank, taken-below, taken-sooner, taken-sum}
 use Rattle.theory.proofs.Need.{needed}
 use Rattle.theory.proofs.Harmonic.{Divides, Chain, After, built, built-bound, after, listed-held}
@@ -45,18 +45,18 @@ module _ (ps : List ℕ) (some : 0 < partitions ps) (good : Every (goodPart long
       let k = frame-is .0 in
       omega (arith, frame-is .2, good-share longest (cycle ps k) (num ps k) (den ps k) (good k (frame-is .1)) .1)
 
-  pub owner-low : (t : ℕ) → getD (harmonicPlan ps) t 0 ≤ n
+  pub owner-low : (q : ℕ → ℕ) (t : ℕ) → getD (harmonicPlan q ps) t 0 ≤ n
   unfolding planned turn
-  owner-low t = go (le-or-lt (frame ps) t)
+  owner-low q t = go (le-or-lt (frame ps) t)
     where
-      low : planned ps n t ≤ n
+      low : planned q ps n t ≤ n
       low =
-          built-bound (λ r. taken ps r + 1) (λ r. wanted ps (taken ps r)) (λ r. cycle ps (taken ps r)) n n
+          built-bound (λ r. taken ps r + 1) (λ r. q (taken ps r)) (λ r. cycle ps (taken ps r)) n n
           (λ s l. omega (arith, taken-below ps s l)) t
 
-      go : (frame ps ≤ t) ⊎ (t < frame ps) → getD (harmonicPlan ps) t 0 ≤ n
-      go (inl h) = omega (arith, listed-past (planned ps n) (frame ps) t h)
-      go (inr h) = omega (arith, low, listed-at (planned ps n) (frame ps) t h)
+      go : (frame ps ≤ t) ⊎ (t < frame ps) → getD (harmonicPlan q ps) t 0 ≤ n
+      go (inl h) = omega (arith, listed-past (planned q ps n) (frame ps) t h)
+      go (inr h) = omega (arith, low, listed-at (planned q ps n) (frame ps) t h)
 
   -- ---- the cycles of the turns
 
@@ -112,15 +112,28 @@ module _ (ps : List ℕ) (some : 0 < partitions ps) (good : Every (goodPart long
 
 pub harmonic-serves : HarmonicServes
 unfolding allWanted planned turn
-harmonic-serves ps some good har h k s l =
-    rw (listed-held (planned ps (partitions ps)) (frame ps) (frame-pos ps some good) (all-after ps some good har (wanted ps) h .frames) (k + 1) (cycle ps k) s)
-    (all-served ps some good har (wanted ps) h k s l)
+harmonic-serves q ps some good har h k s l =
+    rw (listed-held (planned q ps (partitions ps)) (frame ps) (frame-pos ps some good) (all-after ps some good har q h .frames) (k + 1) (cycle ps k) s)
+    (all-served ps some good har q h k s l)
 
 pub harmonic-refused : HarmonicRefused
 unfolding allWanted
-harmonic-refused ps some good har h rule plan s =
-    omega (arith, needed (service rule plan) (wanted ps) (cycle ps) (partitions ps) (frame ps) (frame-whole ps some good har) s)
+harmonic-refused q ps some good har h rule plan s =
+    omega (arith, needed (service rule plan) q (cycle ps) (partitions ps) (frame ps) (frame-whole ps some good har) s)
+
+pub past-cycle-refused : PastCycleRefused
+unfolding allWanted
+past-cycle-refused q ps some good har k l h =
+    let times = frame ps / cycle ps k in
+    let whole : times * cycle ps k ≡ frame ps = omega (arith, div-add-mod' (frame ps) (cycle ps k), frame-whole ps some good har k l) in
+    let more : suc (cycle ps k) * times ≤ q k * times = mul-le-mul-right times h in
+    let once : 0 < times = positive times (cycle ps k) (omega (arith, whole, frame-pos ps some good)) in
+    omega (arith, whole, more, once, suc-mul (cycle ps k) times, mul-comm (cycle ps k) times, sum-term (partitions ps) (λ j. q j * (frame ps / cycle ps j)) k l)
+  where
+    positive : (a b : ℕ) → 0 < a * b → 0 < a
+    positive zero b z = absurd (omega (arith, zero-mul b))
+    positive (suc a) b z = omega arith
 
 pub harmonic-plan-good : HarmonicPlanGood
-harmonic-plan-good ps some good =
-    (listed-length (planned ps (partitions ps)) (frame ps), frame-pos ps some good, frame-low ps some good, frame-longest ps some good, owner-low ps some good)
+harmonic-plan-good q ps some good =
+    (listed-length (planned q ps (partitions ps)) (frame ps), frame-pos ps some good, frame-low ps some good, frame-longest ps some good, owner-low ps some good q)

@@ -5,6 +5,7 @@ use mathlib.Core.List.{List, [], _∷_}
 use Prim.Native.Nat.{ℕ}
 use Rattle.rules.specs.Walk.{only, first, sum, count, largest, walk, listed, roundUp}
 use Rattle.rules.specs.Table.{wants}
+use Rattle.rules.specs.Terms.{granules, usual, wanted}
 use Rattle.theory.specs.Plan.{owned}
 use Rattle.theory.specs.Harmonic.{pairs, frame, allWanted, sooner, rank, give, turn, planned, harmonicPlan}
 
@@ -12,16 +13,24 @@ use Rattle.theory.specs.Harmonic.{pairs, frame, allWanted, sooner, rank,
 abbrev p1 : List ℕ
 p1 = 4 ∷ 1 ∷ 4 ∷ 8 ∷ 3 ∷ 8 ∷ 8 ∷ 1 ∷ 100 ∷ []
 
-pub p1-plan : harmonicPlan p1 ≡ 1 ∷ 2 ∷ 2 ∷ 2 ∷ 1 ∷ 3 ∷ 0 ∷ 0 ∷ []
+pub p1-plan : harmonicPlan (wanted usual p1) p1 ≡ 1 ∷ 2 ∷ 2 ∷ 2 ∷ 1 ∷ 3 ∷ 0 ∷ 0 ∷ []
 unfolding only first sum count largest walk roundUp wants owned frame sooner rank give turn planned listed
 p1-plan = refl
+
+-- in granules of 2 each of the three wants an even number, and no tick is left
+pub p1-plan-2 : harmonicPlan (wanted (granules 2) p1) p1 ≡ 1 ∷ 1 ∷ 2 ∷ 2 ∷ 1 ∷ 1 ∷ 2 ∷ 2 ∷ []
+unfolding only first sum count largest walk roundUp wants owned frame sooner rank give turn planned listed
+p1-plan-2 = refl
 
 pub p1-pairs : pairs p1 1 0 ≡ true
 unfolding pairs
 p1-pairs = refl
 
 -- P3: third share 1/2
-pub p3-wanted : allWanted (4 ∷ 1 ∷ 4 ∷ 8 ∷ 3 ∷ 8 ∷ 8 ∷ 1 ∷ 2 ∷ []) 8 ≡ 9
+abbrev p3 : List ℕ
+p3 = 4 ∷ 1 ∷ 4 ∷ 8 ∷ 3 ∷ 8 ∷ 8 ∷ 1 ∷ 2 ∷ []
+
+pub p3-wanted : allWanted (wanted usual p3) p3 8 ≡ 9
 unfolding sum roundUp wants allWanted
 p3-wanted = refl
 
@@ -31,6 +40,9 @@ unfolding pairs
 p4-pairs = refl
 
 -- the smallest cycle stands last
-pub rising-plan : harmonicPlan (4 ∷ 1 ∷ 4 ∷ 4 ∷ 1 ∷ 4 ∷ 2 ∷ 1 ∷ 2 ∷ []) ≡ 3 ∷ 1 ∷ 3 ∷ 2 ∷ []
+abbrev rising : List ℕ
+rising = 4 ∷ 1 ∷ 4 ∷ 4 ∷ 1 ∷ 4 ∷ 2 ∷ 1 ∷ 2 ∷ []
+
+pub rising-plan : harmonicPlan (wanted usual rising) rising ≡ 3 ∷ 1 ∷ 3 ∷ 2 ∷ []
 unfolding only first sum count largest walk roundUp wants owned frame sooner rank give turn planned listed
 rising-plan = refl

@@ -1,20 +1,24 @@
 -- Every statement of specs/Theorems.antt, with its proof. Assumes nothing.
 use mathlib.Core.Path.{sym, _∙_}
+use native.Mathlib.Omega.{arith}
+use Rattle.theory.specs.Plan.{service}
 use Rattle.theory.specs.Theorems.{Proved}
-use Rattle.theory.proofs.Wants.{wants-smallest, wants-range}
-use Rattle.theory.proofs.Plan.{least-is-least, least-attained, least-zero, least-bounds, least-grows, serves-in-frame}
+use Rattle.theory.proofs.Wants.{wants-smallest, wants-range, wants-whole, wants-no-less}
+use Rattle.theory.proofs.Plan.{held-le, least-is-least, least-attained, least-zero, least-bounds, least-grows, serves-in-frame}
 use Rattle.theory.proofs.Tasks.{points-enough, ticks-exactly, run-theorem, endless-theorem}
 use Rattle.theory.proofs.Load.{load-theorem}
 use Rattle.theory.proofs.Points.{load-points, point-smallest, tick-smallest, tick-at-most-point}
 use Rattle.theory.proofs.Exists.{legal-exists, legal-one}
 use Rattle.theory.proofs.Order.{pairs-divide, taken-once, taken-rises}
-use Rattle.theory.proofs.Built.{harmonic-serves, harmonic-refused, harmonic-plan-good}
+use Rattle.theory.proofs.Built.{harmonic-serves, harmonic-refused, past-cycle-refused, harmonic-plan-good}
 
 pub proved : Proved
 proved = record {
   wants-smallest = wants-smallest;
   wants-range = wants-range;
-  wants-one = λ m n d r r′ e f. e ∙ sym f;
+  wants-whole = wants-whole;
+  wants-no-less = wants-no-less;
+  wants-one = λ g m n d r r′ e f. e ∙ sym f;
   held-one = λ plan p s n r r′ e f. e ∙ sym f;
   least-one = λ plan p t r r′ e f. e ∙ sym f;
   least-is-least = least-is-least;
@@ -39,5 +43,7 @@ proved = record {
   taken-rises = taken-rises;
   harmonic-serves = harmonic-serves;
   harmonic-refused = harmonic-refused;
+  past-cycle-refused = past-cycle-refused;
+  past-cycle-short = λ rule plan p q m s h. omega (arith, held-le (service rule plan) p m s);
   harmonic-plan-good = harmonic-plan-good;
 }

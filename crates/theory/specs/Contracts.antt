@@ -1,12 +1,12 @@
 -- Words that only inner contracts use: no statement and no entry's contract cites them. Assumes nothing.
 use mathlib.Core.List.{List}
 use Prim.Native.Nat.{ℕ, _*_, _/_}
-use Rattle.rules.specs.Table.{cycle, wanted, partition}
+use Rattle.rules.specs.Table.{cycle, partition}
 use Rattle.theory.specs.Plan.{Rule, least}
 
 -- "q·H/m": what place k wants in a frame of h ticks
-abbrev pub wantedIn : List ℕ → ℕ → ℕ → ℕ
-wantedIn ps h k = wanted ps k * (h / cycle ps k)
+abbrev pub wantedIn : (ℕ → ℕ) → List ℕ → ℕ → ℕ → ℕ
+wantedIn q ps h k = q k * (h / cycle ps k)
 
 -- every tick idle
 abbrev pub idle : ℕ → ℕ

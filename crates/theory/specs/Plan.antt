@@ -5,7 +5,7 @@ use Prim.Native.Nat.{ℕ, _+_, _%_, _≤_, _<_}
 use lib.Dec.{eqb}
 use lib.ListN.{length, getD}
 use Rattle.rules.specs.Walk.{count, smallest}
-use Rattle.rules.specs.Table.{cycle, partitions, wanted}
+use Rattle.rules.specs.Table.{cycle, partitions}
 
 -- "A plan of F ticks names for each tick its owner: a partition, or 0 for idle. It repeats without end."
 unfoldable pub owner : List ℕ → ℕ → ℕ
@@ -39,6 +39,6 @@ least rule plan p t = smallest (held rule plan p t) (length plan)
 abbrev pub LeastIs : List ℕ → ℕ → ℕ → ℕ → Type 0
 LeastIs plan p t r = r ≡ least own plan p t
 
--- "every stretch of m consecutive ticks of the repeated plan, from any start and across the frame's end too, holds at least q ticks of that partition"
-abbrev pub Serves : Rule → List ℕ → List ℕ → Type 0
-Serves rule plan ps = (k s : ℕ) → k < partitions ps → wanted ps k ≤ held rule plan (k + 1) (cycle ps k) s
+-- "every stretch of m consecutive ticks of the repeated plan, from any start and across the frame's end too, holds at least q ticks of that partition", where the partition at place k wants q k
+abbrev pub Serves : Rule → (ℕ → ℕ) → List ℕ → List ℕ → Type 0
+Serves rule q plan ps = (k s : ℕ) → k < partitions ps → q k ≤ held rule plan (k + 1) (cycle ps k) s

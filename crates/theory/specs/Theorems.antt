@@ -6,8 +6,9 @@ use mathlib.Core.List.{List}
 use Prim.Native.Nat.{ℕ, suc, _+_, _*_, _≤_, _<_}
 use lib.ListN.{length, getD}
 use Rattle.rules.specs.Limits.{longest}
-use Rattle.rules.specs.Walk.{Every}
+use Rattle.rules.specs.Walk.{Every, roundUp}
 use Rattle.rules.specs.Table.{cycle, partitions, wants, WantsIs, goodShare, goodPart, deadline, tasks, goodTask}
+use Rattle.rules.specs.Terms.{goodGranule}
 use Rattle.theory.specs.Plan.{Rule, own, held, HeldIs, least, LeastIs, Serves}
 use Rattle.theory.specs.Harmonic.{Harmonic, pairs, frame, allWanted, rank, taken, harmonicPlan}
 use Rattle.theory.specs.Run.{Ran, done, Releases, LegalTo, Legal}
@@ -17,17 +18,28 @@ use Rattle.theory.specs.Generality.{LoadPoints, LoadTheorem}
 
 -- ==== ticks
 
--- "rounded up to a whole number": the smallest whole number that is enough
+-- document 02, ask 5: "the smallest multiple of g that is at least num·m/den": it is a multiple, it is enough, and no smaller multiple is
 abbrev pub WantsSmallest : Type 0
-WantsSmallest = (m n d : ℕ) → 0 < d → (n * m ≤ wants m n d * d) × ((q : ℕ) → n * m ≤ q * d → wants m n d ≤ q)
+WantsSmallest =
+    (g m n d : ℕ) → 0 < g → 0 < d
+    → ((c : ℕ) × (wants g m n d ≡ c * g)) × (n * m ≤ wants g m n d * d) × ((c : ℕ) → n * m ≤ c * g * d → wants g m n d ≤ c * g)
 
--- "So q is at least 1", and no more than the cycle has
+-- "So q is at least 1", and passes what the cycle has by less than a granule: with g = 1 not at all
 abbrev pub WantsRange : Type 0
-WantsRange = (limit m n d : ℕ) → goodShare limit m n d ≡ true → (1 ≤ wants m n d) × (wants m n d ≤ m)
+WantsRange =
+    (limit g m n d : ℕ) → goodGranule g ≡ true → goodShare limit m n d ≡ true → (1 ≤ wants g m n d) × (wants g m n d < m + g)
+
+-- "g = 1 gives today's answers": document 01's "q = num·m/den, rounded up to a whole number"
+abbrev pub WantsWhole : Type 0
+WantsWhole = (m n d : ℕ) → wants 1 m n d ≡ roundUp (n * m) d
+
+-- no granule makes a share smaller
+abbrev pub WantsNoLess : Type 0
+WantsNoLess = (g m n d : ℕ) → 0 < g → wants 1 m n d ≤ wants g m n d
 
 -- "any two outcomes it permits are equal", of the three calls that answer with a number
 abbrev pub WantsOne : Type 0
-WantsOne = (m n d r r′ : ℕ) → WantsIs m n d r → WantsIs m n d r′ → r ≡ r′
+WantsOne = (g m n d r r′ : ℕ) → WantsIs g m n d r → WantsIs g m n d r′ → r ≡ r′
 
 abbrev pub HeldOne : Type 0
 HeldOne = (plan : List ℕ) (p s n r r′ : ℕ) → HeldIs plan p s n r → HeldIs plan p s n r′ → r ≡ r′
@@ -123,7 +135,7 @@ LegalOne =
     (N : ℕ) (rule : Rule) (plan : List ℕ) (start : ℕ) (ts : List ℕ) (work : ℕ → ℕ → ℕ) (ran ran′ : ℕ → Ran)
     → LegalTo N rule plan start ts work ran → LegalTo N rule plan start ts work ran′ → (n : ℕ) → n < N → ran n ≡ ran′ n
 
--- ==== demand 3, second half: the harmonic rule
+-- ==== demand 3, second half: the harmonic rule, whatever each partition wants
 
 -- of two cycles that pair, one divides the other
 abbrev pub PairsDivide : Type 0
@@ -144,22 +156,32 @@ TakenRises =
 -- where the sum is not above H, the plan that the rule writes serves the table
 abbrev pub HarmonicServes : Type 0
 HarmonicServes =
-    (ps : List ℕ) → 0 < partitions ps → Every (goodPart longest ps) (partitions ps) → Harmonic ps
-    → allWanted ps (frame ps) ≤ frame ps → Serves own (harmonicPlan ps) ps
+    (q : ℕ → ℕ) (ps : List ℕ) → 0 < partitions ps → Every (goodPart longest ps) (partitions ps) → Harmonic ps
+    → allWanted q ps (frame ps) ≤ frame ps → Serves own q (harmonicPlan q ps) ps
 
 -- "exactly when the sum of q·H/m is above H. Then no plan of any frame serves the table."
 abbrev pub HarmonicRefused : Type 0
 HarmonicRefused =
-    (ps : List ℕ) → 0 < partitions ps → Every (goodPart longest ps) (partitions ps) → Harmonic ps
-    → frame ps < allWanted ps (frame ps) → (rule : Rule) (plan : List ℕ) → ¬ Serves rule plan ps
+    (q : ℕ → ℕ) (ps : List ℕ) → 0 < partitions ps → Every (goodPart longest ps) (partitions ps) → Harmonic ps
+    → frame ps < allWanted q ps (frame ps) → (rule : Rule) (plan : List ℕ) → ¬ Serves rule q plan ps
+
+-- document 02, ask 5: "If q passes m the sum rule refuses it."
+abbrev pub PastCycleRefused : Type 0
+PastCycleRefused =
+    (q : ℕ → ℕ) (ps : List ℕ) → 0 < partitions ps → Every (goodPart longest ps) (partitions ps) → Harmonic ps
+    → (k : ℕ) → k < partitions ps → cycle ps k < q k → frame ps < allWanted q ps (frame ps)
+
+-- and every stretch of the cycle falls short, in any plan
+abbrev pub PastCycleShort : Type 0
+PastCycleShort = (rule : Rule) (plan : List ℕ) (p q m s : ℕ) → m < q → held rule plan p m s < q
 
 -- its frame is the largest cycle, no cycle is longer, and every owner is 0 or a partition of the table
 abbrev pub HarmonicPlanGood : Type 0
 HarmonicPlanGood =
-    (ps : List ℕ) → 0 < partitions ps → Every (goodPart longest ps) (partitions ps)
-    → (length (harmonicPlan ps) ≡ frame ps) × (1 ≤ frame ps) × (frame ps ≤ longest)
+    (q : ℕ → ℕ) (ps : List ℕ) → 0 < partitions ps → Every (goodPart longest ps) (partitions ps)
+    → (length (harmonicPlan q ps) ≡ frame ps) × (1 ≤ frame ps) × (frame ps ≤ longest)
     × ((k : ℕ) → k < partitions ps → cycle ps k ≤ frame ps)
-    × ((t : ℕ) → getD (harmonicPlan ps) t 0 ≤ partitions ps)
+    × ((t : ℕ) → getD (harmonicPlan q ps) t 0 ≤ partitions ps)
 
 -- ==== all of them: proofs/Proved.antt has one
 
@@ -167,6 +189,8 @@ HarmonicPlanGood =
 pub record Proved : Type 0 where
   pub wants-smallest : WantsSmallest
   pub wants-range : WantsRange
+  pub wants-whole : WantsWhole
+  pub wants-no-less : WantsNoLess
   pub wants-one : WantsOne
   pub held-one : HeldOne
   pub least-one : LeastOne
@@ -192,4 +216,6 @@ pub record Proved : Type 0 where
   pub taken-rises : TakenRises
   pub harmonic-serves : HarmonicServes
   pub harmonic-refused : HarmonicRefused
+  pub past-cycle-refused : PastCycleRefused
+  pub past-cycle-short : PastCycleShort
   pub harmonic-plan-good : HarmonicPlanGood

@@ -12,7 +12,7 @@ enum-known-built : tie.Need-enum-known-built
 enum-known-built c = search needs
 
 lay-requires : tie.Need-lay-requires
-lay-requires c κs = let a = laid _ _ _ (sym (c .before .before .before .before .build-answer .ensures) ∙ c .before .before .built .given .1) in (layable _ (a .good), a .fits)
+lay-requires c κs = let a = laid _ _ _ _ (sym (c .before .before .before .before .build-answer .ensures) ∙ c .before .before .built .given .1) in (layable _ (a .good), a .fits)
 
 enum-known-built-2 : tie.Need-enum-known-built-2
 enum-known-built-2 c = search needs
@@ -22,7 +22,7 @@ same-length c = c .before .before .lay .ensures .as-long
 
 returns : tie.Need-returns
 returns c =
-    let a = laid _ _ _ (sym (c .before .before .before .before .before .before .before .build-answer .ensures) ∙ c .before .before .before .before .before .built .given .1) in
+    let a = laid _ _ _ _ (sym (c .before .before .before .before .before .before .before .build-answer .ensures) ∙ c .before .before .before .before .before .built .given .1) in
     (sym (c .before .before .before .before .before .built .given .1) ∙ c .before .before .before .before .before .before .before .build-answer .ensures, rw (← a .is-frame) (named-list _ _ _ _ (a .fits) (c .before .before .lay .ensures)))
 
 returns-2 : tie.Need-returns-2

@@ -14,13 +14,13 @@ enum-told : tie.Need-enum-told
 enum-told c = search needs
 
 lay-answer-requires : tie.Need-lay-answer-requires
-lay-answer-requires c κs = good-few _ 0 (sym (c .before .before .judge-partitions .ensures) ∙ c .enum-told .given .1)
+lay-answer-requires c κs = good-few _ _ 0 (sym (c .before .before .judge-partitions .ensures) ∙ c .enum-told .given .1)
 
 returns : tie.Need-returns
-returns c = build-tables _ _ _ (sym (c .before .before .before .judge-partitions .ensures) ∙ c .before .tables .given .1)
+returns c = build-tables _ _ _ _ (sym (c .before .before .before .judge-partitions .ensures) ∙ c .before .tables .given .1)
 
 returns-2 : tie.Need-returns-2
-returns-2 c = build-laid _ _ (sym (c .before .before .before .judge-partitions .ensures) ∙ c .before .enum-told .given .1) _ (c .lay-answer .ensures)
+returns-2 c = build-laid _ _ _ (sym (c .before .before .before .judge-partitions .ensures) ∙ c .before .enum-told .given .1) _ (c .lay-answer .ensures)
 
 pub build-answer-spec : {M : Type 1} → statement M
 build-answer-spec =

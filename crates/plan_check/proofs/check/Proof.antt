@@ -17,10 +17,10 @@ check-plan-requires : tie.Need-check-plan-requires
 check-plan-requires c κs = search needs
 
 returns : tie.Need-returns
-returns c = check-tables _ _ _ (sym (c .before .before .before .judge-partitions .ensures) ∙ c .before .tables .given .1)
+returns c = check-tables _ _ _ _ (sym (c .before .before .before .judge-partitions .ensures) ∙ c .before .tables .given .1)
 
 returns-2 : tie.Need-returns-2
-returns-2 c = check-plan _ _ (sym (c .before .before .before .judge-partitions .ensures) ∙ c .before .enum-told .given .1) _ (c .check-plan .ensures)
+returns-2 c = check-plan _ _ _ (sym (c .before .before .before .judge-partitions .ensures) ∙ c .before .enum-told .given .1) _ (c .check-plan .ensures)
 
 pub check-spec : {M : Type 1} → statement M
 check-spec =

@@ -17,10 +17,10 @@ scan-requires : tie.Need-scan-requires
 scan-requires c κs = search needs
 
 returns : tie.Need-returns
-returns c = plan-8 _ _ _ (sym (c .before .before .before .judge-ticks .ensures) ∙ c .before .ticks .given .1)
+returns c = plan-8 _ _ _ _ (sym (c .before .before .before .judge-ticks .ensures) ∙ c .before .ticks .given .1)
 
 returns-2 : tie.Need-returns-2
-returns-2 c = plan-9 _ _ (sym (c .before .before .before .judge-ticks .ensures) ∙ c .before .enum-told .given .1) _ (c .scan .ensures)
+returns-2 c = plan-9 _ _ _ (sym (c .before .before .before .judge-ticks .ensures) ∙ c .before .enum-told .given .1) _ (c .scan .ensures)
 
 pub check-plan-spec : {M : Type 1} → statement M
 check-plan-spec =

@@ -4,6 +4,7 @@ use native.Mathlib.Omega.{arith}
 use lib.ListN.{length}
 use Rattle.rules.specs.Table.{partitions}
 use Rattle.theory.specs.Harmonic.{planned}
+use Rattle.rules.specs.Terms.{wanted}
 use Rattle.rules.specs.Contracts.{AsNamed}
 use Rattle.rules.proofs.Named.{named-self, named-then}
 use Rattle.plan_lay.proofs.Passes.{planned-none, planned-turn}
@@ -12,10 +13,10 @@ use Rattle.plan_lay.proofs.lay.Statement.{statement}
 use Rattle.plan_lay.proofs.lay.Tie as tie
 
 abbrev Inv-loop : tie.InvT-loop
-Inv-loop parts out₀ h n r₀ out r = (r ≤ n) × (length out ≡ length out₀) × AsNamed (planned parts r) h out₀ out
+Inv-loop terms parts out₀ h n r₀ out r = (r ≤ n) × (length out ≡ length out₀) × AsNamed (planned (wanted terms parts) parts r) h out₀ out
 
 abbrev μ-loop : tie.MeasureT-loop
-μ-loop parts out₀ h n r₀ out r = n - r
+μ-loop terms parts out₀ h n r₀ out r = n - r
 
 clear-requires : tie.Need-clear-requires Inv-loop μ-loop
 clear-requires c κs = search needs
@@ -24,7 +25,7 @@ partitions-requires : tie.Need-partitions-requires Inv-loop μ-loop
 partitions-requires c κs = search needs
 
 loop-holds : tie.Need-loop-holds Inv-loop μ-loop
-loop-holds c = (search needs, refl, planned-none _ _ _ _ (named-self _ _ _ _ (c .before .before .before .clear .ensures)))
+loop-holds c = (search needs, refl, planned-none _ _ _ _ _ (named-self _ _ _ _ (c .before .before .before .clear .ensures)))
 
 turn-requires : tie.Need-turn-requires Inv-loop μ-loop
 turn-requires c κs = (c .before .before .before .before .before .before .before .before .before .before .pre .0, search needs, omega (arith, c .before .before .before .before .before .before .before .before .before .before .pre .1, c .before .before .loop .inv .1, c .before .before .before .before .before .before .clear .ensures .as-long))
@@ -36,7 +37,7 @@ loop-less : tie.Need-loop-less Inv-loop μ-loop
 loop-less c = search needs
 
 loop-again : tie.Need-loop-again Inv-loop μ-loop
-loop-again c = (search needs, c .before .before .turn .ensures .as-long ∙ c .before .before .before .before .before .loop .inv .1, planned-turn _ _ _ _ _ _ (c .before .before .before .before .before .loop .inv .2) (c .before .before .turn .ensures))
+loop-again c = (search needs, c .before .before .turn .ensures .as-long ∙ c .before .before .before .before .before .loop .inv .1, planned-turn _ _ _ _ _ _ _ (c .before .before .before .before .before .loop .inv .2) (c .before .before .turn .ensures))
 
 same-length : tie.Need-same-length Inv-loop μ-loop
 same-length c = c .before .loop .inv .1 ∙ c .before .before .before .before .before .clear .ensures .as-long

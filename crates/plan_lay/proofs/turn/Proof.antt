@@ -31,7 +31,7 @@ same-length : tie.Need-same-length
 same-length c = search needs
 
 returns : tie.Need-returns
-returns c = turn-is _ _ _ _ _ _ _ _ _ (c .before .before .before .before .before .before .before .taken .ensures) (c .before .before .before .before .before .before .wanted .ensures) (c .before .before .before .before .wide .ensures ∙ c .before .before .before .before .before .cycle .ensures) (c .before .before .give .ensures)
+returns c = turn-is _ _ _ _ _ _ _ _ _ _ (c .before .before .before .before .before .before .before .taken .ensures) (c .before .before .before .before .before .before .wanted .ensures) (c .before .before .before .before .wide .ensures ∙ c .before .before .before .before .before .cycle .ensures) (c .before .before .give .ensures)
 
 pub turn-spec : {M : Type 1} → statement M
 turn-spec =

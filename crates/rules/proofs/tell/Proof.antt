@@ -125,6 +125,12 @@ enum-told-16 c = search needs
 numbered-requires-19 : tie.Need-numbered-requires-19
 numbered-requires-19 c κs = search needs
 
+enum-told-17 : tie.Need-enum-told-17
+enum-told-17 c = search needs
+
+numbered-requires-20 : tie.Need-numbered-requires-20
+numbered-requires-20 c κs = search needs
+
 enum-known-r-6 : tie.Need-enum-known-r-6
 enum-known-r-6 c = search needs
 
@@ -195,7 +201,10 @@ returns-21 : tie.Need-returns-21
 returns-21 c = rw (c .before .enum-told16 .given .1) (c .numbered19 .ensures)
 
 returns-22 : tie.Need-returns-22
-returns-22 c = rw (c .before .before .r6 .given .1) (c .questioned2 .ensures)
+returns-22 c = rw (c .before .enum-told17 .given .1) (c .numbered20 .ensures)
+
+returns-23 : tie.Need-returns-23
+returns-23 c = rw (c .before .before .r6 .given .1) (c .questioned2 .ensures)
 
 pub tell-spec : {M : Type 1} → statement M
 tell-spec =
@@ -242,6 +251,8 @@ tell-spec =
     numbered-requires-18
     enum-told-16
     numbered-requires-19
+    enum-told-17
+    numbered-requires-20
     enum-known-r-6
     questioned-requires-2
     returns
@@ -265,4 +276,5 @@ tell-spec =
     returns-19
     returns-20
     returns-21
-    returns-22)
+    returns-22
+    returns-23)

@@ -17,10 +17,10 @@ at-place-requires : tie.Need-at-place-requires
 at-place-requires c κs = search needs
 
 returns : tie.Need-returns
-returns c = tables-refused _ _ _ _ _ (sym (c .before .before .before .judge-tables .ensures) ∙ c .before .tables .given .1)
+returns c = tables-refused _ _ _ _ _ _ (sym (c .before .before .before .judge-tables .ensures) ∙ c .before .tables .given .1)
 
 returns-2 : tie.Need-returns-2
-returns-2 c = tables-good _ _ _ _ _ (sym (c .before .before .before .judge-tables .ensures) ∙ c .before .enum-told .given .1) (c .at-place .ensures)
+returns-2 c = tables-good _ _ _ _ _ _ (sym (c .before .before .before .judge-tables .ensures) ∙ c .before .enum-told .given .1) (c .at-place .ensures)
 
 pub answerable-spec : {M : Type 1} → statement M
 answerable-spec =

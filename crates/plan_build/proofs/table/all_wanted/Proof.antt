@@ -3,6 +3,7 @@ use mathlib.Core.Path.{_≡_, sym, ap₂, _∙_}
 use native.Mathlib.Omega.{arith}
 use Rattle.rules.specs.Walk.{sum}
 use Rattle.rules.specs.Table.{partitions}
+use Rattle.rules.specs.Terms.{wanted}
 use Rattle.rules.proofs.Sum.{sum-zero, sum-more}
 use Rattle.theory.specs.Harmonic.{allWanted}
 use borrow.Author.Needs.{needs}
@@ -11,10 +12,10 @@ use Rattle.plan_build.proofs.table.all_wanted.Tie as tie
 use Rattle.theory.specs.Contracts.{wantedIn}
 
 abbrev Inv-loop : tie.InvT-loop
-Inv-loop parts h n all₀ k₀ all k = (k ≤ n) × (all ≤ 2 ^ 48 * k) × (all ≡ sum (wantedIn parts h) k)
+Inv-loop terms parts h n all₀ k₀ all k = (k ≤ n) × (all ≤ 2 ^ 53 * k) × (all ≡ sum (wantedIn (wanted terms parts) parts h) k)
 
 abbrev μ-loop : tie.MeasureT-loop
-μ-loop parts h n all₀ k₀ all k = n - k
+μ-loop terms parts h n all₀ k₀ all k = n - k
 
 partitions-requires : tie.Need-partitions-requires Inv-loop μ-loop
 partitions-requires c κs = search needs
