@@ -18,6 +18,7 @@ use Rattle.theory.specs.Plan.{own}
 use Rattle.theory.specs.Task.{taskLoad, taskPoint, taskTick}
 use Rattle.theory.specs.Contracts.{leastFor}
 use Rattle.theory.proofs.Points.{tick-at-most-point}
+use Rattle.rules.specs.Terms.{usual, wanted}
 use Rattle.plan_check.specs.Check.{checkOf, scanOf}
 use Rattle.plan_check.proofs.Orders.{shortPart, shortStart, shortfall}
 use Rattle.task_verdict.specs.Theorems.{Answered}
@@ -35,8 +36,8 @@ use Rattle.file_listing.specs.Listing.{readLines, listingOf}
 use Rattle.file_listing.specs.Theorems.{planIn, LineOfBoth, ListingFirst, Proved}
 use Rattle.file_listing.proofs.Tables.{fit, scanned}
 
-listed-verdict : (b : List ℕ) (frame np nt nr : ℕ) → readOf b ≡ Contents frame np nt nr → (j : ℕ) → checkOf (planIn b) (tableOf b Partitions) ≡ found.Good → j < nt
-    → Answered (planIn b) (tableOf b Partitions) (tableOf b Tasks) (j + 1)
+listed-verdict : (b : List ℕ) (frame np nt nr : ℕ) → readOf b ≡ Contents frame np nt nr → (j : ℕ) → checkOf usual (planIn b) (tableOf b Partitions) ≡ found.Good → j < nt
+    → Answered usual (planIn b) (tableOf b Partitions) (tableOf b Tasks) (j + 1)
 listed-verdict b frame np nt nr e j c h = let f = fit b frame np nt nr e in record {
   accepted = c;
   good = rw (f .ticks) (f .good);
@@ -45,9 +46,9 @@ listed-verdict b frame np nt nr e j c h = let f = fit b frame np nt nr e in reco
 }
 
 -- an answered task's line
-module _ (plan ps ts : List ℕ) (j : ℕ) (a : Answered plan ps ts (j + 1)) where
-  said : (engine : List ℕ → List ℕ → ℕ → ℕ) → verdictBy engine plan ps ts (j + 1) ≡ passAt (deadline ts j) (engine plan ts j)
-  said engine = let z : j + 1 - 1 ≡ j = omega arith in rw z at (answer plan ps ts (j + 1) engine a)
+module _ (plan ps ts : List ℕ) (j : ℕ) (a : Answered usual plan ps ts (j + 1)) where
+  said : (engine : List ℕ → List ℕ → ℕ → ℕ) → verdictBy engine usual plan ps ts (j + 1) ≡ passAt (deadline ts j) (engine plan ts j)
+  said engine = let z : j + 1 - 1 ≡ j = omega arith in rw z at (answer usual plan ps ts (j + 1) engine a)
 
   listed-line : LineOfBoth plan ps ts j
   unfolding taskLine
@@ -66,14 +67,14 @@ module _ (plan ps ts : List ℕ) (j : ℕ) (a : Answered plan ps ts (j + 1)) whe
           )
       at false e =
           let f = said (taskPoint own) ∙ is-fail _ _ (leb-false (taskPoint own plan ts j) (deadline ts j) e) in
-          inr (f, verdicts.proved .by-ticks .fail-exactly plan ps ts (j + 1) .1 (verdicts.proved .by-points .fail-exactly plan ps ts (j + 1) .0 f), rw e)
+          inr (f, verdicts.proved .by-ticks .fail-exactly usual plan ps ts (j + 1) .1 (verdicts.proved .by-points .fail-exactly usual plan ps ts (j + 1) .0 f), rw e)
 
 -- the scan's only refusal
-scan-nine : (plan ps : List ℕ) (r : Refusal) → scanOf plan ps ≡ found.Refused r → told r .number ≡ 9
+scan-nine : (q : ℕ → ℕ) (plan ps : List ℕ) (r : Refusal) → scanOf q plan ps ≡ found.Refused r → told r .number ≡ 9
 unfolding scanOf
-scan-nine plan ps r e =
-    let a = pick-first (ltb (shortPart plan ps) (partitions ps)) (found.Refused (shortfall plan ps (shortPart plan ps) (shortStart plan ps (shortPart plan ps)))) found.Good (found.Refused r) (λ q. let z : _≡_ {A = ℕ} 0 1 = cc in absurd (omega arith)) e in
-    let s : shortfall plan ps (shortPart plan ps) (shortStart plan ps (shortPart plan ps)) ≡ r = cc (a .1) in
+scan-nine q plan ps r e =
+    let a = pick-first (ltb (shortPart q plan ps) (partitions ps)) (found.Refused (shortfall q plan ps (shortPart q plan ps) (shortStart q plan ps (shortPart q plan ps)))) found.Good (found.Refused r) (λ e. let z : _≡_ {A = ℕ} 0 1 = cc in absurd (omega arith)) e in
+    let s : shortfall q plan ps (shortPart q plan ps) (shortStart q plan ps (shortPart q plan ps)) ≡ r = cc (a .1) in
     ap (λ (x : Refusal). told x .number) (sym s)
 
 listing-first : ListingFirst
@@ -88,7 +89,7 @@ pub proved : Proved
 proved = record {
   listing-counts = λ b frame np nt nr e. (fit b frame np nt nr e .ticks, fit b frame np nt nr e .parts, fit b frame np nt nr e .listed);
   listing-verdicts = λ b frame np nt nr j e c h. listed-line (planIn b) (tableOf b Partitions) (tableOf b Tasks) j (listed-verdict b frame np nt nr e j c h);
-  only-nine = λ b frame np nt nr r e c. scan-nine (planIn b) (tableOf b Partitions) r (sym (scanned b frame np nt nr e) ∙ c);
+  only-nine = λ b frame np nt nr r e c. scan-nine (wanted usual (tableOf b Partitions)) (planIn b) (tableOf b Partitions) r (sym (scanned b frame np nt nr e) ∙ c);
   listing-first = listing-first;
   listing-one = λ b out o o′ r r′ e f. (e .0 ∙ sym (f .0), e .1 ∙ sym (f .1));
 }

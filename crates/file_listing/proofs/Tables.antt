@@ -13,6 +13,7 @@ use Rattle.tables.specs.Tables.{GoodTables}
 use Rattle.rules.specs.declared.Refusal.the-variants.{Tick, Output}
 use Rattle.tables.proofs.Chain.{good-lowest, without-tasks, unless-good}
 use Rattle.rules.specs.declared.Finding.the-variants as found
+use Rattle.rules.specs.Terms.{usual, wanted}
 use Rattle.plan_check.specs.Check.{scanOf, planCheckOf, checkOf}
 use Rattle.file_tables.proofs.Chain.{sizes}
 use Rattle.file_read.specs.declared.Reading.{Reading}
@@ -43,7 +44,7 @@ pub record Fit (b : List ℕ) (frame np nt : ℕ) : Type 0 where
   pub ticks : length (ticksOf (tableOf b Runs)) ≡ frame
   pub parts : partitions (tableOf b Partitions) ≡ np
   pub listed : tasks (tableOf b Tasks) ≡ nt
-  pub good : GoodTables frame (tableOf b Partitions) (tableOf b Tasks)
+  pub good : GoodTables usual frame (tableOf b Partitions) (tableOf b Tasks)
   pub owned : Every (goodTick np (ticksOf (tableOf b Runs))) frame
 
 module _ (b : List ℕ) (frame np nt nr : ℕ) (e : readOf b ≡ Contents frame np nt nr) where
@@ -61,15 +62,15 @@ module _ (b : List ℕ) (frame np nt nr : ℕ) (e : readOf b ≡ Contents frame 
       }
 
   -- of the plan of a file that was read only 9 is left
-  pub scanned : checkOf (ticksOf (tableOf b Runs)) (tableOf b Partitions) ≡ scanOf (ticksOf (tableOf b Runs)) (tableOf b Partitions)
+  pub scanned : checkOf usual (ticksOf (tableOf b Runs)) (tableOf b Partitions) ≡ scanOf (wanted usual (tableOf b Partitions)) (ticksOf (tableOf b Runs)) (tableOf b Partitions)
   unfolding checkOf planCheckOf
   scanned =
       let f = fit in
       let plan : List ℕ = ticksOf (tableOf b Runs) in
       let ps : List ℕ = tableOf b Partitions in
-      let g : GoodTables (length plan) ps [] = rw (f .ticks) (without-tasks frame ps (tableOf b Tasks) (f .good)) in
+      let g : GoodTables usual (length plan) ps [] = rw (f .ticks) (without-tasks frame ps (tableOf b Tasks) (f .good)) in
       let t : Every (goodTick (partitions ps) plan) (length plan) = rw (f .parts, f .ticks) (f .owned) in
-      unless-good (length plan) ps [] found.Refused (planCheckOf plan ps) g ∙ rw (good-lowest Tick (goodTick (partitions ps) plan) (length plan) t)
+      unless-good usual (length plan) ps [] found.Refused (planCheckOf (wanted usual ps) plan ps) g ∙ rw (good-lowest Tick (goodTick (partitions ps) plan) (length plan) t)
 
   pub listable : Listable frame (tableOf b Partitions) (tableOf b Tasks) (tableOf b Runs)
   listable =

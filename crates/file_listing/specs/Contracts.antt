@@ -4,6 +4,7 @@ use mathlib.Core.Path.{_≡_}
 use mathlib.Core.List.{List}
 use lib.ListN.{length}
 use Rattle.rules.specs.Limits.{longest, runWidth}
+use Rattle.rules.specs.Terms.{usual, wanted}
 use Rattle.plan_check.specs.Check.{scanOf, checkOf}
 use Rattle.file_runs.specs.Ticks.{ticksOf}
 use Rattle.file_page.specs.Contracts.{GoodRecords}
@@ -14,4 +15,4 @@ pub record Listable (frame : ℕ) (ps ts rs : List ℕ) : Type 0 where
   pub few : length rs ≤ runWidth * longest
   pub in-frame : frame ≤ longest
   pub ticks : length (ticksOf rs) ≡ frame
-  pub judged : checkOf (ticksOf rs) ps ≡ scanOf (ticksOf rs) ps
+  pub judged : checkOf usual (ticksOf rs) ps ≡ scanOf (wanted usual ps) (ticksOf rs) ps

@@ -8,6 +8,7 @@ use Rattle.rules.specs.Walk.{pick}
 use Rattle.tables.specs.Tables.{unless}
 use Rattle.rules.specs.Filling.{leftBy}
 use Rattle.rules.specs.declared.Refusal.the-variants.{Output}
+use Rattle.rules.specs.Terms.{usual}
 use Rattle.plan_check.specs.Check.{checkOf}
 use Rattle.file_read.specs.declared.Reading.{Reading}
 use Rattle.file_read.specs.declared.Reading.the-variants as reading
@@ -19,9 +20,9 @@ use Rattle.file_page.specs.Page.{pageOf}
 use Rattle.rules.specs.declared.Filling.{Filling}
 use Rattle.rules.specs.declared.Filling.the-variants.{Fills, Refused}
 
--- of the tables of an accepted file
+-- of the tables of an accepted file; "the listing program keeps g = 1"
 unfoldable pub tablesLines : ℕ → List ℕ → List ℕ → List ℕ → List ℕ
-tablesLines frame plan ps ts = unless refusedLine (checkOf plan ps) (pageOf frame plan ps ts)
+tablesLines frame plan ps ts = unless refusedLine (checkOf usual plan ps) (pageOf frame plan ps ts)
 
 abbrev pub readLines : Reading → List ℕ → List ℕ
 readLines (reading.Contents frame np nt nr) b = tablesLines frame (ticksOf (tableOf b Runs)) (tableOf b Partitions) (tableOf b Tasks)

@@ -16,6 +16,7 @@ ghost use mathlib.Core.Path.{_≡_};
 ghost use Prim.Native.Nat.{_≤_};
 ghost use lib.ListN.{length};
 ghost use Rattle.rules.specs.Limits.{longestListing};
+ghost use Rattle.rules.specs.Terms.{usual, wanted};
 ghost use Rattle.plan_check.specs.Check.{scanOf, checkOf};
 ghost use Rattle.file_runs.specs.Ticks.{ticksOf};
 ghost use Rattle.output.specs.Put.{Put};
@@ -26,12 +27,12 @@ ghost use Rattle.file_listing.specs.Contracts.{Listable};
 // The file's tables are judged already: of the plan only 9 is left.
 fn put_checked(frame: usize, plan: &[u16], parts: &[u16], table: &[u16], out: &mut [u8]) -> usize
     requires { ⌜ GoodRecords (now parts) (now table) ⌝ }
-    requires { ⌜ checkOf (now plan) (now parts) ≡ scanOf (now plan) (now parts) ⌝ }
+    requires { ⌜ checkOf usual (now plan) (now parts) ≡ scanOf (wanted usual (now parts)) (now plan) (now parts) ⌝ }
     ensures { λ r. ⌜ Put (now (out .entry)) 0
         (tablesLines frame (now (plan .entry)) (now (parts .entry)) (now (table .entry))) r (now (out .exit))
         × (r ≤ longestListing) ⌝ }
 {
-    let checked = plan_check::scan(plan, parts);
+    let checked = plan_check::scan(rules::usual(), plan, parts);
     match checked {
         Finding::Refused(r) => output::put_refusal(out, r),
         Finding::Good => file_page::put_page(frame, plan, parts, table, out),

@@ -6,7 +6,8 @@ use lib.ListN.{getD}
 use borrow.Author.Tests.{le-leb, lt-leb}
 use Rattle.output.specs.Put.{Put}
 use Rattle.output.proofs.Put.{put-none, and-then}
-use Rattle.rules.specs.Table.{cycle, wanted, partition, deadline, tasks}
+use Rattle.rules.specs.Table.{cycle, partition, deadline, tasks}
+use Rattle.rules.specs.Terms.{usual, wanted}
 use Rattle.theory.specs.Plan.{own, least}
 use Rattle.theory.specs.Task.{taskPoint, taskTick}
 use Rattle.file_lines.specs.Lines.{partitionLine, passLine, failLine}
@@ -23,7 +24,7 @@ pub lines-more : {l m o : List ℕ} {i j r : ℕ} (f : ℕ → List ℕ) (k : �
 lines-more f k p q = rw (gathered-more f k) (and-then p q)
 
 -- a partition's line, at the numbers that the code holds
-pub part-line : (plan ps : List ℕ) (k q m w l : ℕ) → q ≡ wanted ps k → m ≡ cycle ps k → w ≡ m → l ≡ least own plan (k + 1) m → partitionLine (k + 1) q w l ≡ partLine plan ps k
+pub part-line : (plan ps : List ℕ) (k q m w l : ℕ) → q ≡ wanted usual ps k → m ≡ cycle ps k → w ≡ m → l ≡ least own plan (k + 1) m → partitionLine (k + 1) q w l ≡ partLine plan ps k
 unfolding partLine
 part-line plan ps k q m w l eq em ew el = rw (ew, el, eq, em)
 

@@ -3,14 +3,15 @@ use Prim.Native.Nat.{ℕ, _+_}
 use mathlib.Core.List.{List, _++_}
 use lib.Dec.{leb}
 use Rattle.rules.specs.Walk.{pick, gathered}
-use Rattle.rules.specs.Table.{cycle, wanted, partitions, partition, deadline, tasks}
+use Rattle.rules.specs.Table.{cycle, partitions, partition, deadline, tasks}
+use Rattle.rules.specs.Terms.{usual, wanted}
 use Rattle.theory.specs.Plan.{own, least}
 use Rattle.theory.specs.Task.{taskPoint, taskTick}
 use Rattle.file_lines.specs.Lines.{frameLine, partitionLine, passLine, failLine}
 
--- partition i wants q in m least l, "where `least` is least(m)"
+-- partition i wants q in m least l, "where `least` is least(m)"; "the listing program keeps g = 1"
 unfoldable pub partLine : List ℕ → List ℕ → ℕ → List ℕ
-partLine plan ps k = partitionLine (k + 1) (wanted ps k) (cycle ps k) (least own plan (k + 1) (cycle ps k))
+partLine plan ps k = partitionLine (k + 1) (wanted usual ps k) (cycle ps k) (least own plan (k + 1) (cycle ps k))
 
 -- "A pass reports the smallest scheduling point that holds", and by ask 4 "the smallest tick that holds"; "A failing task ends in `fail`."
 unfoldable pub taskLine : List ℕ → List ℕ → ℕ → List ℕ

@@ -21,7 +21,7 @@ fn put_part(plan: &[u16], parts: &[u16], k: usize, out: &mut [u8], at: usize) ->
         × (r ≤ at + longestLine) ⌝ }
 {
     let m = rules::records::cycle(parts, k);
-    let wanted = rules::records::wanted(parts, k);
+    let wanted = rules::records::wanted(rules::usual(), parts, k);
     let least = plan_service::least(plan, (k + 1) as u16, m as u32);
     put_partition(out, at, k + 1, wanted, rules::numbers::wide(m), least)
 }

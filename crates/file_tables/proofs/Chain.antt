@@ -10,6 +10,7 @@ use borrow.Author.Tests.{lt-ltb, le-ltb, lt-leb, le-leb}
 use Rattle.rules.specs.Limits.{mostPartitions, mostTasks, longest, partWidth, taskWidth, runWidth}
 use Rattle.rules.specs.Walk.{pick, fails, sum, Every}
 use Rattle.rules.specs.Table.{partitions, tasks}
+use Rattle.rules.specs.Terms.{usual}
 use Rattle.tables.specs.Tables.{tablesOf, unless, GoodTables}
 use Rattle.rules.specs.declared.Refusal.{Refusal}
 use Rattle.rules.specs.declared.Refusal.the-variants.{Limits, Partition, Task, Tick}
@@ -17,7 +18,7 @@ use Rattle.rules.specs.declared.Finding.{Finding}
 use Rattle.rules.specs.declared.Finding.the-variants.{Good, Refused}
 use Rattle.rules.proofs.Sum.{sum-more}
 use Rattle.rules.proofs.Tests.{pick-first}
-use Rattle.tables.proofs.Chain.{not-good, lowest-good, good-lowest, counted-parts, within, unless-given, unless-good, unless-holds}
+use Rattle.tables.proofs.Chain.{not-good, lowest-good, good-lowest, counted-parts, within, unless-given, unless-good, unless-holds, usual-not-21}
 use Rattle.file_tables.specs.Contracts.{runsCounted, firstBadRun}
 use Rattle.file_tables.specs.Runs.{runOwner, runLength, runs, repeats, reached, goodRun, runsJudged, fileTablesOf}
 
@@ -88,17 +89,17 @@ module _ (frame : ℕ) (ps ts rs : List ℕ) where
   file-3 e = rw e
 
   module _ (c : runsCounted (length rs) ≡ true) where
-    pub file-tables : (r : Refusal) → tablesOf frame ps ts ≡ Refused r → Refused r ≡ fileTablesOf frame ps ts rs
+    pub file-tables : (r : Refusal) → tablesOf usual frame ps ts ≡ Refused r → Refused r ≡ fileTablesOf frame ps ts rs
     unfolding fileTablesOf
     file-tables r e = rw (c, e)
 
-    pub file-runs : tablesOf frame ps ts ≡ Good → (t : Finding) → t ≡ runsJudged (partitions ps) frame rs → t ≡ fileTablesOf frame ps ts rs
+    pub file-runs : tablesOf usual frame ps ts ≡ Good → (t : Finding) → t ≡ runsJudged (partitions ps) frame rs → t ≡ fileTablesOf frame ps ts rs
     unfolding fileTablesOf
     file-runs e t h = rw (c, e) h
 
 -- nothing tells against a frame and three tables
 pub record GoodFile (frame : ℕ) (ps ts rs : List ℕ) : Type 0 where
-  pub tables : GoodTables frame ps ts
+  pub tables : GoodTables usual frame ps ts
   pub counted : runsCounted (length rs) ≡ true
   pub runs : Every (goodRun (partitions ps) frame rs) (runs rs)
 
@@ -107,13 +108,13 @@ module _ (frame : ℕ) (ps ts rs : List ℕ) where
   unfolding fileTablesOf runsJudged
   good-of e =
       let a = pick-first (runsCounted (length rs)) _ _ Good (not-good Limits) e in
-      let b = unless-given frame ps ts Refused (runsJudged (partitions ps) frame rs) Good (not-good Limits) (λ k. not-good (Partition k)) (λ j. not-good (Task (j + 1))) (a .1) in
+      let b = unless-given usual frame ps ts Refused (runsJudged (partitions ps) frame rs) Good (not-good Limits) usual-not-21 (λ k. not-good (Partition k)) (λ j. not-good (Task (j + 1))) (a .1) in
       record { tables = b .0; counted = a .0; runs = lowest-good Tick (goodRun (partitions ps) frame rs) (runs rs) (b .1) }
 
   pub of-good : GoodFile frame ps ts rs → fileTablesOf frame ps ts rs ≡ Good
   unfolding fileTablesOf runsJudged
   of-good g =
-      rw (g .counted) (unless-good frame ps ts Refused (runsJudged (partitions ps) frame rs) (g .tables) ∙ good-lowest Tick (goodRun (partitions ps) frame rs) (runs rs) (g .runs))
+      rw (g .counted) (unless-good usual frame ps ts Refused (runsJudged (partitions ps) frame rs) (g .tables) ∙ good-lowest Tick (goodRun (partitions ps) frame rs) (runs rs) (g .runs))
 
   -- a call's answer that is no refusal follows good tables
   pub follows : {A : Type 0} (refused : Refusal → A) (next z : A) → ((r : Refusal) → ¬ (refused r ≡ z))
@@ -135,9 +136,9 @@ module _ (frame : ℕ) (ps ts rs : List ℕ) where
       last true r = eight r
       last false r = h
 
-      counted : (b : Bool) → P (unless refused (pick b (unless Refused (tablesOf frame ps ts) (runsJudged (partitions ps) frame rs)) (Refused Limits)) next)
+      counted : (b : Bool) → P (unless refused (pick b (unless Refused (tablesOf usual frame ps ts) (runsJudged (partitions ps) frame rs)) (Refused Limits)) next)
       counted false = three
-      counted true = unless-holds frame ps ts (λ (t : Finding). P (unless refused t next)) Refused (runsJudged (partitions ps) frame rs) three six seven (last (ltb (firstBadRun (partitions ps) frame rs) (runs rs)) (firstBadRun (partitions ps) frame rs + 1))
+      counted true = unless-holds usual frame ps ts (λ (t : Finding). P (unless refused t next)) Refused (runsJudged (partitions ps) frame rs) three usual-not-21 six seven (last (ltb (firstBadRun (partitions ps) frame rs) (runs rs)) (firstBadRun (partitions ps) frame rs + 1))
 
 -- how many numbers the tables of a file have
 pub record Sizes (frame : ℕ) (ps ts rs : List ℕ) : Type 0 where

@@ -7,6 +7,7 @@ use lib.Dec.{ltb, leb, eqb}
 use Rattle.rules.specs.Limits.{longest, runWidth}
 use Rattle.rules.specs.Walk.{pick, sum}
 use Rattle.rules.specs.Table.{fieldAt, partitions}
+use Rattle.rules.specs.Terms.{usual}
 use Rattle.tables.specs.Tables.{countedIn, lowest, unless, tablesOf}
 use Rattle.rules.specs.declared.Refusal.the-variants.{Limits, Tick}
 use Rattle.rules.specs.declared.Finding.{Finding}
@@ -44,4 +45,4 @@ runsJudged parts frame rs = lowest Tick (goodRun parts frame rs) (runs rs)
 -- 3, with "runs 1 to 4,096", then 6, 7 and 8 of a frame and three tables
 unfoldable pub fileTablesOf : ℕ → List ℕ → List ℕ → List ℕ → Finding
 fileTablesOf frame ps ts rs =
-    pick (countedIn 1 longest runWidth (length rs)) (unless Refused (tablesOf frame ps ts) (runsJudged (partitions ps) frame rs)) (Refused Limits)
+    pick (countedIn 1 longest runWidth (length rs)) (unless Refused (tablesOf usual frame ps ts) (runsJudged (partitions ps) frame rs)) (Refused Limits)

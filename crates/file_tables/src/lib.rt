@@ -103,7 +103,7 @@ pub fn judge_file(frame: usize, parts: &[u16], tasks: &[u16], runs: &[u16]) -> F
     if !runs_counted(runs.len()) {
         return Finding::Refused(Refusal::Limits);
     }
-    let tables = tables::judge_tables(frame, parts, tasks);
+    let tables = tables::judge_tables(rules::usual(), frame, parts, tasks);
     match tables {
         Finding::Refused(r) => Finding::Refused(r),
         Finding::Good => judge_runs(runs, rules::records::partitions(parts), frame),

@@ -3,6 +3,9 @@ use borrow.Author.Needs.{needs}
 use Rattle.file_listing.proofs.put_checked.Statement.{statement}
 use Rattle.file_listing.proofs.put_checked.Tie as tie
 
+usual-requires : tie.Need-usual-requires
+usual-requires c κs = search needs
+
 scan-requires : tie.Need-scan-requires
 scan-requires c κs = search needs
 
@@ -23,19 +26,20 @@ same-length c = search needs
 
 returns : tie.Need-returns
 unfolding tablesLines
-returns c = (rw (c .before .before .before .before .before .before .before .before .before .before .before .before .pre .1, ← c .before .before .before .before .before .before .before .scan .ensures, c .before .before .before .before .before .checked .given .1) (c .before .before .put-refusal .ensures .0), search needs)
+returns c = (rw (c .before .before .before .before .before .before .before .before .before .before .before .before .before .pre .1, ← rw (c .before .before .before .before .before .before .before .before .usual .ensures) at (c .before .before .before .before .before .before .before .scan .ensures), c .before .before .before .before .before .checked .given .1) (c .before .before .put-refusal .ensures .0), search needs)
 
 same-length-2 : tie.Need-same-length-2
 same-length-2 c = search needs
 
 returns-2 : tie.Need-returns-2
 unfolding tablesLines
-returns-2 c = (rw (c .before .before .before .before .before .before .before .before .before .before .before .pre .1, ← c .before .before .before .before .before .before .scan .ensures, c .before .before .before .before .enum-told .given .1) (c .before .before .put-page .ensures .0), search needs)
+returns-2 c = (rw (c .before .before .before .before .before .before .before .before .before .before .before .before .pre .1, ← rw (c .before .before .before .before .before .before .before .usual .ensures) at (c .before .before .before .before .before .before .scan .ensures), c .before .before .before .before .enum-told .given .1) (c .before .before .put-page .ensures .0), search needs)
 
 pub put-checked-spec : {M : Type 1} → statement M
 put-checked-spec =
     tie.close
     (tie.spec
+    usual-requires
     scan-requires
     enum-known-checked
     put-refusal-requires

@@ -6,6 +6,9 @@ use Rattle.file_page.proofs.put_part.Tie as tie
 cycle-requires : tie.Need-cycle-requires
 cycle-requires c κs = search needs
 
+usual-requires : tie.Need-usual-requires
+usual-requires c κs = search needs
+
 wanted-requires : tie.Need-wanted-requires
 wanted-requires c κs = search needs
 
@@ -34,13 +37,14 @@ same-length : tie.Need-same-length
 same-length c = search needs
 
 returns : tie.Need-returns
-returns c = (rw (← part-line (c .before .before .before .before .before .before .before .before .before .before .before .args .plan .now) (c .before .before .before .before .before .before .before .before .before .before .before .args .parts .now) (c .before .before .before .before .before .before .before .before .before .before .before .args .k) _ _ _ _ (c .before .before .before .before .before .before .wanted .ensures) (c .before .before .before .before .before .before .before .cycle .ensures) (c .before .before .before .wide .ensures) (c .before .before .before .before .before .least .ensures)) (c .before .before .put-partition .ensures .0), search needs)
+returns c = (rw (← part-line (c .before .before .before .before .before .before .before .before .before .before .before .before .args .plan .now) (c .before .before .before .before .before .before .before .before .before .before .before .before .args .parts .now) (c .before .before .before .before .before .before .before .before .before .before .before .before .args .k) _ _ _ _ (rw (c .before .before .before .before .before .before .before .usual .ensures) at (c .before .before .before .before .before .before .wanted .ensures)) (c .before .before .before .before .before .before .before .before .cycle .ensures) (c .before .before .before .wide .ensures) (c .before .before .before .before .before .least .ensures)) (c .before .before .put-partition .ensures .0), search needs)
 
 pub put-part-spec : {M : Type 1} → statement M
 put-part-spec =
     tie.close
     (tie.spec
     cycle-requires
+    usual-requires
     wanted-requires
     add-least
     cast-least

@@ -12,6 +12,9 @@ runs-counted-requires c κs = search needs
 returns : tie.Need-returns
 returns c = file-3 _ _ _ _ (sym (c .before .runs-counted .ensures) ∙ not-true _ (c .if1 .taken))
 
+usual-requires : tie.Need-usual-requires
+usual-requires c κs = search needs
+
 judge-tables-requires : tie.Need-judge-tables-requires
 judge-tables-requires c κs = search needs
 
@@ -25,13 +28,13 @@ partitions-requires : tie.Need-partitions-requires
 partitions-requires c κs = search needs
 
 judge-runs-requires : tie.Need-judge-runs-requires
-judge-runs-requires c κs = let a = counted-runs _ (sym (c .before .before .before .before .before .runs-counted .ensures) ∙ not-false _ (c .before .before .before .before .if1 .left)) in omega (arith, a .0, a .2)
+judge-runs-requires c κs = let a = counted-runs _ (sym (c .before .before .before .before .before .before .runs-counted .ensures) ∙ not-false _ (c .before .before .before .before .before .if1 .left)) in omega (arith, a .0, a .2)
 
 returns-2 : tie.Need-returns-2
-returns-2 c = file-tables _ _ _ _ (sym (c .before .before .before .before .before .runs-counted .ensures) ∙ not-false _ (c .before .before .before .before .if1 .left)) _ (sym (c .before .before .before .judge-tables .ensures) ∙ c .before .tables .given .1)
+returns-2 c = file-tables _ _ _ _ (sym (c .before .before .before .before .before .before .runs-counted .ensures) ∙ not-false _ (c .before .before .before .before .before .if1 .left)) _ (sym (rw (c .before .before .before .before .usual .ensures) at (c .before .before .before .judge-tables .ensures)) ∙ c .before .tables .given .1)
 
 returns-3 : tie.Need-returns-3
-returns-3 c = file-runs _ _ _ _ (sym (c .before .before .before .before .before .before .runs-counted .ensures) ∙ not-false _ (c .before .before .before .before .before .if1 .left)) (sym (c .before .before .before .before .judge-tables .ensures) ∙ c .before .before .enum-told .given .1) _ (rw (c .before .partitions .ensures) at (c .judge-runs .ensures))
+returns-3 c = file-runs _ _ _ _ (sym (c .before .before .before .before .before .before .before .runs-counted .ensures) ∙ not-false _ (c .before .before .before .before .before .before .if1 .left)) (sym (rw (c .before .before .before .before .before .usual .ensures) at (c .before .before .before .before .judge-tables .ensures)) ∙ c .before .before .enum-told .given .1) _ (rw (c .before .partitions .ensures) at (c .judge-runs .ensures))
 
 pub judge-file-spec : {M : Type 1} → statement M
 judge-file-spec =
@@ -39,6 +42,7 @@ judge-file-spec =
     (tie.spec
     runs-counted-requires
     returns
+    usual-requires
     judge-tables-requires
     enum-known-tables
     enum-told

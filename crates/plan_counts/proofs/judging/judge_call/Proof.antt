@@ -1,5 +1,6 @@
 use mathlib.Core.Path.{sym, _∙_}
-use Rattle.counts.proofs.Orders.{both, planned, sized, call-first, call-next}
+use Rattle.tables.proofs.Chain.{both-good}
+use Rattle.counts.proofs.Orders.{planned, sized, call-first, call-next}
 use borrow.Author.Needs.{needs}
 use Rattle.plan_counts.proofs.judging.judge_call.Statement.{statement}
 use Rattle.plan_counts.proofs.judging.judge_call.Tie as tie
@@ -17,7 +18,7 @@ enum-told : tie.Need-enum-told
 enum-told c = search needs
 
 judge-list-requires : tie.Need-judge-list-requires
-judge-list-requires c κs = let e = sym (rw (c .before .before .before .judge-plan .ensures) at (c .before .before .first-found .ensures)) ∙ c .enum-told .given .1 in sized _ _ (planned _ _ (both _ _ e .0))
+judge-list-requires c κs = let e = sym (rw (c .before .before .before .judge-plan .ensures) at (c .before .before .first-found .ensures)) ∙ c .enum-told .given .1 in sized _ _ (planned _ _ (both-good _ _ e .0))
 
 first-found-requires-2 : tie.Need-first-found-requires-2
 first-found-requires-2 c κs = search needs
