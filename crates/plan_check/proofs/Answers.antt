@@ -20,7 +20,7 @@ use Rattle.rules.proofs.First.{first-none, first-past, first-before, first-at, 
 use Rattle.rules.specs.Refusals.{telling, toldFinding}
 use Rattle.rules.proofs.Known.{found-refused}
 use Rattle.rules.proofs.Tests.{pick-first, pick-second, good-granule}
-use Rattle.tables.proofs.Chain.{not-good, lowest-none, good-lowest, within, unless-given, unless-good, usual-good}
+use Rattle.tables.proofs.Chain.{not-good, lowest-none, good-lowest, within, unless-given, unless-good, without-terms}
 use Rattle.rules.proofs.Sum.{le-or-lt}
 use Rattle.theory.specs.Plan.{own, service, held, Serves}
 use Rattle.theory.proofs.Plan.{held-le, serves-in-frame}
@@ -158,10 +158,9 @@ check-serves terms plan ps = (accepted terms plan ps, accepts terms plan ps)
 pub accepted-without : AcceptedWithout
 accepted-without terms plan ps e =
     let a = accepted terms plan ps e in
-    let g : GoodTables usual (length plan) ps [] = record { limits = a .0 .limits; granule = usual-good; parts = a .0 .parts; tasks = a .0 .tasks } in
     let less : (k : ℕ) → wanted usual ps k ≤ wanted terms ps k =
     λ k. wants-no-less (terms .granule) (cycle ps k) (num ps k) (den ps k) (good-granule (terms .granule) (a .0 .granule) .0) in
-    accepts usual plan ps (g, a .1, λ k s l. omega (arith, less k, a .2 k s l))
+    accepts usual plan ps (without-terms (a .0), a .1, λ k s l. omega (arith, less k, a .2 k s l))
 
 pub check-short : CheckShort
 check-short terms plan ps p s h w e = short terms plan ps p s h w (found-refused (checkOf terms plan ps) (telling 9 p s h w) (omega arith) (λ q. absurd (omega arith)) e)

@@ -9,13 +9,14 @@ ghost use Rattle.share_line.specs.Expected.{whatText, expectedLine};
 
 fn put_what(out: &mut [u8], at: usize, what: What) -> usize
     requires { ⌜ at < 2 ^ 40 ⌝ }
-    ensures { λ r. ⌜ Put (now (out .entry)) at (whatText what) r (now (out .exit)) × (r ≤ at + 32) ⌝ }
+    ensures { λ r. ⌜ Put (now (out .entry)) at (whatText what) r (now (out .exit)) × (r ≤ at + 64) ⌝ }
 {
     match what {
-        What::Record => put_text(out, at, b"`partition` or `task`\n"),
+        What::Record => put_text(out, at, b"`granule`, `partition` or `task`\n"),
         What::Number => put_text(out, at, b"a number from 0 to 65535\n"),
         What::Slash => put_text(out, at, b"`/`\n"),
         What::End => put_text(out, at, b"the end of the line\n"),
+        What::EarlyGranule => put_text(out, at, b"`granule` once, before the partitions\n"),
     }
 }
 

@@ -2,16 +2,18 @@
 pub mod rows; // rows.rt: the record of a line, or what was expected in it first
 pub mod expected; // expected.rt: the line that says what was expected where
 
-// What was expected in a line: `partition` or `task`, a number, `/`, or the line's end.
+// What was expected in a line: one of the three words, a number, `/`, the line's end, or `granule` no later and once.
 pub enum What {
     Record,
     Number,
     Slash,
     End,
+    EarlyGranule,
 }
 
 pub enum Row {
     Nothing,
+    Granule(u16),
     Partition {
         cycle: u16,
         num: u16,

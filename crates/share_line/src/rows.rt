@@ -9,8 +9,23 @@ use share_words::words::begins_with;
 use share_words::words::find;
 use share_words::words::no_word;
 ghost use mathlib.Core.Path.{_≡_};
-ghost use Rattle.share_line.specs.Rows.{partRow, taskRow, recordOf, rowOf, isWrong, whatOf};
+ghost use mathlib.Core.Bool.{_||_};
+ghost use Rattle.share_line.specs.Rows.{granuleRow, partRow, taskRow, recordOf, rowOf, closes, isWrong, whatOf};
 ghost use Rattle.share_line.specs.Contracts.{shareRow, timesRow};
+
+// `G`, behind the word `granule`.
+fn granule_row(l: &[u8]) -> Row
+    ensures { λ r. ⌜ r ≡ granuleRow (now (l .entry)) ⌝ }
+{
+    let granule = first_number(l);
+    if HIGHEST < granule {
+        return Row::Wrong(What::Number);
+    }
+    if no_word(after_word(l)) {
+        return Row::Granule(granule as u16);
+    }
+    Row::Wrong(What::End)
+}
 
 // `NUM/DEN`, behind a cycle.
 fn share_row(cycle: u16, l: &[u8]) -> Row
@@ -95,6 +110,9 @@ fn record_of(l: &[u8]) -> Row
     if no_word(l) {
         return Row::Nothing;
     }
+    if begins_with(l, b"granule") {
+        return granule_row(after_word(l));
+    }
     if begins_with(l, b"partition") {
         return part_row(after_word(l));
     }
@@ -111,11 +129,34 @@ pub fn row_of(line: &[u8]) -> Row
     record_of(&line[..e])
 }
 
-pub fn is_wrong(row: Row) -> bool
-    ensures { λ r. ⌜ r ≡ isWrong row ⌝ }
+// Whether a granule is given no more, behind this row too.
+pub fn closes(closed: bool, row: Row) -> bool
+    ensures { λ r. ⌜ r ≡ closes row || closed ⌝ }
+{
+    match row {
+        Row::Nothing => closed,
+        Row::Granule(_) => true,
+        Row::Partition {
+            cycle: _,
+            num: _,
+            den: _,
+        } => true,
+        Row::Task {
+            partition: _,
+            budget: _,
+            deadline: _,
+            period: _,
+        } => closed,
+        Row::Wrong(_) => closed,
+    }
+}
+
+pub fn is_wrong(closed: bool, row: Row) -> bool
+    ensures { λ r. ⌜ r ≡ isWrong closed row ⌝ }
 {
     match row {
         Row::Nothing => false,
+        Row::Granule(_) => closed,
         Row::Partition {
             cycle: _,
             num: _,
@@ -137,6 +178,7 @@ pub fn what_of(row: Row) -> What
 {
     match row {
         Row::Nothing => What::End,
+        Row::Granule(_) => What::EarlyGranule,
         Row::Partition {
             cycle: _,
             num: _,

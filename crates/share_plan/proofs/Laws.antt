@@ -9,9 +9,11 @@ use lib.Seq.{sets, sets-eq, take-at}
 use lib.Dec.{eqb}
 use Rattle.rules.specs.Walk.{pick}
 use Rattle.rules.specs.Limits.{mostPartitions, mostTasks, longest, partWidth, taskWidth, runWidth}
+use Rattle.rules.specs.Terms.{granules, wanted}
+use Rattle.rules.specs.declared.Terms.{Terms}
 use Rattle.tables.specs.Tables.{GoodTables}
 use Rattle.rules.specs.declared.Refusal.{Refusal}
-use Rattle.rules.specs.declared.Refusal.the-variants.{Limits, Partition, Task}
+use Rattle.rules.specs.declared.Refusal.the-variants.{Limits, Granule, Partition, Task}
 use Rattle.rules.proofs.Answers.{no-filling}
 use Rattle.tables.proofs.Chain.{unless-given}
 use Rattle.theory.specs.Harmonic.{frame, harmonicPlan}
@@ -71,95 +73,96 @@ runs-put plan l o n h e p =
 -- ---- the built plan
 
 -- a plan's ticks in the front of a table
-pub record Front (ps o : List ℕ) (h : ℕ) : Type 0 where
-  pub is-built : buildOf ps longest ≡ Fills h
+pub record Front (terms : Terms) (ps o : List ℕ) (h : ℕ) : Type 0 where
+  pub is-built : buildOf terms ps longest ≡ Fills h
   pub is-frame : h ≡ frame ps
   pub low : h ≤ longest
   pub inside : h ≤ length o
-  pub is-plan : take h o ≡ harmonicPlan ps
+  pub is-plan : take h o ≡ harmonicPlan (wanted terms ps) ps
 
-pub built-front : (ps l o : List ℕ) (r : Filling) (h : ℕ) → length l ≡ longest → r ≡ buildOf ps (length l) → o ≡ leftBy r (harmonicPlan ps) l → r ≡ Fills h → Front ps o h
-built-front ps l o r h el er eo e =
-    let b : buildOf ps longest ≡ Fills h = rw el at (sym er ∙ e) in
-    let a = laid ps longest h b in
-    let n : length (harmonicPlan ps) ≡ h = listed-length _ _ ∙ sym (a .is-frame) in
-    let f : o ≡ harmonicPlan ps ++ drop h l = rw e at eo in
+pub built-front : (terms : Terms) (ps l o : List ℕ) (r : Filling) (h : ℕ) → length l ≡ longest → r ≡ buildOf terms ps (length l) → o ≡ leftBy r (harmonicPlan (wanted terms ps) ps) l → r ≡ Fills h → Front terms ps o h
+built-front terms ps l o r h el er eo e =
+    let b : buildOf terms ps longest ≡ Fills h = rw el at (sym er ∙ e) in
+    let a = laid terms ps longest h b in
+    let n : length (harmonicPlan (wanted terms ps) ps) ≡ h = listed-length _ _ ∙ sym (a .is-frame) in
+    let f : o ≡ harmonicPlan (wanted terms ps) ps ++ drop h l = rw e at eo in
     record {
       is-built = b;
       is-frame = a .is-frame;
       low = a .fits;
-      inside = rw (f, length-append (harmonicPlan ps) (drop h l), n) (omega arith);
-      is-plan = rw f (take-at (harmonicPlan ps) (drop h l) h n);
+      inside = rw (f, length-append (harmonicPlan (wanted terms ps) ps) (drop h l), n) (omega arith);
+      is-plan = rw f (take-at (harmonicPlan (wanted terms ps) ps) (drop h l) h n);
     }
 
 -- what the writer of a built plan answers and leaves
-pub laid-out : {ps o : List ℕ} {h : ℕ} (ts out out′ : List ℕ) (w : Filling) → Front ps o h → w ≡ writeOf h ps ts (runsOf (take h o)) (length out) → out′ ≡ writtenLeft h ps ts (runsOf (take h o)) out
-    → (w ≡ writeBuiltOf ps ts (length out)) × (out′ ≡ leftBy w (planFile ps ts) out)
+pub laid-out : {terms : Terms} {ps o : List ℕ} {h : ℕ} (ts out out′ : List ℕ) (w : Filling) → Front terms ps o h → w ≡ writeOf h ps ts (runsOf (take h o)) (length out) → out′ ≡ writtenLeft h ps ts (runsOf (take h o)) out
+    → (w ≡ writeBuiltOf terms ps ts (length out)) × (out′ ≡ leftBy w (planFile terms ps ts) out)
 unfolding writeBuiltOf planFile
-laid-out {ps} {o} {h} ts out out′ w f ew eo = (rw (f .is-built, ← f .is-plan) ew, rw (ew, ← f .is-plan, ← f .is-frame) eo)
+laid-out {terms} {ps} {o} {h} ts out out′ w f ew eo = (rw (f .is-built, ← f .is-plan) ew, rw (ew, ← f .is-plan, ← f .is-frame) eo)
 
-pub not-laid : (ps ts : List ℕ) (room : ℕ) (x : Refusal) → buildOf ps longest ≡ Refused x → Refused x ≡ writeBuiltOf ps ts room
+pub not-laid : (terms : Terms) (ps ts : List ℕ) (room : ℕ) (x : Refusal) → buildOf terms ps longest ≡ Refused x → Refused x ≡ writeBuiltOf terms ps ts room
 unfolding writeBuiltOf
-not-laid ps ts room x e = rw e
+not-laid terms ps ts room x e = rw e
 
 -- ---- an answer of bytes
 
 -- the tables are good, the plan is built, the writer wrote it
-pub record Planned (ps ts : List ℕ) (room n : ℕ) : Type 0 where
-  pub good : GoodTables longest ps ts
-  pub built : buildOf ps longest ≡ Fills (frame ps)
-  pub written : writeOf (frame ps) ps ts (planRuns ps) room ≡ Fills n
+pub record Planned (terms : Terms) (ps ts : List ℕ) (room n : ℕ) : Type 0 where
+  pub good : GoodTables terms longest ps ts
+  pub built : buildOf terms ps longest ≡ Fills (frame ps)
+  pub written : writeOf (frame ps) ps ts (planRuns terms ps) room ≡ Fills n
 
-pub planned-so : (ps ts : List ℕ) (room n : ℕ) → writePlanOf ps ts room ≡ Fills n → Planned ps ts room n
+pub planned-so : (terms : Terms) (ps ts : List ℕ) (room n : ℕ) → writePlanOf terms ps ts room ≡ Fills n → Planned terms ps ts room n
 unfolding writePlanOf writeBuiltOf
-planned-so ps ts room n e =
-    let g = unless-given longest ps ts Refused (writtenBy (buildOf ps longest) ps ts room) (Fills n) (no-filling n Limits) (λ k. no-filling n (Partition k)) (λ j. no-filling n (Task (j + 1))) e in
-    building (g .0) (buildOf ps longest) refl (g .1)
+planned-so terms ps ts room n e =
+    let g = unless-given terms longest ps ts Refused (writtenBy (buildOf terms ps longest) terms ps ts room) (Fills n) (no-filling n Limits) (λ g. no-filling n Granule) (λ k. no-filling n (Partition k)) (λ j. no-filling n (Task (j + 1))) e in
+    building (g .0) (buildOf terms ps longest) refl (g .1)
   where
-    building : GoodTables longest ps ts → (b : Filling) → buildOf ps longest ≡ b → writtenBy b ps ts room ≡ Fills n → Planned ps ts room n
-    building g (Fills h) f w = let a = laid ps longest h f in record { good = g; built = rw (a .is-frame) at f; written = rw (a .is-frame) at w }
+    building : GoodTables terms longest ps ts → (b : Filling) → buildOf terms ps longest ≡ b → writtenBy b terms ps ts room ≡ Fills n → Planned terms ps ts room n
+    building g (Fills h) f w = let a = laid terms ps longest h f in record { good = g; built = rw (a .is-frame) at f; written = rw (a .is-frame) at w }
     building g (Refused x) f w = absurd (no-filling n x w)
 
 -- how long the file is
-pub file-fits : (ps ts : List ℕ) (room n : ℕ) → writePlanOf ps ts room ≡ Fills n → (n ≡ length (planFile ps ts)) × (n ≤ room)
+pub file-fits : (terms : Terms) (ps ts : List ℕ) (room n : ℕ) → writePlanOf terms ps ts room ≡ Fills n → (n ≡ length (planFile terms ps ts)) × (n ≤ room)
 unfolding planFile
-file-fits ps ts room n e =
-    let w = fit n (frame ps) ps ts (planRuns ps) room (planned-so ps ts room n e .written) in
-    (w .is-size ∙ sym (file-length (frame ps) ps ts (planRuns ps)), rw (w .is-size) (w .room-left))
+file-fits terms ps ts room n e =
+    let w = fit n (frame ps) ps ts (planRuns terms ps) room (planned-so terms ps ts room n e .written) in
+    (w .is-size ∙ sym (file-length (frame ps) ps ts (planRuns terms ps)), rw (w .is-size) (w .room-left))
 
 -- the file put into the output, and the line of a refusal
-pub file-put : (ps ts out o : List ℕ) (w : Filling) (n : ℕ) → w ≡ writePlanOf ps ts (length out) → o ≡ leftBy w (planFile ps ts) out → w ≡ Fills n → Put out 0 (fileOrLine ps ts (length out)) n o × (n ≤ max longestLine (length out))
+pub file-put : (terms : Terms) (ps ts out o : List ℕ) (w : Filling) (n : ℕ) → w ≡ writePlanOf terms ps ts (length out) → o ≡ leftBy w (planFile terms ps ts) out → w ≡ Fills n → Put out 0 (fileOrLine terms ps ts (length out)) n o × (n ≤ max longestLine (length out))
 unfolding fileOrLine
-file-put ps ts out o w n ew eo e =
-    let q : writePlanOf ps ts (length out) ≡ Fills n = sym ew ∙ e in
-    let f = file-fits ps ts (length out) n q in
-    let s = planFile ps ts in
+file-put terms ps ts out o w n ew eo e =
+    let q : writePlanOf terms ps ts (length out) ≡ Fills n = sym ew ∙ e in
+    let f = file-fits terms ps ts (length out) n q in
+    let s = planFile terms ps ts in
     let z : 0 + length s ≡ length s = omega arith in
     let g : o ≡ s ++ drop n out = rw e at eo in
     (rw q (record { place = omega (arith, f .0); bytes = g ∙ rw (f .0) (sym (sets-eq s out 0 (omega arith) ∙ rw z)) }), omega arith)
 
-pub line-put : (ps ts out o : List ℕ) {m : List ℕ} {r : ℕ} (w : Filling) (x : Refusal) → w ≡ writePlanOf ps ts (length out) → o ≡ leftBy w (planFile ps ts) out → w ≡ Refused x
-    → Put o 0 (refusedLine x) r m → Put out 0 (fileOrLine ps ts (length out)) r m
+pub line-put : (terms : Terms) (ps ts out o : List ℕ) {m : List ℕ} {r : ℕ} (w : Filling) (x : Refusal) → w ≡ writePlanOf terms ps ts (length out) → o ≡ leftBy w (planFile terms ps ts) out → w ≡ Refused x
+    → Put o 0 (refusedLine x) r m → Put out 0 (fileOrLine terms ps ts (length out)) r m
 unfolding fileOrLine
-line-put ps ts out o w x ew eo e p =
-    let q : writePlanOf ps ts (length out) ≡ Refused x = sym ew ∙ e in
+line-put terms ps ts out o w x ew eo e p =
+    let q : writePlanOf terms ps ts (length out) ≡ Refused x = sym ew ∙ e in
     let z : o ≡ out = rw e at eo in
     rw (q, ← z) p
 
 -- ---- a text's tables
 
-pub parts-front : (t l o : List ℕ) (r : TableReading) (a b p q : ℕ) → length l ≡ a → r ≡ readTextOf t a b → o ≡ text.tableLeft r (recordsOf Partitions t) l → r ≡ table.Numbers p q
+pub parts-front : (t l o : List ℕ) (r : TableReading) (a b g p q : ℕ) → length l ≡ a → r ≡ readTextOf t a b → o ≡ text.tableLeft r (recordsOf Partitions t) l → r ≡ table.Numbers g p q
     → (p ≤ length o) × (take p o ≡ recordsOf Partitions t)
-parts-front t l o r a b p q el er eo e = let f = fits t a b p q (sym er ∙ e) in front (recordsOf Partitions t) l o p (f .parts-are) (rw el (f .parts-fit)) (rw e at eo)
+parts-front t l o r a b g p q el er eo e = let f = fits t a b g p q (sym er ∙ e) in front (recordsOf Partitions t) l o p (f .parts-are) (rw el (f .parts-fit)) (rw e at eo)
 
-pub tasks-front : (t l o : List ℕ) (r : TableReading) (a b p q : ℕ) → length l ≡ b → r ≡ readTextOf t a b → o ≡ text.tableLeft r (recordsOf Tasks t) l → r ≡ table.Numbers p q
+pub tasks-front : (t l o : List ℕ) (r : TableReading) (a b g p q : ℕ) → length l ≡ b → r ≡ readTextOf t a b → o ≡ text.tableLeft r (recordsOf Tasks t) l → r ≡ table.Numbers g p q
     → (q ≤ length o) × (take q o ≡ recordsOf Tasks t)
-tasks-front t l o r a b p q el er eo e = let f = fits t a b p q (sym er ∙ e) in front (recordsOf Tasks t) l o q (f .tasks-are) (rw el (f .tasks-fit)) (rw e at eo)
+tasks-front t l o r a b g p q el er eo e = let f = fits t a b g p q (sym er ∙ e) in front (recordsOf Tasks t) l o q (f .tasks-are) (rw el (f .tasks-fit)) (rw e at eo)
 
-pub answer-tables : (t ps ts out : List ℕ) {o : List ℕ} {n : ℕ} (r : TableReading) (p q : ℕ) → r ≡ readTextOf t (partWidth * mostPartitions) (taskWidth * mostTasks) → r ≡ table.Numbers p q → ps ≡ recordsOf Partitions t → ts ≡ recordsOf Tasks t
-    → Put out 0 (fileOrLine ps ts (length out)) n o → Put out 0 (answerOf t (length out)) n o
+pub answer-tables : (t ps ts out : List ℕ) {o : List ℕ} {n : ℕ} (r : TableReading) (g p q : ℕ) → r ≡ readTextOf t (partWidth * mostPartitions) (taskWidth * mostTasks) → r ≡ table.Numbers g p q → ps ≡ recordsOf Partitions t → ts ≡ recordsOf Tasks t
+    → Put out 0 (fileOrLine (granules g) ps ts (length out)) n o → Put out 0 (answerOf t (length out)) n o
 unfolding answerOf
-answer-tables t ps ts out r p q er e ep et s = rw (sym er ∙ e, ← ep, ← et) s
+answer-tables t ps ts out r g p q er e ep et s =
+    rw (sym er ∙ e, ← ep, ← et, ← fits t (partWidth * mostPartitions) (taskWidth * mostTasks) g p q (sym er ∙ e) .granule-is) s
 
 pub answer-line : (t out : List ℕ) {o : List ℕ} {n : ℕ} (r : TableReading) (k : ℕ) (what : What) → r ≡ readTextOf t (partWidth * mostPartitions) (taskWidth * mostTasks) → r ≡ table.Expected k what
     → Put out 0 (expectedLine k what) n o → Put out 0 (answerOf t (length out)) n o

@@ -6,6 +6,8 @@ use mathlib.Core.List.{List}
 use lib.ListN.{length, take}
 use Rattle.rules.specs.Limits.{longest, longestFile}
 use Rattle.rules.specs.Table.{partitions, tasks}
+use Rattle.rules.specs.Terms.{usual, wanted}
+use Rattle.rules.specs.declared.Terms.{Terms}
 use Rattle.tables.specs.Tables.{GoodTables}
 use Rattle.theory.specs.Harmonic.{Harmonic, frame, allWanted, harmonicPlan}
 use Rattle.rules.specs.declared.Finding.the-variants.{Good}
@@ -21,23 +23,25 @@ use Rattle.share_text.specs.declared.TableReading.{TableReading}
 use Rattle.share_text.specs.Table.{longestText, ReadsText}
 use Rattle.share_plan.specs.Answer.{planRuns, planFile, writePlanOf, answerOf, Plans}
 
--- a file that comes out is accepted by the reader, with the table's records and the harmonic rule's plan; and "what the harmonic rule writes is always accepted" by the checker
+-- a file that comes out is accepted by the reader, with the table's records and the harmonic rule's plan; and "what the harmonic rule writes is always accepted" by the checker,
+-- with the same granule, and with 1: so a listing, which keeps g = 1, never refuses it
 abbrev pub FileServes : Type 0
 FileServes =
-    (ps ts : List ℕ) (room n : ℕ) → writePlanOf ps ts room ≡ Fills n
-    → (length (planFile ps ts) ≡ n)
-    × (file.readOf (planFile ps ts) ≡ Contents (frame ps) (partitions ps) (tasks ts) (runs (planRuns ps)))
-    × (file.tableOf (planFile ps ts) body.Partitions ≡ ps)
-    × (file.tableOf (planFile ps ts) body.Tasks ≡ ts)
-    × (ticksOf (file.tableOf (planFile ps ts) body.Runs) ≡ harmonicPlan ps)
-    × (checkOf (ticksOf (file.tableOf (planFile ps ts) body.Runs)) (file.tableOf (planFile ps ts) body.Partitions) ≡ Good)
+    (terms : Terms) (ps ts : List ℕ) (room n : ℕ) → writePlanOf terms ps ts room ≡ Fills n
+    → (length (planFile terms ps ts) ≡ n)
+    × (file.readOf (planFile terms ps ts) ≡ Contents (frame ps) (partitions ps) (tasks ts) (runs (planRuns terms ps)))
+    × (file.tableOf (planFile terms ps ts) body.Partitions ≡ ps)
+    × (file.tableOf (planFile terms ps ts) body.Tasks ≡ ts)
+    × (ticksOf (file.tableOf (planFile terms ps ts) body.Runs) ≡ harmonicPlan (wanted terms ps) ps)
+    × (checkOf terms (ticksOf (file.tableOf (planFile terms ps ts) body.Runs)) (file.tableOf (planFile terms ps ts) body.Partitions) ≡ Good)
+    × (checkOf usual (ticksOf (file.tableOf (planFile terms ps ts) body.Runs)) (file.tableOf (planFile terms ps ts) body.Partitions) ≡ Good)
 
 -- a file comes out exactly when the records are good, the cycles harmonic, the ticks enough, and the output long enough: the writer refuses no plan of the builder
 abbrev pub FileExactly : Type 0
 FileExactly =
-    (ps ts : List ℕ) (room n : ℕ)
-    → (writePlanOf ps ts room ≡ Fills n)
-    ↔ (GoodTables longest ps ts × Harmonic ps × (allWanted ps (frame ps) ≤ frame ps) × (n ≡ sizeFor ps ts (planRuns ps)) × (n ≤ room))
+    (terms : Terms) (ps ts : List ℕ) (room n : ℕ)
+    → (writePlanOf terms ps ts room ≡ Fills n)
+    ↔ (GoodTables terms longest ps ts × Harmonic ps × (allWanted (wanted terms ps) ps (frame ps) ≤ frame ps) × (n ≡ sizeFor ps ts (planRuns terms ps)) × (n ≤ room))
 
 -- the answer to a text is that to its first bytes, where these are more than a text may have: a program that reads one byte more than the longest text
 -- answers what came in, however long that is

@@ -1,6 +1,7 @@
 // From a share table as text to the bytes of its plan file, or to one line that says why there is none.
 use output::put_refusal;
 use plan_file::put_file_or_line;
+use rules::Terms;
 use rules::limits::PART_NUMBERS;
 use rules::limits::TASK_NUMBERS;
 use share_text::TableReading;
@@ -21,9 +22,10 @@ pub fn plan(text: &[u8], out: &mut [u8]) -> usize
     let table = share_text::read(text, &mut parts, &mut tasks);
     match table {
         TableReading::Numbers {
+            granule,
             partitions: p,
             tasks: n,
-        } => put_file_or_line(&parts[..p], &tasks[..n], out),
+        } => put_file_or_line(Terms { granule }, &parts[..p], &tasks[..n], out),
         TableReading::Expected { line, what } => share_line::expected::put_expected(
             out,
             line,

@@ -2,6 +2,7 @@
 use output::put_refusal;
 use rules::Filling;
 use rules::Finding;
+use rules::Terms;
 use rules::limits::LONGEST;
 use rules::limits::RUN_NUMBERS;
 ghost use mathlib.Core.Path.{_≡_};
@@ -31,42 +32,42 @@ fn write_ticks(frame: usize, parts: &[u16], tasks: &[u16], plan: &[u16], out: &m
 }
 
 // The builder's plan as a file.
-fn write_built(parts: &[u16], tasks: &[u16], out: &mut [u8]) -> Filling
+fn write_built(terms: Terms, parts: &[u16], tasks: &[u16], out: &mut [u8]) -> Filling
     ensures { λ r. ⌜
-        (r ≡ writeBuiltOf (now (parts .entry)) (now (tasks .entry)) (length (now (out .entry))))
-        × (now (out .exit) ≡ leftBy r (planFile (now (parts .entry)) (now (tasks .entry))) (now (out .entry)))
+        (r ≡ writeBuiltOf terms (now (parts .entry)) (now (tasks .entry)) (length (now (out .entry))))
+        × (now (out .exit) ≡ leftBy r (planFile terms (now (parts .entry)) (now (tasks .entry))) (now (out .entry)))
         ⌝ }
 {
     let mut plan = [0u16; LONGEST];
-    let built = plan_build::build(parts, &mut plan);
+    let built = plan_build::build(terms, parts, &mut plan);
     match built {
         Filling::Fills(h) => write_ticks(h, parts, tasks, &plan[..h], out),
         Filling::Refused(r) => Filling::Refused(r),
     }
 }
 
-fn write_plan(parts: &[u16], tasks: &[u16], out: &mut [u8]) -> Filling
+fn write_plan(terms: Terms, parts: &[u16], tasks: &[u16], out: &mut [u8]) -> Filling
     ensures { λ r. ⌜
-        (r ≡ writePlanOf (now (parts .entry)) (now (tasks .entry)) (length (now (out .entry))))
-        × (now (out .exit) ≡ leftBy r (planFile (now (parts .entry)) (now (tasks .entry))) (now (out .entry)))
+        (r ≡ writePlanOf terms (now (parts .entry)) (now (tasks .entry)) (length (now (out .entry))))
+        × (now (out .exit) ≡ leftBy r (planFile terms (now (parts .entry)) (now (tasks .entry))) (now (out .entry)))
         ⌝ }
 {
-    let judged = tables::judge_tables(LONGEST, parts, tasks);
+    let judged = tables::judge_tables(terms, LONGEST, parts, tasks);
     match judged {
-        Finding::Good => write_built(parts, tasks, out),
+        Finding::Good => write_built(terms, parts, tasks, out),
         Finding::Refused(r) => Filling::Refused(r),
     }
 }
 
-pub fn put_file_or_line(parts: &[u16], tasks: &[u16], out: &mut [u8]) -> usize
+pub fn put_file_or_line(terms: Terms, parts: &[u16], tasks: &[u16], out: &mut [u8]) -> usize
     ensures { λ r. ⌜
         Put (now (out .entry)) 0
-        (fileOrLine (now (parts .entry)) (now (tasks .entry)) (length (now (out .entry))))
+        (fileOrLine terms (now (parts .entry)) (now (tasks .entry)) (length (now (out .entry))))
         r (now (out .exit))
         × (r ≤ max longestLine (length (now (out .entry))))
         ⌝ }
 {
-    let w = write_plan(parts, tasks, out);
+    let w = write_plan(terms, parts, tasks, out);
     match w {
         Filling::Fills(n) => n,
         Filling::Refused(r) => put_refusal(out, r),

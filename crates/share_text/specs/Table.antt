@@ -1,24 +1,24 @@
--- A share table as text: its lines in order, the first that is wrong, and the records of each kind. Assumes nothing.
+-- A share table as text: its lines in order, the first that is wrong, the granule, and the records of each kind. Assumes nothing.
 use Prim.Native.Nat.{ℕ, zero, suc, _+_}
 use mathlib.Core.Path.{_≡_}
 use mathlib.Core.List.{List, [], _∷_}
 use mathlib.Core.Bool.{Bool}
-use lib.ListN.{length, take, drop}
+use lib.ListN.{length, getD, take, drop}
 use lib.Seq.{sets}
 use lib.Dec.{ltb}
-use Rattle.rules.specs.Walk.{pick, first, gathered}
+use Rattle.rules.specs.Walk.{pick, first, some, gathered}
 use Rattle.rules.specs.declared.Refusal.the-variants.{Limits}
 use Rattle.share_words.specs.declared.Mark.the-variants as mark
 use Rattle.share_text.specs.declared.Seen.{Seen}
 use Rattle.share_text.specs.declared.Seen.the-variants.{Good, Line}
 use Rattle.share_text.specs.declared.Kind.{Kind}
-use Rattle.share_text.specs.declared.Kind.the-variants.{Partitions, Tasks}
+use Rattle.share_text.specs.declared.Kind.the-variants.{Granules, Partitions, Tasks}
 use Rattle.share_line.specs.declared.Row.{Row}
-use Rattle.share_line.specs.declared.Row.the-variants.{Nothing, Partition, Task, Wrong}
+use Rattle.share_line.specs.declared.Row.the-variants.{Nothing, Granule, Partition, Task, Wrong}
 use Rattle.share_text.specs.declared.TableReading.{TableReading}
 use Rattle.share_text.specs.declared.TableReading.the-variants.{Numbers, Expected, Refused}
 use Rattle.share_words.specs.Words.{found}
-use Rattle.share_line.specs.Rows.{rowOf, isWrong, whatOf}
+use Rattle.share_line.specs.Rows.{rowOf, closes, isWrong, whatOf}
 
 -- the first line of a text, and the text behind its newline
 unfoldable pub lineOf : List ℕ → List ℕ
@@ -36,8 +36,15 @@ fromLine t (suc k) = afterLine (fromLine t k)
 unfoldable pub rowAt : List ℕ → ℕ → Row
 rowAt t k = rowOf (lineOf (fromLine t k))
 
+-- whether a line before line k closes the granule
+unfoldable pub closesAt : List ℕ → ℕ → Bool
+closesAt t k = closes (rowAt t k)
+
+abbrev pub closedAt : List ℕ → ℕ → Bool
+closedAt t k = some (closesAt t) k
+
 unfoldable pub wrongAt : List ℕ → ℕ → Bool
-wrongAt t k = isWrong (rowAt t k)
+wrongAt t k = isWrong (closedAt t k) (rowAt t k)
 
 -- "the first line that is wrong", or the number of bytes
 abbrev pub firstWrong : List ℕ → ℕ
@@ -45,12 +52,19 @@ firstWrong t = first (wrongAt t) (length t)
 
 -- the numbers of a row of one kind
 abbrev pub numsIn : Kind → Row → List ℕ
+numsIn Granules (Granule g) = g ∷ []
 numsIn Partitions (Partition m n d) = m ∷ n ∷ d ∷ []
 numsIn Tasks (Task p c d t) = p ∷ c ∷ d ∷ t ∷ []
+numsIn Granules Nothing = []
+numsIn Granules (Partition m n d) = []
+numsIn Granules (Task p c d t) = []
+numsIn Granules (Wrong w) = []
 numsIn Partitions Nothing = []
+numsIn Partitions (Granule g) = []
 numsIn Partitions (Task p c d t) = []
 numsIn Partitions (Wrong w) = []
 numsIn Tasks Nothing = []
+numsIn Tasks (Granule g) = []
 numsIn Tasks (Partition m n d) = []
 numsIn Tasks (Wrong w) = []
 
@@ -61,6 +75,10 @@ numsAt kind t k = numsIn kind (rowAt t k)
 unfoldable pub recordsOf : Kind → List ℕ → List ℕ
 recordsOf kind t = gathered (numsAt kind t) (length t)
 
+-- the granule that a line gives, or 1: "g = 1 gives today's answers"
+abbrev pub granuleOf : List ℕ → ℕ
+granuleOf t = getD (recordsOf Granules t) 0 1
+
 -- in bytes: a longer text is not read
 abbrev pub longestText : ℕ
 longestText = 65536
@@ -69,12 +87,12 @@ longestText = 65536
 unfoldable pub seenOf : List ℕ → Seen
 seenOf t = pick (ltb (firstWrong t) (length t)) (Line (firstWrong t + 1) (whatOf (rowAt t (firstWrong t)))) Good
 
--- how many numbers there are of each kind, where the lent tables have room for so many; "a count outside its limits" where they have not
+-- the granule, and how many numbers there are of each kind, where the lent tables have room for so many; "a count outside its limits" where they have not
 unfoldable pub sizedOf : List ℕ → ℕ → ℕ → TableReading
 sizedOf t parts tasks =
     pick (ltb parts (length (recordsOf Partitions t))) (Refused Limits)
     (pick (ltb tasks (length (recordsOf Tasks t))) (Refused Limits)
-    (Numbers (length (recordsOf Partitions t)) (length (recordsOf Tasks t))))
+    (Numbers (granuleOf t) (length (recordsOf Partitions t)) (length (recordsOf Tasks t))))
 
 abbrev pub readBy : Seen → TableReading → TableReading
 readBy Good sized = sized
@@ -86,7 +104,7 @@ readTextOf t parts tasks = pick (ltb longestText (length t)) (Refused Limits) (r
 
 -- what a lent table then holds: its kind's records in front, where all of them fit
 abbrev pub tableLeft : TableReading → List ℕ → List ℕ → List ℕ
-tableLeft (Numbers p t) nums out = sets out 0 nums
+tableLeft (Numbers g p t) nums out = sets out 0 nums
 tableLeft (Expected line what) nums out = out
 tableLeft (Refused r) nums out = out
 

@@ -1,4 +1,4 @@
-// A share table as text: a line for each partition and each task.
+// A share table as text: a line for each partition and each task, and one for the granule where it is given.
 use rules::Refusal;
 use share_line::What;
 use tables::gather;
@@ -11,6 +11,7 @@ mod tables; // tables.rt: the numbers of each kind
 pub const LONGEST_TEXT: usize = 65536; // in bytes
 
 pub enum Kind {
+    Granules,
     Partitions,
     Tasks,
 }
@@ -21,10 +22,17 @@ pub enum Seen {
     Line { number: usize, what: What },
 }
 
-// How many numbers each table has; or the first wrong line, from 1, and what was expected there.
+// The granule, and how many numbers each table has; or the first wrong line, from 1, and what was expected there.
 pub enum TableReading {
-    Numbers { partitions: usize, tasks: usize },
-    Expected { line: usize, what: What },
+    Numbers {
+        granule: usize,
+        partitions: usize,
+        tasks: usize,
+    },
+    Expected {
+        line: usize,
+        what: What,
+    },
     Refused(Refusal),
 }
 
@@ -36,12 +44,14 @@ pub fn read(text: &[u8], parts: &mut [u16], tasks: &mut [u16]) -> TableReading
     let t = read_of(text, parts.len(), tasks.len());
     match t {
         TableReading::Numbers {
+            granule: g,
             partitions: p,
             tasks: n,
         } => {
             gather(text, Kind::Partitions, parts);
             gather(text, Kind::Tasks, tasks);
             TableReading::Numbers {
+                granule: g,
                 partitions: p,
                 tasks: n,
             }

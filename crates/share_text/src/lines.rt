@@ -1,6 +1,7 @@
 // The lines of a text in order, and the first that is wrong.
 use crate::Seen;
 use share_line::Row;
+use share_line::rows::closes;
 use share_line::rows::is_wrong;
 use share_line::rows::row_of;
 use share_line::rows::what_of;
@@ -42,16 +43,18 @@ pub fn first_wrong(text: &[u8]) -> Seen
     ensures { λ r. ⌜ r ≡ seenOf (now (text .entry)) ⌝ }
 {
     let n = text.len();
+    let mut closed = false;
     let mut at = 0;
     let mut k = 0;
     while at < n {
         let row = row_at(text, at);
-        if is_wrong(row) {
+        if is_wrong(closed, row) {
             return Seen::Line {
                 number: k + 1,
                 what: what_of(row),
             };
         }
+        closed = closes(closed, row);
         at = next_line(text, at);
         k += 1;
     }

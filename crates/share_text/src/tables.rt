@@ -8,6 +8,7 @@ use crate::lines::next_line;
 use crate::lines::row_at;
 use output::put_number;
 use rules::Refusal;
+use rules::numbers::wide;
 use share_line::Row;
 ghost use mathlib.Core.Path.{_≡_};
 ghost use mathlib.Core.List.{[], _∷_};
@@ -15,7 +16,7 @@ ghost use Prim.Native.Nat.{_+_, _≤_, _<_, _^_};
 ghost use lib.ListN.{length};
 ghost use Rattle.rules.specs.Limits.{taskWidth};
 ghost use Rattle.output.specs.Put.{Put};
-ghost use Rattle.share_text.specs.Table.{numsIn, recordsOf, longestText, sizedOf, readTextOf};
+ghost use Rattle.share_text.specs.Table.{numsIn, recordsOf, granuleOf, longestText, sizedOf, readTextOf};
 
 fn put_three(out: &mut [u16], at: usize, x: u16, y: u16, z: u16) -> usize
     requires { ⌜ at < 2 ^ 40 ⌝ }
@@ -32,7 +33,13 @@ fn put_row(out: &mut [u16], at: usize, kind: Kind, row: Row) -> usize
     ensures { λ r. ⌜ Put (now (out .entry)) at (numsIn kind row) r (now (out .exit)) × (r ≤ at + taskWidth) ⌝ }
 {
     match row {
+        Row::Granule(granule) => match kind {
+            Kind::Granules => put_number(out, at, granule),
+            Kind::Partitions => at,
+            Kind::Tasks => at,
+        },
         Row::Partition { cycle, num, den } => match kind {
+            Kind::Granules => at,
             Kind::Partitions => put_three(out, at, cycle, num, den),
             Kind::Tasks => at,
         },
@@ -42,6 +49,7 @@ fn put_row(out: &mut [u16], at: usize, kind: Kind, row: Row) -> usize
             deadline,
             period,
         } => match kind {
+            Kind::Granules => at,
             Kind::Partitions => at,
             Kind::Tasks => {
                 let a = put_three(out, at, partition, budget, deadline);
@@ -77,7 +85,17 @@ fn numbers_in(text: &[u8], kind: Kind) -> usize
     gather(text, kind, &mut none)
 }
 
-// How many numbers there are of each kind, where the lent tables have room for them.
+// The granule that a line gives, or 1.
+fn granule_of(text: &[u8]) -> usize
+    requires { ⌜ length (now text) ≤ longestText ⌝ }
+    ensures { λ r. ⌜ r ≡ granuleOf (now (text .entry)) ⌝ }
+{
+    let mut granule = [1u16; 1];
+    gather(text, Kind::Granules, &mut granule);
+    wide(granule[0])
+}
+
+// The granule, and how many numbers there are of each kind, where the lent tables have room for them.
 fn sized(text: &[u8], parts: usize, tasks: usize) -> TableReading
     requires { ⌜ length (now text) ≤ longestText ⌝ }
     ensures { λ r. ⌜ r ≡ sizedOf (now (text .entry)) parts tasks ⌝ }
@@ -91,6 +109,7 @@ fn sized(text: &[u8], parts: usize, tasks: usize) -> TableReading
         return TableReading::Refused(Refusal::Limits);
     }
     TableReading::Numbers {
+        granule: granule_of(text),
         partitions: p,
         tasks: t,
     }

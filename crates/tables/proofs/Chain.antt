@@ -11,7 +11,7 @@ use lib.Dec.{ltb, leb, eqb}
 use borrow.Author.Tests.{lt-ltb, le-ltb, ltb-true, ltb-false, le-leb, leb-true, eqb-true, eq-eqb, not-true, not-false}
 use Rattle.rules.specs.Limits.{mostPartitions, mostTasks, longest, finestShare, partWidth, taskWidth}
 use Rattle.rules.specs.Walk.{pick, first, fails, Every}
-use Rattle.rules.specs.Terms.{goodGranule}
+use Rattle.rules.specs.Terms.{goodGranule, usual}
 use Rattle.rules.specs.declared.Terms.{Terms}
 use Rattle.rules.specs.Table.{partitions, cycle, num, den, tasks, goodShare, goodPart, goodTask}
 use Rattle.tables.specs.Contracts.{firstBadPart, firstBadTask, firstBadTick}
@@ -297,9 +297,13 @@ unless-parts-hold terms frame ps P refused next three twenty-one six h =
 
 -- ---- calls that are given no terms
 
-pub usual-good : goodGranule 1 ≡ true
+usual-good : goodGranule 1 ≡ true
 unfolding goodGranule
 usual-good = refl
+
+-- good tables are good for them
+pub without-terms : {terms : Terms} {f : ℕ} {ps ts : List ℕ} → GoodTables terms f ps ts → GoodTables usual f ps ts
+without-terms a = record { limits = a .limits; granule = usual-good; parts = a .parts; tasks = a .tasks }
 
 -- 21 is none of theirs
 pub usual-not-21 : {A : Type 0} → goodGranule 1 ≡ false → A

@@ -18,16 +18,16 @@ enum-known-table : tie.Need-enum-known-table
 enum-known-table c = search needs
 
 array-share-prefix-parts : tie.Need-array-share-prefix-parts
-array-share-prefix-parts c = parts-front _ _ _ _ _ _ _ _ refl (c .before .before .before .before .before .read .ensures .0) (c .before .before .before .before .before .read .ensures .1) (c .before .table .given .1) .0
+array-share-prefix-parts c = parts-front _ _ _ _ _ _ _ _ _ refl (c .before .before .before .before .before .read .ensures .0) (c .before .before .before .before .before .read .ensures .1) (c .before .table .given .1) .0
 
 slice-aggregate-put-file-or-line : tie.Need-slice-aggregate-put-file-or-line
-slice-aggregate-put-file-or-line c = sym (length-take-le _ _ (parts-front _ _ _ _ _ _ _ _ refl (c .before .before .before .before .before .before .read .ensures .0) (c .before .before .before .before .before .before .read .ensures .1) (c .before .before .table .given .1) .0))
+slice-aggregate-put-file-or-line c = sym (length-take-le _ _ (parts-front _ _ _ _ _ _ _ _ _ refl (c .before .before .before .before .before .before .read .ensures .0) (c .before .before .before .before .before .before .read .ensures .1) (c .before .before .table .given .1) .0))
 
 array-share-prefix-tasks : tie.Need-array-share-prefix-tasks
-array-share-prefix-tasks c = tasks-front _ _ _ _ _ _ _ _ refl (c .before .before .before .before .before .before .read .ensures .0) (c .before .before .before .before .before .before .read .ensures .2) (c .before .before .table .given .1) .0
+array-share-prefix-tasks c = tasks-front _ _ _ _ _ _ _ _ _ refl (c .before .before .before .before .before .before .read .ensures .0) (c .before .before .before .before .before .before .read .ensures .2) (c .before .before .table .given .1) .0
 
 slice-aggregate-put-file-or-line-2 : tie.Need-slice-aggregate-put-file-or-line-2
-slice-aggregate-put-file-or-line-2 c = sym (length-take-le _ _ (tasks-front _ _ _ _ _ _ _ _ refl (c .before .before .before .before .before .before .before .read .ensures .0) (c .before .before .before .before .before .before .before .read .ensures .2) (c .before .before .before .table .given .1) .0))
+slice-aggregate-put-file-or-line-2 c = sym (length-take-le _ _ (tasks-front _ _ _ _ _ _ _ _ _ refl (c .before .before .before .before .before .before .before .read .ensures .0) (c .before .before .before .before .before .before .before .read .ensures .2) (c .before .before .before .table .given .1) .0))
 
 put-file-or-line-requires : tie.Need-put-file-or-line-requires
 put-file-or-line-requires c κs = search needs
@@ -48,7 +48,7 @@ same-length : tie.Need-same-length
 same-length c = search needs
 
 returns : tie.Need-returns
-returns c = let f = parts-front _ _ _ _ _ _ _ _ refl (c .before .before .before .before .before .before .before .before .before .before .before .read .ensures .0) (c .before .before .before .before .before .before .before .before .before .before .before .read .ensures .1) (c .before .before .before .before .before .before .before .table .given .1) in let g = tasks-front _ _ _ _ _ _ _ _ refl (c .before .before .before .before .before .before .before .before .before .before .before .read .ensures .0) (c .before .before .before .before .before .before .before .before .before .before .before .read .ensures .2) (c .before .before .before .before .before .before .before .table .given .1) in (answer-tables _ _ _ _ _ _ _ (c .before .before .before .before .before .before .before .before .before .before .before .read .ensures .0) (c .before .before .before .before .before .before .before .table .given .1) (f .1) (g .1) (c .before .before .put-file-or-line .ensures .0), c .before .before .put-file-or-line .ensures .1)
+returns c = let f = parts-front _ _ _ _ _ _ _ _ _ refl (c .before .before .before .before .before .before .before .before .before .before .before .read .ensures .0) (c .before .before .before .before .before .before .before .before .before .before .before .read .ensures .1) (c .before .before .before .before .before .before .before .table .given .1) in let g = tasks-front _ _ _ _ _ _ _ _ _ refl (c .before .before .before .before .before .before .before .before .before .before .before .read .ensures .0) (c .before .before .before .before .before .before .before .before .before .before .before .read .ensures .2) (c .before .before .before .before .before .before .before .table .given .1) in (answer-tables _ _ _ _ _ _ _ _ (c .before .before .before .before .before .before .before .before .before .before .before .read .ensures .0) (c .before .before .before .before .before .before .before .table .given .1) (f .1) (g .1) (c .before .before .put-file-or-line .ensures .0), c .before .before .put-file-or-line .ensures .1)
 
 same-length-2 : tie.Need-same-length-2
 same-length-2 c = search needs

@@ -11,10 +11,10 @@ enum-known-t : tie.Need-enum-known-t
 enum-known-t c = search needs
 
 gather-requires : tie.Need-gather-requires
-gather-requires c κs = fits _ _ _ _ _ (sym (c .before .before .before .before .read-of .ensures) ∙ c .before .before .t .given .1) .short
+gather-requires c κs = fits _ _ _ _ _ _ (sym (c .before .before .before .before .read-of .ensures) ∙ c .before .before .t .given .1) .short
 
 gather-requires-2 : tie.Need-gather-requires-2
-gather-requires-2 c κs = fits _ _ _ _ _ (sym (c .before .before .before .before .before .before .before .before .read-of .ensures) ∙ c .before .before .before .before .before .before .t .given .1) .short
+gather-requires-2 c κs = fits _ _ _ _ _ _ (sym (c .before .before .before .before .before .before .before .before .read-of .ensures) ∙ c .before .before .before .before .before .before .t .given .1) .short
 
 enum-known-t-2 : tie.Need-enum-known-t-2
 enum-known-t-2 c = search needs

@@ -39,6 +39,15 @@ slice-aggregate-put-text-4 c = search needs
 put-text-requires-4 : tie.Need-put-text-requires-4
 put-text-requires-4 c κs = search needs
 
+enum-told-5 : tie.Need-enum-told-5
+enum-told-5 c = search needs
+
+slice-aggregate-put-text-5 : tie.Need-slice-aggregate-put-text-5
+slice-aggregate-put-text-5 c = search needs
+
+put-text-requires-5 : tie.Need-put-text-requires-5
+put-text-requires-5 c κs = search needs
+
 same-length : tie.Need-same-length
 same-length c = search needs
 
@@ -63,6 +72,12 @@ same-length-4 c = search needs
 returns-4 : tie.Need-returns-4
 returns-4 c = (rw (c .before .before .before .before .before .enum-told4 .given .1) (c .before .before .put-text4 .ensures), omega (arith, c .before .before .put-text4 .ensures .place))
 
+same-length-5 : tie.Need-same-length-5
+same-length-5 c = search needs
+
+returns-5 : tie.Need-returns-5
+returns-5 c = (rw (c .before .before .before .before .before .enum-told5 .given .1) (c .before .before .put-text5 .ensures), omega (arith, c .before .before .put-text5 .ensures .place))
+
 pub put-what-spec : {M : Type 1} → statement M
 put-what-spec =
     tie.close
@@ -79,6 +94,9 @@ put-what-spec =
     enum-told-4
     slice-aggregate-put-text-4
     put-text-requires-4
+    enum-told-5
+    slice-aggregate-put-text-5
+    put-text-requires-5
     same-length
     returns
     same-length-2
@@ -86,4 +104,6 @@ put-what-spec =
     same-length-3
     returns-3
     same-length-4
-    returns-4)
+    returns-4
+    same-length-5
+    returns-5)

@@ -19,13 +19,13 @@ same-length : tie.Need-same-length
 same-length c = search needs
 
 returns : tie.Need-returns
-returns c = file-put _ _ _ _ _ _ (c .before .before .before .before .before .write-plan .ensures .0) (c .before .before .before .before .before .write-plan .ensures .1) (c .before .w .given .1)
+returns c = file-put _ _ _ _ _ _ _ (c .before .before .before .before .before .write-plan .ensures .0) (c .before .before .before .before .before .write-plan .ensures .1) (c .before .w .given .1)
 
 same-length-2 : tie.Need-same-length-2
 same-length-2 c = search needs
 
 returns-2 : tie.Need-returns-2
-returns-2 c = (line-put _ _ _ _ _ _ (c .before .before .before .before .before .before .before .before .before .write-plan .ensures .0) (c .before .before .before .before .before .before .before .before .before .write-plan .ensures .1) (c .before .before .before .before .before .w2 .given .1) (c .before .before .put-refusal .ensures .0), search needs)
+returns-2 c = (line-put _ _ _ _ _ _ _ (c .before .before .before .before .before .before .before .before .before .write-plan .ensures .0) (c .before .before .before .before .before .before .before .before .before .write-plan .ensures .1) (c .before .before .before .before .before .w2 .given .1) (c .before .before .put-refusal .ensures .0), search needs)
 
 pub put-file-or-line-spec : {M : Type 1} → statement M
 put-file-or-line-spec =

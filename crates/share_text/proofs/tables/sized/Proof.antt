@@ -18,9 +18,20 @@ returns-2 : tie.Need-returns-2
 unfolding sizedOf
 returns-2 c = rw (← c .before .before .before .numbers-in .ensures, ← c .before .numbers-in2 .ensures, le-ltb _ _ (c .before .before .if1 .left), lt-ltb _ _ (c .if2 .taken))
 
+granule-of-requires : tie.Need-granule-of-requires
+granule-of-requires c κs = search needs
+
 returns-3 : tie.Need-returns-3
 unfolding sizedOf
-returns-3 c = rw (← c .before .before .before .numbers-in .ensures, ← c .before .numbers-in2 .ensures, le-ltb _ _ (c .before .before .if1 .left), le-ltb _ _ (c .if2 .left))
+returns-3 c = rw (← c .before .before .before .before .numbers-in .ensures, ← c .before .before .numbers-in2 .ensures, ← c .granule-of .ensures, le-ltb _ _ (c .before .before .before .if1 .left), le-ltb _ _ (c .before .if2 .left))
 
 pub sized-spec : {M : Type 1} → statement M
-sized-spec = tie.close (tie.spec numbers-in-requires returns numbers-in-requires-2 returns-2 returns-3)
+sized-spec =
+    tie.close
+    (tie.spec
+    numbers-in-requires
+    returns
+    numbers-in-requires-2
+    returns-2
+    granule-of-requires
+    returns-3)
