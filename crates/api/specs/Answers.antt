@@ -1,7 +1,8 @@
--- What each entry of the C surface tells, and what then stands in all that was lent: the entry's own rule, told as a number and four values. (`wants`, `held`
+-- What each entry of the C surface tells, and what then stands in all that was lent: the entry's own rule, told as a number and four values; g is the call's granule. (`wants`, `held`
 -- and `least` answer with the number itself: `WantsIs`, `HeldIs`, `LeastIs`.) Assumes nothing.
 use Prim.Native.Nat.{ℕ}
 use mathlib.Core.List.{List}
+use Rattle.rules.specs.Terms.{granules}
 use Rattle.rules.specs.declared.Told.{Told}
 use Rattle.rules.specs.Refusals.{toldFinding, toldFilling, Tells}
 use Rattle.plan_curve.specs.Curve.{DrawsCurve}
@@ -23,11 +24,11 @@ use Rattle.answers.specs.Parts.{toldPart}
 abbrev pub TellsCurve : List ℕ → ℕ → ℕ → List ℕ → List ℕ → Told → Type 0
 TellsCurve plan p n list o = Tells toldFilling (DrawsCurve plan p n list o)
 
-abbrev pub TellsCheck : List ℕ → List ℕ → Told → Type 0
-TellsCheck plan ps = Tells toldFinding (Checks plan ps)
+abbrev pub TellsCheck : ℕ → List ℕ → List ℕ → Told → Type 0
+TellsCheck g plan ps = Tells toldFinding (Checks (granules g) plan ps)
 
-abbrev pub TellsBuild : List ℕ → List ℕ → List ℕ → Told → Type 0
-TellsBuild ps out o = Tells toldFilling (Builds ps out o)
+abbrev pub TellsBuild : ℕ → List ℕ → List ℕ → List ℕ → Told → Type 0
+TellsBuild g ps out o = Tells toldFilling (Builds (granules g) ps out o)
 
 abbrev pub TellsFill : List ℕ → List ℕ → List ℕ → List ℕ → Told → Type 0
 TellsFill plan ps list o = Tells toldFilling (FillsCounts plan ps list o)
@@ -42,11 +43,11 @@ TellsMany plan ps list qs out o = Tells toldFilling (HoldsMany plan ps list qs o
 abbrev pub TellsChange : List ℕ → List ℕ → List ℕ → ℕ → ℕ → List ℕ → List ℕ → Told → Type 0
 TellsChange plan ps list tick owner plan′ o = Tells toldFinding (Changes plan ps list tick owner plan′ o)
 
-abbrev pub TellsVerdict : List ℕ → List ℕ → List ℕ → ℕ → Told → Type 0
-TellsVerdict plan ps ts place = Tells toldJudged (Judges plan ps ts place)
+abbrev pub TellsVerdict : ℕ → List ℕ → List ℕ → List ℕ → ℕ → Told → Type 0
+TellsVerdict g plan ps ts place = Tells toldJudged (Judges (granules g) plan ps ts place)
 
-abbrev pub TellsPlain : List ℕ → List ℕ → List ℕ → ℕ → Told → Type 0
-TellsPlain plan ps ts place = Tells toldJudged (JudgesPlainly plan ps ts place)
+abbrev pub TellsPlain : ℕ → List ℕ → List ℕ → List ℕ → ℕ → Told → Type 0
+TellsPlain g plan ps ts place = Tells toldJudged (JudgesPlainly (granules g) plan ps ts place)
 
 abbrev pub TellsRead : List ℕ → Told → Type 0
 TellsRead b = Tells toldReading (Reads b)

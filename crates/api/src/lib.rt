@@ -2,16 +2,17 @@
 // declares it.
 use desk::Desk;
 use desk::Job;
+use rules::Terms;
 use rules::Told;
 ghost use Rattle.rules.specs.Table.{WantsIs};
 ghost use Rattle.theory.specs.Plan.{HeldIs, LeastIs};
 ghost use Rattle.api.specs.Answers.{TellsCurve, TellsCheck, TellsBuild, TellsFill, TellsHeld, TellsMany, TellsChange, TellsVerdict, TellsPlain, TellsRead, TellsSection, TellsWrite, TellsList, TellsOpen, TellsRequest};
 
 #[no_mangle]
-pub extern "C" fn merkazobi_wants(m: u16, num: u16, den: u16) -> usize
-    ensures { λ r. ⌜ WantsIs m num den r ⌝ }
+pub extern "C" fn merkazobi_wants(granule: usize, m: u16, num: u16, den: u16) -> usize
+    ensures { λ r. ⌜ WantsIs granule m num den r ⌝ }
 {
-    rules::records::wants(m, num, den)
+    rules::records::wants(granule, m, num, den)
 }
 
 #[no_mangle]
@@ -36,17 +37,17 @@ pub extern "C" fn merkazobi_curve(plan: &[u16], p: u16, n: u32, list: &mut [u32]
 }
 
 #[no_mangle]
-pub extern "C" fn merkazobi_check(plan: &[u16], parts: &[u16]) -> Told
-    ensures { λ r. ⌜ TellsCheck (now (plan .entry)) (now (parts .entry)) r ⌝ }
+pub extern "C" fn merkazobi_check(granule: usize, plan: &[u16], parts: &[u16]) -> Told
+    ensures { λ r. ⌜ TellsCheck granule (now (plan .entry)) (now (parts .entry)) r ⌝ }
 {
-    answers::tell_finding(plan_check::check(plan, parts))
+    answers::tell_finding(plan_check::check(Terms { granule }, plan, parts))
 }
 
 #[no_mangle]
-pub extern "C" fn merkazobi_build(parts: &[u16], out: &mut [u16]) -> Told
-    ensures { λ r. ⌜ TellsBuild (now (parts .entry)) (now (out .entry)) (now (out .exit)) r ⌝ }
+pub extern "C" fn merkazobi_build(granule: usize, parts: &[u16], out: &mut [u16]) -> Told
+    ensures { λ r. ⌜ TellsBuild granule (now (parts .entry)) (now (out .entry)) (now (out .exit)) r ⌝ }
 {
-    answers::tell_filling(plan_build::build(parts, out))
+    answers::tell_filling(plan_build::build(Terms { granule }, parts, out))
 }
 
 #[no_mangle]
@@ -101,21 +102,28 @@ pub extern "C" fn merkazobi_counts_change(
 
 #[no_mangle]
 pub extern "C" fn merkazobi_verdict(
+    granule: usize,
     plan: &[u16],
     parts: &[u16],
     tasks: &[u16],
     place: usize,
 ) -> Told
-    ensures { λ r. ⌜ TellsVerdict (now (plan .entry)) (now (parts .entry)) (now (tasks .entry)) place r ⌝ }
+    ensures { λ r. ⌜ TellsVerdict granule (now (plan .entry)) (now (parts .entry)) (now (tasks .entry)) place r ⌝ }
 {
-    answers::tell_judged(task_verdict::verdict(plan, parts, tasks, place))
+    answers::tell_judged(task_verdict::verdict(Terms { granule }, plan, parts, tasks, place))
 }
 
 #[no_mangle]
-pub extern "C" fn merkazobi_plain(plan: &[u16], parts: &[u16], tasks: &[u16], place: usize) -> Told
-    ensures { λ r. ⌜ TellsPlain (now (plan .entry)) (now (parts .entry)) (now (tasks .entry)) place r ⌝ }
+pub extern "C" fn merkazobi_plain(
+    granule: usize,
+    plan: &[u16],
+    parts: &[u16],
+    tasks: &[u16],
+    place: usize,
+) -> Told
+    ensures { λ r. ⌜ TellsPlain granule (now (plan .entry)) (now (parts .entry)) (now (tasks .entry)) place r ⌝ }
 {
-    answers::tell_judged(task_verdict::plain(plan, parts, tasks, place))
+    answers::tell_judged(task_verdict::plain(Terms { granule }, plan, parts, tasks, place))
 }
 
 #[no_mangle]

@@ -11,6 +11,7 @@ use lib.ListN.{length, take, drop, getD}
 use Rattle.rules.specs.Walk.{pick}
 use Rattle.rules.specs.Limits.{longest}
 use Rattle.rules.specs.Table.{partitions}
+use Rattle.rules.specs.Terms.{granules, wanted}
 use Rattle.tables.specs.Tables.{unless}
 use Rattle.tables.specs.Contracts.{firstBadTick}
 use Rattle.rules.specs.declared.Told.{Told}
@@ -71,22 +72,32 @@ use Rattle.answers.specs.Parts.{toldPart}
 use Rattle.demands.specs.Demands.{among, ToldAs, Numbered, Demand1, OneOutcome, Afresh, lower, Demand2, Demand3, Demands}
 use Rattle.demands.proofs.Entries.{entries}
 use Rattle.demands.proofs.Counting as counting
+use Rattle.demands.proofs.Granules.{granule-exactly, granule-one}
 use Rattle.demands.proofs.Judging as judging
 
 -- ---- the numbers, whatever the tests give: one case for each answer
 
-check-told : (c d : Bool) (t p s h w : ℕ)
-    → Numbered (3 ∷ 6 ∷ 8 ∷ 9 ∷ []) (toldFinding (unless found.Refused (pick c (found.Refused (Tick t)) found.Good) (pick d (found.Refused (Shortfall p s h w)) found.Good)))
-check-told true d t p s h w = refl
-check-told false true t p s h w = refl
-check-told false false t p s h w = refl
+-- what holds of each of the checker's 8 and 9, and of the builder's 10, 11 and 12
+of-plan : (P : Finding → Type 0) (q : ℕ → ℕ) (plan ps : List ℕ) → P found.Good → ((t : ℕ) → P (found.Refused (Tick t))) → ((p s h w : ℕ) → P (found.Refused (Shortfall p s h w)))
+    → P (planCheckOf q plan ps)
+unfolding planCheckOf scanOf
+of-plan P q plan ps good eight nine = at (ltb (firstBadTick (partitions ps) plan) (length plan)) (ltb (shortPart q plan ps) (partitions ps)) _ _ _ _ _
+  where
+    at : (c d : Bool) (t p s h w : ℕ) → P (unless found.Refused (pick c (found.Refused (Tick t)) found.Good) (pick d (found.Refused (Shortfall p s h w)) found.Good))
+    at true d t p s h w = eight t
+    at false true t p s h w = nine p s h w
+    at false false t p s h w = good
 
-build-told : (c d e : Bool) (h : ℕ)
-    → Numbered (3 ∷ 6 ∷ 10 ∷ 11 ∷ 12 ∷ []) (toldFilling (pick c (filling.Refused Unharmonic) (pick d (filling.Refused Want) (pick e (filling.Refused Output) (filling.Fills h)))))
-build-told true d e h = refl
-build-told false true e h = refl
-build-told false false true h = refl
-build-told false false false h = refl
+of-laid : (P : Filling → Type 0) (q : ℕ → ℕ) (ps : List ℕ) (room : ℕ) → P (filling.Refused Unharmonic) → P (filling.Refused Want) → P (filling.Refused Output) → ((h : ℕ) → P (filling.Fills h))
+    → P (laidOf q ps room)
+unfolding laidOf
+of-laid P q ps room ten eleven twelve fills = at (unharmonic ps) (ltb (frame ps) (allWanted q ps (frame ps))) (ltb room (frame ps))
+  where
+    at : (c d e : Bool) → P (pick c (filling.Refused Unharmonic) (pick d (filling.Refused Want) (pick e (filling.Refused Output) (filling.Fills (frame ps)))))
+    at true d e = ten
+    at false true e = eleven
+    at false false true = twelve
+    at false false false = fills (frame ps)
 
 write-told : (e : Bool) (n : ℕ) → Numbered (3 ∷ 6 ∷ 7 ∷ 8 ∷ 12 ∷ []) (toldFilling (pick e (filling.Refused Output) (filling.Fills n)))
 write-told true n = refl
@@ -133,8 +144,8 @@ module _ (P : Outcome → Type 0) (clock n : ℕ) (l : List Job) (t c d : ℕ) w
 
 -- ---- from what is told to the rule's answer, and back
 
-build-is : (ps out o : List ℕ) (t : Told) → TellsBuild ps out o t → t ≡ toldFilling (buildOf ps (length out))
-build-is ps out o t p = tells-one toldFilling (Builds ps out o) (buildOf ps (length out)) (λ r e. e .0) t p
+build-is : (g : ℕ) (ps out o : List ℕ) (t : Told) → TellsBuild g ps out o t → t ≡ toldFilling (buildOf (granules g) ps (length out))
+build-is g ps out o t p = tells-one toldFilling (Builds (granules g) ps out o) (buildOf (granules g) ps (length out)) (λ r e. e .0) t p
 
 read-is : (b : List ℕ) (t : Told) → TellsRead b t → t ≡ toldReading (readOf b)
 read-is b t p = tells-one toldReading (Reads b) (readOf b) (λ r e. e) t p
@@ -311,17 +322,17 @@ a-part b which = at (readOf b)
     at (reading.Refused x) e = absurd (not-0 x e)
 
 first : Demand1
-unfolding curveOf checkOf planCheckOf scanOf buildOf laidOf readOf writeOf listOf openOf
+unfolding curveOf checkOf buildOf readOf writeOf listOf openOf
 first = record {
-  build-numbers = λ ps out o t p.
-      rw (build-is ps out o t p)
-      (unless-parts-hold longest ps (λ (r : Filling). Numbered (3 ∷ 6 ∷ 10 ∷ 11 ∷ 12 ∷ []) (toldFilling r)) filling.Refused (laidOf ps (length out)) refl (λ k. refl)
-      (build-told (unharmonic ps) (ltb (frame ps) (allWanted ps (frame ps))) (ltb (length out) (frame ps)) _));
+  build-numbers = λ g ps out o t p.
+      rw (build-is g ps out o t p)
+      (unless-parts-hold (granules g) longest ps (λ (r : Filling). Numbered (3 ∷ 21 ∷ 6 ∷ 10 ∷ 11 ∷ 12 ∷ []) (toldFilling r)) filling.Refused (laidOf (wanted (granules g) ps) ps (length out)) refl (λ e. refl) (λ k. refl)
+      (of-laid (λ (r : Filling). Numbered (3 ∷ 21 ∷ 6 ∷ 10 ∷ 11 ∷ 12 ∷ []) (toldFilling r)) (wanted (granules g) ps) ps (length out) refl refl refl (λ h. refl)));
   curve-numbers = λ plan p n list o t c. rw (curve-is plan p n list o t c) (list-told (ltb (length list) (n + 1)) _);
-  check-numbers = λ plan ps t p.
-      rw (judging.check-is plan ps t p)
-      (unless-parts-hold (length plan) ps (λ (r : Finding). Numbered (3 ∷ 6 ∷ 8 ∷ 9 ∷ []) (toldFinding r)) found.Refused (planCheckOf plan ps) refl (λ k. refl)
-      (check-told (ltb (firstBadTick (partitions ps) plan) (length plan)) (ltb (shortPart plan ps) (partitions ps)) _ _ _ _ _));
+  check-numbers = λ g plan ps t p.
+      rw (judging.check-is g plan ps t p)
+      (unless-parts-hold (granules g) (length plan) ps (λ (r : Finding). Numbered (3 ∷ 21 ∷ 6 ∷ 8 ∷ 9 ∷ []) (toldFinding r)) found.Refused (planCheckOf (wanted (granules g) ps) plan ps) refl (λ e. refl) (λ k. refl)
+      (of-plan (λ (r : Finding). Numbered (3 ∷ 21 ∷ 6 ∷ 8 ∷ 9 ∷ []) (toldFinding r)) (wanted (granules g) ps) plan ps refl (λ t. refl) (λ p s h w. refl)));
   fill-numbers = counting.fill-numbers;
   counts-held-numbers = counting.held-numbers;
   many-numbers = counting.many-numbers;
@@ -345,7 +356,17 @@ first = record {
     rw (desk-is _ k′ l′ t p) (request-holds (λ o. Numbered (13 ∷ 14 ∷ 15 ∷ 16 ∷ 17 ∷ 18 ∷ 19 ∷ []) (said (o .answer))) (k .clock) (k .count) l time c d refl refl refl refl refl refl refl (λ i s. refl)),
     λ e. absurd (desk.proved .never-too-far (k .clock) (k .count) l time c d (rw (desk-is _ k′ l′ t p) at e)),
   );
-  build-refused = λ ps out o t p n. p .1 .1 ∙ left-refused (p .0) (harmonicPlan ps) out (λ z. n (rw (p .2) z));
+  build-granule = λ g ps out o t p.
+      rw (build-is g ps out o t p)
+      (granule-exactly g longest ps [] (λ (r : Filling). toldFilling r .number) filling.Refused (laidOf (wanted (granules g) ps) ps (length out)) (λ r. refl)
+      (of-laid (λ (r : Filling). ¬ (toldFilling r .number ≡ 21)) (wanted (granules g) ps) ps (length out) (λ z. absurd (omega arith)) (λ z. absurd (omega arith)) (λ z. absurd (omega arith)) (λ h z. absurd (omega arith))));
+  check-granule = λ g plan ps t p.
+      rw (judging.check-is g plan ps t p)
+      (granule-exactly g (length plan) ps [] (λ (r : Finding). toldFinding r .number) found.Refused (planCheckOf (wanted (granules g) ps) plan ps) (λ r. refl)
+      (of-plan (λ (r : Finding). ¬ (toldFinding r .number ≡ 21)) (wanted (granules g) ps) plan ps (λ z. absurd (omega arith)) (λ t z. absurd (omega arith)) (λ p s h w z. absurd (omega arith))));
+  verdict-granule = judging.judged-granule (taskPoint own);
+  plain-granule = judging.judged-granule (taskTick own);
+  build-refused = λ g ps out o t p n. p .1 .1 ∙ left-refused (p .0) (harmonicPlan (wanted (granules g) ps) ps) out (λ z. n (rw (p .2) z));
   write-refused = λ f ps ts rs out o t p n. p .1 .1 ∙ left-refused (writeOf f ps ts rs (length out)) (fileOf f ps ts rs) out (λ z. n (rw (write-is f ps ts rs out o t p) z));
   curve-refused = λ plan p n list o t c r. c .1 .1 ∙ left-refused (c .0) (leastCurve own plan p n) list (λ z. r (rw (c .2) z));
   list-refused = λ b out o t p n. p .1 .1 ∙ left-refused (listOf b (length out)) (listingOf b) out (λ z. n (rw (list-is b out o t p) z));
@@ -377,14 +398,14 @@ desk-one o k₁ k₂ l₁ l₂ t t′ (r, p, e) (r′, p′, e′) =
 one-outcome : OneOutcome
 one-outcome = record {
   curve-one = λ plan p n list. same-left toldFilling (DrawsCurve plan p n list) (curve.proved .curve-one plan p n list);
-  check-one = λ plan ps. same-told toldFinding (Checks plan ps) (checker.proved .check-one plan ps);
-  build-one = λ ps out. same-left toldFilling (Builds ps out) (builder.proved .build-one ps out);
+  check-one = λ g plan ps. same-told toldFinding (Checks (granules g) plan ps) (checker.proved .check-one (granules g) plan ps);
+  build-one = λ g ps out. same-left toldFilling (Builds (granules g) ps out) (builder.proved .build-one (granules g) ps out);
   fill-one = λ plan ps list. same-left toldFilling (FillsCounts plan ps list) (counts.proved .fill-one plan ps list);
   counts-held-one = λ plan ps list p s n. same-told toldHolding (HoldsOne plan ps list p s n) (counts.proved .held-one plan ps list p s n);
   many-one = λ plan ps list qs out. same-left toldFilling (HoldsMany plan ps list qs out) (counts.proved .many-one plan ps list qs out);
   change-one = counting.change-one;
-  verdict-one = λ plan ps ts place. same-told toldJudged (Judges plan ps ts place) (verdict.proved .verdict-one plan ps ts place);
-  plain-one = λ plan ps ts place. same-told toldJudged (JudgesPlainly plan ps ts place) (verdict.proved .plain-one plan ps ts place);
+  verdict-one = λ g plan ps ts place. same-told toldJudged (Judges (granules g) plan ps ts place) (verdict.proved .verdict-one (granules g) plan ps ts place);
+  plain-one = λ g plan ps ts place. same-told toldJudged (JudgesPlainly (granules g) plan ps ts place) (verdict.proved .plain-one (granules g) plan ps ts place);
   read-one = λ b. same-told toldReading (Reads b) (reader.proved .one-read b);
   section-one = λ b which. same-told (toldPart which) (Reads b) (reader.proved .one-read b);
   write-one = λ f ps ts rs out. same-left toldFilling (Writes f ps ts rs out) (writer.proved .one-write f ps ts rs out);
@@ -410,6 +431,7 @@ second = record {
   of-planner = planner.proved;
   of-desk = desk.proved;
   of-lent-desk = lent.proved;
+  granule-one = granule-one;
   read-write = writer.proved .read-write;
   write-read = writer.proved .write-read;
   curve-least = λ plan p n list o t (r, c, e) z u l.
@@ -435,12 +457,13 @@ third = record {
   plain-ends-in-time-for-ever = judging.ends-in-time-for-ever (taskTick own) (verdict.proved .by-ticks);
   runs-exist = theory.proved .legal-exists;
   runs-unique = theory.proved .legal-one;
-  built-serves = λ ps out o t u (r, b, e) n q.
+  built-serves = λ g ps out o t u (r, b, e) n q.
       let h : r ≡ filling.Fills (t .first) = rw e (filling-fills r (rw e at n)) in
-      rw (judging.check-is (take (t .first) o) ps u q, builder.built-serves ps out o (t .first) (subst (Builds ps out o) h b));
-  want-exactly = λ ps out o t p. rw (build-is ps out o t p) (builder.want-exactly ps (length out));
-  want-none = λ ps out o t p e. builder.want-none ps (length out) (rw (build-is ps out o t p) at e);
-  want-checked = λ ps out o t p e plan u q n. builder.want-checked ps (length out) (rw (build-is ps out o t p) at e) plan (judging.accepted-is plan ps u q n);
+      rw (judging.check-is g (take (t .first) o) ps u q, builder.built-serves (granules g) ps out o (t .first) (subst (Builds (granules g) ps out o) h b));
+  want-exactly = λ g ps out o t p. rw (build-is g ps out o t p) (builder.want-exactly (granules g) ps (length out));
+  want-none = λ g ps out o t p e. builder.want-none (granules g) ps (length out) (rw (build-is g ps out o t p) at e);
+  want-checked = λ g ps out o t p e plan u q n.
+      builder.want-checked (granules g) ps (length out) (rw (build-is g ps out o t p) at e) plan (judging.accepted-is g plan ps u q n);
 }
 
 pub demands : Demands

@@ -4,6 +4,7 @@ use mathlib.Core.Path.{refl}
 use mathlib.Core.List.{List}
 use Rattle.rules.specs.Walk.{only, fails, first, sum, count, smallest, largest, walk, gathered, listed, roundUp}
 use Rattle.rules.specs.Table.{wants, goodShare, goodTimes}
+use Rattle.rules.specs.Terms.{goodGranule}
 use Rattle.tables.specs.Tables.{countedIn, withinLimits, tablesOf}
 use Rattle.theory.specs.Plan.{own, owner, owned, least}
 use Rattle.theory.specs.Harmonic.{pairs, frame, allWanted, sooner, rank, give, turn, planned}
@@ -24,8 +25,9 @@ use Rattle.output.specs.Refused.{refusedLine}
 use Rattle.file_lines.specs.Lines.{frameLine, partitionLine, passLine}
 use Rattle.file_page.specs.Page.{partLine, taskLine, pageOf}
 use Rattle.share_words.specs.Words.{blank, stops, stopsAt, width, wordOf, restOf, differs, same, isNumber, numeral}
-use Rattle.share_line.specs.Rows.{partRow, taskRow, recordOf, rowOf}
-use Rattle.share_text.specs.Table.{lineOf, afterLine, fromLine, rowAt, wrongAt, numsAt, recordsOf, seenOf, sizedOf, readTextOf}
+use Rattle.share_line.specs.Rows.{granuleRow, partRow, taskRow, recordOf, rowOf}
+use Rattle.share_line.specs.Expected.{expectedLine}
+use Rattle.share_text.specs.Table.{lineOf, afterLine, fromLine, rowAt, closesAt, wrongAt, numsAt, recordsOf, seenOf, sizedOf, readTextOf}
 use Rattle.share_plan.specs.Answer.{planFile, writeBuiltOf, writePlanOf, fileOrLine, answerOf}
 use Rattle.file_listing.specs.Listing.{tablesLines, listingOf, listOf}
 use Rattle.desk.specs.Table.{openOf}
@@ -34,15 +36,27 @@ use Rattle.demands.proofs.Judging.{TellsBy}
 use Rattle.demands.specs.EachRefusal.{EachPlan, EachVerdict, EachCount, EachFile, EachText, EachDesk, EachLimit, EachRefusal}
 
 plans : EachPlan
-unfolding only fails first sum count smallest largest walk gathered roundUp wants countedIn withinLimits tablesOf goodShare owner owned least pairs frame allWanted sooner rank give turn planned listed curveOf shortAt scanOf planCheckOf checkOf unharmonic laidOf buildOf
+unfolding only fails first sum count smallest largest walk gathered roundUp wants countedIn withinLimits goodGranule tablesOf goodShare owner owned least pairs frame allWanted sooner rank give turn planned listed curveOf shortAt scanOf planCheckOf checkOf unharmonic laidOf buildOf
 plans = record {
   curve-0 = (_, (refl, refl), refl);
   curve-12 = (_, (refl, refl), refl);
   check-3 = (_, refl, refl);
+  check-21 = (_, refl, refl);
+  check-21-past = (_, refl, refl);
+  check-21-first = (_, refl, refl);
+  check-3-first = (_, refl, refl);
   check-6 = (_, refl, refl);
   check-8 = (_, refl, refl);
   check-9 = (_, refl, refl);
+  check-9-granule = (_, refl, refl);
+  check-9-past = (_, refl, refl);
   build-3 = (_, (refl, refl), refl);
+  build-21 = (_, (refl, refl), refl);
+  build-21-past = (_, (refl, refl), refl);
+  build-21-first = (_, (refl, refl), refl);
+  build-3-first = (_, (refl, refl), refl);
+  build-granule = (_, (refl, refl), refl);
+  build-11-past = (_, (refl, refl), refl);
   build-6 = (_, (refl, refl), refl);
   build-10 = (_, (refl, refl), refl);
   build-11 = (_, (refl, refl), refl);
@@ -51,9 +65,12 @@ plans = record {
 
 -- a refusal is told before the engine is asked
 verdicts : (engine : List ℕ → List ℕ → ℕ → ℕ) → EachVerdict (TellsBy engine)
-unfolding only fails first sum count roundUp wants countedIn withinLimits tablesOf goodShare goodTimes owner owned shortAt scanOf planCheckOf placeOf answerableOf verdictBy
+unfolding only fails first sum count roundUp wants countedIn withinLimits goodGranule tablesOf goodShare goodTimes owner owned shortAt scanOf planCheckOf placeOf answerableOf verdictBy
 verdicts engine = record {
   verdict-3 = (_, refl, refl);
+  verdict-21 = (_, refl, refl);
+  verdict-21-first = (_, refl, refl);
+  verdict-3-first = (_, refl, refl);
   verdict-6 = (_, refl, refl);
   verdict-7 = (_, refl, refl);
   verdict-7-first = (_, refl, refl);
@@ -61,10 +78,11 @@ verdicts engine = record {
   verdict-7-past = (_, refl, refl);
   verdict-8 = (_, refl, refl);
   verdict-9 = (_, refl, refl);
+  verdict-9-granule = (_, refl, refl);
 }
 
 counts : EachCount
-unfolding only fails first sum count listed countedIn withinLimits tablesOf goodShare owner owned countAt agreesAt planJudged listJudged countsJudged goodName goodStretch fillOf heldOf namesOne withinFrame answerAt manyOf changeOf
+unfolding only fails first sum count listed countedIn withinLimits goodGranule tablesOf goodShare owner owned countAt agreesAt planJudged listJudged countsJudged goodName goodStretch fillOf heldOf namesOne withinFrame answerAt manyOf changeOf
 counts = record {
   fill-0 = (_, (refl, refl), refl);
   fill-3 = (_, (refl, refl), refl);
@@ -111,7 +129,7 @@ counts = record {
 }
 
 files : EachFile
-unfolding only fails first sum count smallest largest gathered roundUp wants countedIn withinLimits tablesOf goodShare goodTimes owner owned shortAt scanOf planCheckOf checkOf numsOf bytesOf runOwner runLength repeats goodRun runsJudged fileTablesOf tableBy countsOf contentsOf readOf fileOf writeOf ticksOf digits decimal refusedLine least rival taskLoad asked demand multiple point holds earliest frameLine partitionLine passLine partLine taskLine pageOf tablesLines listingOf listOf
+unfolding only fails first sum count smallest largest gathered roundUp wants countedIn withinLimits goodGranule tablesOf goodShare goodTimes owner owned shortAt scanOf planCheckOf checkOf numsOf bytesOf runOwner runLength repeats goodRun runsJudged fileTablesOf tableBy countsOf contentsOf readOf fileOf writeOf ticksOf digits decimal refusedLine least rival taskLoad asked demand multiple point holds earliest frameLine partitionLine passLine partLine taskLine pageOf tablesLines listingOf listOf
 files = record {
   read-1 = (_, refl, refl);
   read-2 = (_, refl, refl);
@@ -150,13 +168,19 @@ files = record {
 }
 
 texts : EachText
-unfolding only fails first sum count smallest largest gathered roundUp wants countedIn withinLimits tablesOf goodShare goodTimes pairs frame allWanted unharmonic laidOf buildOf digits decimal value refusedLine blank stops stopsAt width wordOf restOf differs same isNumber numeral partRow taskRow recordOf rowOf lineOf afterLine fromLine rowAt wrongAt numsAt recordsOf seenOf sizedOf readTextOf joined runsOf repeats runOwner runLength goodRun runsJudged fileTablesOf owner owned sooner rank give turn planned listed walk writeOf planFile writeBuiltOf writePlanOf fileOrLine answerOf
+unfolding only fails first sum count smallest largest gathered roundUp wants countedIn withinLimits goodGranule tablesOf goodShare goodTimes pairs frame allWanted unharmonic laidOf buildOf digits decimal value refusedLine expectedLine blank stops stopsAt width wordOf restOf differs same isNumber numeral granuleRow partRow taskRow recordOf rowOf lineOf afterLine fromLine rowAt closesAt wrongAt numsAt recordsOf seenOf sizedOf readTextOf joined runsOf repeats runOwner runLength goodRun runsJudged fileTablesOf owner owned sooner rank give turn planned listed walk writeOf planFile writeBuiltOf writePlanOf fileOrLine answerOf
 texts = record {
   plan-3 = record { place = refl; bytes = refl };
+  plan-21 = record { place = refl; bytes = refl };
+  plan-3-first = record { place = refl; bytes = refl };
   plan-6 = record { place = refl; bytes = refl };
   plan-7 = record { place = refl; bytes = refl };
   plan-10 = record { place = refl; bytes = refl };
   plan-11 = record { place = refl; bytes = refl };
+  plan-11-granule = record { place = refl; bytes = refl };
+  plan-11-none = record { place = refl; bytes = refl };
+  plan-late = record { place = refl; bytes = refl };
+  plan-twice = record { place = refl; bytes = refl };
   plan-12 = record { place = refl; bytes = refl };
 }
 
@@ -174,7 +198,7 @@ desks = record {
 }
 
 limits : EachLimit
-unfolding only fails first sum count smallest largest gathered roundUp wants countedIn withinLimits tablesOf goodShare goodTimes pairs frame allWanted unharmonic laidOf buildOf numsOf runOwner runLength repeats goodRun runsJudged fileTablesOf countsOf contentsOf readOf writeOf openOf requestOf
+unfolding only fails first sum count smallest largest gathered roundUp wants countedIn withinLimits goodGranule tablesOf goodShare goodTimes pairs frame allWanted unharmonic laidOf buildOf numsOf runOwner runLength repeats goodRun runsJudged fileTablesOf countsOf contentsOf readOf writeOf openOf requestOf
 limits = record {
   partitions-16 = (_, (refl, refl), refl);
   partitions-17 = (_, (refl, refl), refl);
@@ -188,6 +212,8 @@ limits = record {
   cycle-4097 = (_, (refl, refl), refl);
   share-1000 = (_, (refl, refl), refl);
   share-1001 = (_, (refl, refl), refl);
+  granule-16 = (_, (refl, refl), refl);
+  granule-17 = (_, (refl, refl), refl);
   period-4096 = (_, (refl, refl), refl);
   period-4097 = (_, (refl, refl), refl);
   places-64 = (_, (refl, refl, refl), refl);

@@ -1,5 +1,6 @@
 pub mod Worked
 pub mod Counting
+pub mod Granules
 pub mod Judging
 pub mod Demands
 pub mod Entries

@@ -2,6 +2,7 @@
 use mathlib.Core.Path.{refl}
 use Rattle.rules.specs.Walk.{only, fails, first, sum, count, smallest, largest, walk, gathered, listed, roundUp}
 use Rattle.rules.specs.Table.{wants, goodShare, goodTimes}
+use Rattle.rules.specs.Terms.{goodGranule}
 use Rattle.tables.specs.Tables.{countedIn, withinLimits, tablesOf}
 use Rattle.theory.specs.Plan.{owner, owned, least}
 use Rattle.theory.specs.Harmonic.{pairs, frame, allWanted, sooner, rank, give, turn, planned}
@@ -23,7 +24,7 @@ use Rattle.desk.specs.Request.{requestOf}
 use Rattle.demands.specs.Document01.{Document01}
 
 pub worked : Document01
-unfolding only fails first sum count smallest largest walk gathered roundUp wants countedIn withinLimits tablesOf goodShare goodTimes owner owned least pairs frame allWanted sooner rank give turn planned listed rival taskLoad asked demand multiple point holds earliest shortAt scanOf planCheckOf checkOf unharmonic laidOf buildOf placeOf answerableOf passAt verdictBy numsOf runOwner runLength repeats goodRun runsJudged fileTablesOf tableBy countsOf contentsOf readOf ticksOf digits decimal frameLine partitionLine passLine partLine taskLine pageOf tablesLines listingOf listOf openOf requestOf
+unfolding only fails first sum count smallest largest walk gathered roundUp wants countedIn withinLimits goodGranule tablesOf goodShare goodTimes owner owned least pairs frame allWanted sooner rank give turn planned listed rival taskLoad asked demand multiple point holds earliest shortAt scanOf planCheckOf checkOf unharmonic laidOf buildOf placeOf answerableOf passAt verdictBy numsOf runOwner runLength repeats goodRun runsJudged fileTablesOf tableBy countsOf contentsOf readOf ticksOf digits decimal frameLine partitionLine passLine partLine taskLine pageOf tablesLines listingOf listOf openOf requestOf
 worked = record {
   p1-wants = (refl, refl, refl);
   p1 = (_, (refl, refl), refl);

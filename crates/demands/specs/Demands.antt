@@ -14,11 +14,12 @@ use prog.Routine.{Routine}
 use prog.Wp.{Heap}
 use ghost.Atoms.{Atoms}
 use contract.Monad.{Fun}
-use Rattle.rules.specs.Limits.{longest}
+use Rattle.rules.specs.Limits.{longest, mostGranule}
 use Rattle.rules.specs.Table.{partitions, deadline}
+use Rattle.rules.specs.Terms.{granules, wanted}
 use Rattle.rules.specs.Refusals.{placed}
 use Rattle.rules.specs.declared.Told.{Told}
-use Rattle.tables.specs.Tables.{GoodTables}
+use Rattle.tables.specs.Tables.{withinLimits, GoodTables}
 use Rattle.output.specs.Theorems as output
 use Rattle.theory.specs.Plan.{Rule, own, held, HeldIs, LeastIs, Serves}
 use Rattle.theory.specs.Harmonic.{Harmonic, frame, allWanted}
@@ -42,6 +43,7 @@ use Rattle.desk.specs.Theorems as desk
 use Rattle.desk_lent.specs.Theorems as lent
 use Rattle.api.specs.Answers.{TellsCurve, TellsCheck, TellsBuild, TellsFill, TellsHeld, TellsMany, TellsChange, TellsVerdict, TellsPlain, TellsRead, TellsSection, TellsWrite, TellsList, TellsOpen, TellsRequest}
 use Rattle.demands.specs.Entries.{Entries}
+use Rattle.demands.specs.GranuleOne.{GranuleOne}
 
 -- a number is one of a list
 abbrev pub among : List ℕ → ℕ → Bool
@@ -59,15 +61,19 @@ Numbered ms = ToldAs (0 ∷ ms)
 abbrev pub Refused : Told → Type 0
 Refused t = ¬ (t .number ≡ 0)
 
+-- the counts and the frame are within their limits, and the granule is not
+abbrev pub BadGranule : ℕ → ℕ → List ℕ → List ℕ → Type 0
+BadGranule g frame ps ts = (withinLimits frame (length ps) (length ts) ≡ true) × ¬ ((1 ≤ g) × (g ≤ mostGranule))
+
 -- DEMAND 1: "Whatever bytes, tables or calls come in, each entry ends with an answer. Bad input is refused with document 01's number, and what was lent
 -- then holds what that document says." That each entry ends, for every input, is what the check of its contract proves; that none has a `requires`, specs/Entries.antt.
 pub record Demand1 : Type 0 where
-  -- "the builder 3, 6, 10, 11, 12"
-  pub build-numbers : (ps out o : List ℕ) (t : Told) → TellsBuild ps out o t → Numbered (3 ∷ 6 ∷ 10 ∷ 11 ∷ 12 ∷ []) t
+  -- "the builder 3, 6, 10, 11, 12" with "21, after 3"
+  pub build-numbers : (g : ℕ) (ps out o : List ℕ) (t : Told) → TellsBuild g ps out o t → Numbered (3 ∷ 21 ∷ 6 ∷ 10 ∷ 11 ∷ 12 ∷ []) t
   -- the curve is refused only for a list too short
   pub curve-numbers : (plan : List ℕ) (p n : ℕ) (list o : List ℕ) (t : Told) → TellsCurve plan p n list o t → Numbered (12 ∷ []) t
-  -- "the checker 3, 6, 8, 9"
-  pub check-numbers : (plan ps : List ℕ) (t : Told) → TellsCheck plan ps t → Numbered (3 ∷ 6 ∷ 8 ∷ 9 ∷ []) t
+  -- "the checker 3, 6, 8, 9" with "21, after 3"
+  pub check-numbers : (g : ℕ) (plan ps : List ℕ) (t : Told) → TellsCheck g plan ps t → Numbered (3 ∷ 21 ∷ 6 ∷ 8 ∷ 9 ∷ []) t
   -- document 02, ask 2: "a list too short is 12", after "the checker's 3, 6 and 8"
   pub fill-numbers : (plan ps list o : List ℕ) (t : Told) → TellsFill plan ps list o t → Numbered (3 ∷ 6 ∷ 8 ∷ 12 ∷ []) t
   -- and 20 and 26 behind it
@@ -76,9 +82,9 @@ pub record Demand1 : Type 0 where
   pub change-numbers :
       (plan ps list plan′ o : List ℕ) (tick owner : ℕ) (t : Told) → TellsChange plan ps list tick owner plan′ o t
       → Numbered (3 ∷ 6 ∷ 8 ∷ 12 ∷ 20 ∷ 26 ∷ []) t
-  -- "the verdict 3, 6, 7, 8, 9"
-  pub verdict-numbers : (plan ps ts : List ℕ) (place : ℕ) (t : Told) → TellsVerdict plan ps ts place t → Numbered (3 ∷ 6 ∷ 7 ∷ 8 ∷ 9 ∷ []) t
-  pub plain-numbers : (plan ps ts : List ℕ) (place : ℕ) (t : Told) → TellsPlain plan ps ts place t → Numbered (3 ∷ 6 ∷ 7 ∷ 8 ∷ 9 ∷ []) t
+  -- "the verdict 3, 6, 7, 8, 9" with "21, after 3"
+  pub verdict-numbers : (g : ℕ) (plan ps ts : List ℕ) (place : ℕ) (t : Told) → TellsVerdict g plan ps ts place t → Numbered (3 ∷ 21 ∷ 6 ∷ 7 ∷ 8 ∷ 9 ∷ []) t
+  pub plain-numbers : (g : ℕ) (plan ps ts : List ℕ) (place : ℕ) (t : Told) → TellsPlain g plan ps ts place t → Numbered (3 ∷ 21 ∷ 6 ∷ 7 ∷ 8 ∷ 9 ∷ []) t
   -- "the reader uses 1 to 8"
   pub read-numbers : (b : List ℕ) (t : Told) → TellsRead b t → Numbered (1 ∷ 2 ∷ 3 ∷ 4 ∷ 5 ∷ 6 ∷ 7 ∷ 8 ∷ []) t
   -- of a file that the reader refuses a section tells the reader's refusal, whatever part is asked for
@@ -95,8 +101,15 @@ pub record Demand1 : Type 0 where
   pub request-numbers :
       (k k′ : Desk) (l l′ : List Job) (time c d : ℕ) (t : Told) → TellsRequest k l time c d k′ l′ t
       → Numbered (13 ∷ 14 ∷ 15 ∷ 16 ∷ 17 ∷ 18 ∷ 19 ∷ []) t × ¬ (t .number ≡ 19)
-  -- "refusals 1 to 12 change no output byte"
-  pub build-refused : (ps out o : List ℕ) (t : Told) → TellsBuild ps out o t → Refused t → o ≡ out
+  -- document 02, ask 5: "g outside 1 to 16 is 21, after 3": exactly then, whatever the records and the plan
+  pub build-granule : (g : ℕ) (ps out o : List ℕ) (t : Told) → TellsBuild g ps out o t → (t .number ≡ 21) ↔ BadGranule g longest ps []
+  pub check-granule : (g : ℕ) (plan ps : List ℕ) (t : Told) → TellsCheck g plan ps t → (t .number ≡ 21) ↔ BadGranule g (length plan) ps []
+  pub verdict-granule :
+      (g : ℕ) (plan ps ts : List ℕ) (place : ℕ) (t : Told) → TellsVerdict g plan ps ts place t → (t .number ≡ 21) ↔ BadGranule g (length plan) ps ts
+  pub plain-granule :
+      (g : ℕ) (plan ps ts : List ℕ) (place : ℕ) (t : Told) → TellsPlain g plan ps ts place t → (t .number ≡ 21) ↔ BadGranule g (length plan) ps ts
+  -- "refusals 1 to 12 change no output byte", and 21 "changes no output byte"
+  pub build-refused : (g : ℕ) (ps out o : List ℕ) (t : Told) → TellsBuild g ps out o t → Refused t → o ≡ out
   pub write-refused : (f : ℕ) (ps ts rs out o : List ℕ) (t : Told) → TellsWrite f ps ts rs out o t → Refused t → o ≡ out
   pub curve-refused : (plan : List ℕ) (p n : ℕ) (list o : List ℕ) (t : Told) → TellsCurve plan p n list o t → Refused t → o ≡ list
   pub list-refused : (b out o : List ℕ) (t : Told) → TellsList b out o t → Refused t → o ≡ out
@@ -123,8 +136,8 @@ pub record Demand1 : Type 0 where
 pub record OneOutcome : Type 0 where
   pub curve-one :
       (plan : List ℕ) (p n : ℕ) (list o o′ : List ℕ) (t t′ : Told) → TellsCurve plan p n list o t → TellsCurve plan p n list o′ t′ → (t ≡ t′) × (o ≡ o′)
-  pub check-one : (plan ps : List ℕ) (t t′ : Told) → TellsCheck plan ps t → TellsCheck plan ps t′ → t ≡ t′
-  pub build-one : (ps out o o′ : List ℕ) (t t′ : Told) → TellsBuild ps out o t → TellsBuild ps out o′ t′ → (t ≡ t′) × (o ≡ o′)
+  pub check-one : (g : ℕ) (plan ps : List ℕ) (t t′ : Told) → TellsCheck g plan ps t → TellsCheck g plan ps t′ → t ≡ t′
+  pub build-one : (g : ℕ) (ps out o o′ : List ℕ) (t t′ : Told) → TellsBuild g ps out o t → TellsBuild g ps out o′ t′ → (t ≡ t′) × (o ≡ o′)
   pub fill-one :
       (plan ps list o o′ : List ℕ) (t t′ : Told) → TellsFill plan ps list o t → TellsFill plan ps list o′ t′ → (t ≡ t′) × (o ≡ o′)
   pub counts-held-one :
@@ -135,8 +148,8 @@ pub record OneOutcome : Type 0 where
   pub change-one :
       (plan ps list plan₁ plan₂ o₁ o₂ : List ℕ) (tick owner : ℕ) (t t′ : Told) → TellsChange plan ps list tick owner plan₁ o₁ t
       → TellsChange plan ps list tick owner plan₂ o₂ t′ → (t ≡ t′) × (plan₁ ≡ plan₂) × (o₁ ≡ o₂)
-  pub verdict-one : (plan ps ts : List ℕ) (place : ℕ) (t t′ : Told) → TellsVerdict plan ps ts place t → TellsVerdict plan ps ts place t′ → t ≡ t′
-  pub plain-one : (plan ps ts : List ℕ) (place : ℕ) (t t′ : Told) → TellsPlain plan ps ts place t → TellsPlain plan ps ts place t′ → t ≡ t′
+  pub verdict-one : (g : ℕ) (plan ps ts : List ℕ) (place : ℕ) (t t′ : Told) → TellsVerdict g plan ps ts place t → TellsVerdict g plan ps ts place t′ → t ≡ t′
+  pub plain-one : (g : ℕ) (plan ps ts : List ℕ) (place : ℕ) (t t′ : Told) → TellsPlain g plan ps ts place t → TellsPlain g plan ps ts place t′ → t ≡ t′
   pub read-one : (b : List ℕ) (t t′ : Told) → TellsRead b t → TellsRead b t′ → t ≡ t′
   pub section-one : (b : List ℕ) (which : ℕ) (t t′ : Told) → TellsSection b which t → TellsSection b which t′ → t ≡ t′
   pub write-one :
@@ -178,6 +191,8 @@ pub record Demand2 : Type 0 where
   pub of-planner : planner.Proved
   pub of-desk : desk.Proved
   pub of-lent-desk : lent.Proved
+  -- document 02, ask 5: "g = 1 gives today's answers"
+  pub granule-one : GranuleOne
   pub read-write : writer.ReadWrite
   pub write-read : writer.WriteRead
   -- each number of a curve is what `least` answers
@@ -194,7 +209,7 @@ pub record Demand2 : Type 0 where
       → (u ≡ placed 0 0) × (v ≡ placed 0 (held own (set plan tick owner) p n s))
   -- document 02, ask 4: "both give pass or fail alike for every plan and task table", and refuse alike; the tick is never above the point
   pub engines-alike :
-      (plan ps ts : List ℕ) (place : ℕ) (t u : Told) → TellsVerdict plan ps ts place t → TellsPlain plan ps ts place u
+      (g : ℕ) (plan ps ts : List ℕ) (place : ℕ) (t u : Told) → TellsVerdict g plan ps ts place t → TellsPlain g plan ps ts place u
       → ToldAlike t u
   pub open-afresh : (k k′ : Desk) (l l′ : List Job) (t : Told) → TellsOpen k l k′ l′ t → ¬ (t .number ≡ 13) → Afresh k′ l′
   pub request-afresh :
@@ -223,18 +238,18 @@ pub record Demand2 : Type 0 where
 
 -- over what the checker and an engine tell: accepted and passed, "every job of that task ends within D in every legal run, even if other tasks fail". A pass is
 -- told with its point or tick, which is 1 or more.
-abbrev pub EndsInTime : (List ℕ → List ℕ → List ℕ → ℕ → Told → Type 0) → Type 0
+abbrev pub EndsInTime : (ℕ → List ℕ → List ℕ → List ℕ → ℕ → Told → Type 0) → Type 0
 EndsInTime tells =
-    (plan ps ts : List ℕ) (place : ℕ) (t u : Told) → TellsCheck plan ps t → t .number ≡ 0
-    → tells plan ps ts place u → u .number ≡ 0 → 1 ≤ u .first
+    (g : ℕ) (plan ps ts : List ℕ) (place : ℕ) (t u : Told) → TellsCheck g plan ps t → t .number ≡ 0
+    → tells g plan ps ts place u → u .number ≡ 0 → 1 ≤ u .first
     → (N start : ℕ) (work : ℕ → ℕ → ℕ) (ran : ℕ → Ran) → LegalTo N own plan start ts work ran
     → (r : ℕ) → r + deadline ts (place - 1) ≤ N → done ran (place - 1) r (r + deadline ts (place - 1)) ≡ work (place - 1) r
 
 -- the same of runs without end
-abbrev pub EndsInTimeForEver : (List ℕ → List ℕ → List ℕ → ℕ → Told → Type 0) → Type 0
+abbrev pub EndsInTimeForEver : (ℕ → List ℕ → List ℕ → List ℕ → ℕ → Told → Type 0) → Type 0
 EndsInTimeForEver tells =
-    (plan ps ts : List ℕ) (place : ℕ) (t u : Told) → TellsCheck plan ps t → t .number ≡ 0
-    → tells plan ps ts place u → u .number ≡ 0 → 1 ≤ u .first
+    (g : ℕ) (plan ps ts : List ℕ) (place : ℕ) (t u : Told) → TellsCheck g plan ps t → t .number ≡ 0
+    → tells g plan ps ts place u → u .number ≡ 0 → 1 ≤ u .first
     → (start : ℕ) (work : ℕ → ℕ → ℕ) (ran : ℕ → Ran) → Legal own plan start ts work ran
     → (r : ℕ) → done ran (place - 1) r (r + deadline ts (place - 1)) ≡ work (place - 1) r
 
@@ -248,17 +263,17 @@ pub record Demand3 : Type 0 where
   pub plain-ends-in-time-for-ever : EndsInTimeForEver TellsPlain
   pub runs-exist : theory.LegalExists
   pub runs-unique : theory.LegalOne
-  -- what the builder leaves in the ticks of its frame, the checker accepts
+  -- what the builder leaves in the ticks of its frame, the checker accepts with the same granule
   pub built-serves :
-      (ps out o : List ℕ) (t u : Told) → TellsBuild ps out o t → t .number ≡ 0 → TellsCheck (take (t .first) o) ps u → u .number ≡ 0
+      (g : ℕ) (ps out o : List ℕ) (t u : Told) → TellsBuild g ps out o t → t .number ≡ 0 → TellsCheck g (take (t .first) o) ps u → u .number ≡ 0
   -- 11 exactly when the sum of q·H/m is above H
   pub want-exactly :
-      (ps out o : List ℕ) (t : Told) → TellsBuild ps out o t
-      → (t .number ≡ 11) ↔ (GoodTables longest ps [] × Harmonic ps × (frame ps < allWanted ps (frame ps)))
+      (g : ℕ) (ps out o : List ℕ) (t : Told) → TellsBuild g ps out o t
+      → (t .number ≡ 11) ↔ (GoodTables (granules g) longest ps [] × Harmonic ps × (frame ps < allWanted (wanted (granules g) ps) ps (frame ps)))
   -- "Then no plan of any frame serves the table", and the checker accepts none
-  pub want-none : (ps out o : List ℕ) (t : Told) → TellsBuild ps out o t → t .number ≡ 11 → (rule : Rule) (plan : List ℕ) → ¬ Serves rule plan ps
+  pub want-none : (g : ℕ) (ps out o : List ℕ) (t : Told) → TellsBuild g ps out o t → t .number ≡ 11 → (rule : Rule) (plan : List ℕ) → ¬ Serves rule (wanted (granules g) ps) plan ps
   pub want-checked :
-      (ps out o : List ℕ) (t : Told) → TellsBuild ps out o t → t .number ≡ 11 → (plan : List ℕ) (u : Told) → TellsCheck plan ps u → Refused u
+      (g : ℕ) (ps out o : List ℕ) (t : Told) → TellsBuild g ps out o t → t .number ≡ 11 → (plan : List ℕ) (u : Told) → TellsCheck g plan ps u → Refused u
 
 -- all of it
 pub record Demands : Type 2 where

@@ -1,10 +1,11 @@
 -- The worked examples of document 01, D6 and W1's last line as document 02 has them, and V1 and V2 by the plain engine too, under one statement: each is what its
--- entry tells and leaves. Assumes nothing.
+-- entry tells and leaves, with granule 1 where it takes one. Assumes nothing.
 use Prim.Native.Nat.{ℕ}
 use mathlib.Core.Path.{_≡_}
 use mathlib.Core.List.{List, [], _∷_, _++_}
 use lib.ListN.{replicate}
 use Rattle.rules.specs.Table.{WantsIs}
+use Rattle.rules.specs.Terms.{usual, wanted}
 use Rattle.rules.specs.Refusals.{placed, telling}
 use Rattle.output.specs.Text.{bytes}
 use Rattle.theory.specs.Plan.{LeastIs}
@@ -67,25 +68,25 @@ listing =
 
 pub record Document01 : Type 0 where
   -- "q = 1, 3, 1; plan 1 2 2 2 1 3 0 0"
-  pub p1-wants : WantsIs 4 1 4 1 × WantsIs 8 3 8 3 × WantsIs 8 1 100 1
-  pub p1 : TellsBuild (three 1 100) eight plan1 (placed 0 8)
-  pub p1-serves : TellsCheck plan1 (three 1 100) (placed 0 0)
+  pub p1-wants : WantsIs 1 4 1 4 1 × WantsIs 1 8 3 8 3 × WantsIs 1 8 1 100 1
+  pub p1 : TellsBuild 1 (three 1 100) eight plan1 (placed 0 8)
+  pub p1-serves : TellsCheck 1 plan1 (three 1 100) (placed 0 0)
   -- "Third share 3/8: plan 1 2 2 2 1 3 3 3, full."
-  pub p2 : TellsBuild (three 3 8) eight plan2 (placed 0 8)
+  pub p2 : TellsBuild 1 (three 3 8) eight plan2 (placed 0 8)
   -- "Third share 1/2: 2 + 3 + 4 = 9 > 8, refusal 11."
-  pub p3 : (allWanted (three 1 2) (frame (three 1 2)) ≡ 9) × TellsBuild (three 1 2) eight eight (placed 11 0)
+  pub p3 : (allWanted (wanted usual (three 1 2)) (three 1 2) (frame (three 1 2)) ≡ 9) × TellsBuild 1 (three 1 2) eight eight (placed 11 0)
   -- "Cycles 4 and 6: refusal 10."
-  pub p4 : TellsBuild (4 ∷ 1 ∷ 2 ∷ 6 ∷ 1 ∷ 2 ∷ []) eight eight (placed 10 0)
+  pub p4 : TellsBuild 1 (4 ∷ 1 ∷ 2 ∷ 6 ∷ 1 ∷ 2 ∷ []) eight eight (placed 10 0)
   -- "One partition, cycle 4, share 1/2, plan 1 1 0 0 0 0 1 1: refusal 9 at start 1, which holds 1 and wants 2."
-  pub p5 : TellsCheck plan5 (4 ∷ 1 ∷ 2 ∷ []) (telling 9 1 1 1 2)
+  pub p5 : TellsCheck 1 plan5 (4 ∷ 1 ∷ 2 ∷ []) (telling 9 1 1 1 2)
   -- "In P1, partition 2 has least(5) = 0, least(8) = 3, least(13) = 3, least(14) = 4."
   pub s1 : LeastIs plan1 2 5 0 × LeastIs plan1 2 8 3 × LeastIs plan1 2 13 3 × LeastIs plan1 2 14 4
   -- "first task .. passes at 8. Second .. with D 13 it fails (4 > 3), with D 14 it passes at 14."
-  pub v1 : TellsVerdict plan1 (three 1 100) (two 14) 1 (placed 0 8)
-  pub v2 : TellsVerdict plan1 (three 1 100) (two 13) 2 (placed 0 0) × TellsVerdict plan1 (three 1 100) (two 14) 2 (placed 0 14)
+  pub v1 : TellsVerdict 1 plan1 (three 1 100) (two 14) 1 (placed 0 8)
+  pub v2 : TellsVerdict 1 plan1 (three 1 100) (two 13) 2 (placed 0 0) × TellsVerdict 1 plan1 (three 1 100) (two 14) 2 (placed 0 14)
   -- by the plain engine: least(7) is 2, a tick before the first task's point
-  pub v1-plain : TellsPlain plan1 (three 1 100) (two 14) 1 (placed 0 7)
-  pub v2-plain : TellsPlain plan1 (three 1 100) (two 13) 2 (placed 0 0) × TellsPlain plan1 (three 1 100) (two 14) 2 (placed 0 14)
+  pub v1-plain : TellsPlain 1 plan1 (three 1 100) (two 14) 1 (placed 0 7)
+  pub v2-plain : TellsPlain 1 plan1 (three 1 100) (two 13) 2 (placed 0 0) × TellsPlain 1 plan1 (three 1 100) (two 14) 2 (placed 0 14)
   -- "Opened with (10, 3, 20), (15, 5, 24), (30, 2, 40), x is 6, 4, 8."
   pub d1 : TellsOpen (desk 77 3) lent (desk 0 3) opened (placed 0 0)
   -- "t 8, C 6, d 16: start 8. Starts become 8, 14, 17, 30, x 2, 2, 2, 8."

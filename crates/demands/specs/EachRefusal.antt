@@ -6,6 +6,8 @@ use lib.ListN.{take, drop, replicate}
 use Rattle.rules.specs.Refusals.{placed, questioned, telling}
 use Rattle.rules.specs.declared.Told.{Told}
 use Rattle.output.specs.Text.{bytes}
+use Rattle.share_line.specs.declared.What.the-variants.{EarlyGranule}
+use Rattle.share_line.specs.Expected.{expectedLine}
 use Rattle.share_plan.specs.Answer.{Plans}
 use Rattle.desk.specs.declared.Job.{Job}
 use Rattle.desk.specs.Table.{job, filled, flexes}
@@ -48,27 +50,46 @@ pub record EachPlan : Type 0 where
   -- ticks 3 and 0 stand together, across the frame's end
   pub curve-0 : TellsCurve (1 ∷ 2 ∷ 0 ∷ 1 ∷ []) 1 4 (take 6 eight) (0 ∷ 0 ∷ 0 ∷ 1 ∷ 2 ∷ drop 5 (take 6 eight)) (placed 0 5)
   pub curve-12 : TellsCurve (1 ∷ 2 ∷ 0 ∷ 1 ∷ []) 1 4 (take 4 eight) (take 4 eight) (placed 12 0)
-  pub check-3 : TellsCheck [] half (placed 3 0)
-  pub check-6 : TellsCheck plan5 (half ++ nothing) (placed 6 2)
-  pub check-8 : TellsCheck (1 ∷ 1 ∷ 0 ∷ 2 ∷ []) half (placed 8 4)
-  pub check-9 : TellsCheck plan1 (three 1 2) (telling 9 3 0 1 4)
-  pub build-3 : TellsBuild [] eight eight (placed 3 0)
-  pub build-6 : TellsBuild (half ++ nothing) eight eight (placed 6 2)
-  pub build-10 : TellsBuild (half ++ (10 ∷ 1 ∷ 2 ∷ [])) eight eight (placed 10 0)
-  pub build-11 : TellsBuild (1 ∷ 1 ∷ 1 ∷ 1 ∷ 1 ∷ 1 ∷ []) eight eight (placed 11 0)
-  pub build-12 : TellsBuild (three 1 100) (take 7 eight) (take 7 eight) (placed 12 0)
+  pub check-3 : TellsCheck 1 [] half (placed 3 0)
+  -- 21 after 3, before 6 and all others; 0 and 17 are the first outside
+  pub check-21 : TellsCheck 0 plan5 half (placed 21 0)
+  pub check-21-past : TellsCheck 17 plan1 (three 1 2) (placed 21 0)
+  pub check-21-first : TellsCheck 17 (1 ∷ 1 ∷ 0 ∷ 2 ∷ []) (half ++ nothing) (placed 21 0)
+  pub check-3-first : TellsCheck 17 [] half (placed 3 0)
+  pub check-6 : TellsCheck 1 plan5 (half ++ nothing) (placed 6 2)
+  pub check-8 : TellsCheck 1 (1 ∷ 1 ∷ 0 ∷ 2 ∷ []) half (placed 8 4)
+  pub check-9 : TellsCheck 1 plan1 (three 1 2) (telling 9 3 0 1 4)
+  -- P1's plan in granules of 2: partition 1 wants 2 of every 4 ticks now; and of 16: it wants more than its cycle has
+  pub check-9-granule : TellsCheck 2 plan1 (three 1 100) (telling 9 1 0 1 2)
+  pub check-9-past : TellsCheck 16 plan1 (three 1 100) (telling 9 1 0 1 16)
+  pub build-3 : TellsBuild 1 [] eight eight (placed 3 0)
+  pub build-21 : TellsBuild 0 half eight eight (placed 21 0)
+  pub build-21-past : TellsBuild 17 half eight eight (placed 21 0)
+  pub build-21-first : TellsBuild 17 (half ++ nothing) [] [] (placed 21 0)
+  pub build-3-first : TellsBuild 17 [] eight eight (placed 3 0)
+  -- "the smallest multiple of g": a quarter of 4 ticks in granules of 2, and one of 1 in granules of 2, which has no room
+  pub build-granule : TellsBuild 2 (4 ∷ 1 ∷ 4 ∷ []) eight (1 ∷ 1 ∷ 0 ∷ 0 ∷ drop 4 eight) (placed 0 4)
+  pub build-11-past : TellsBuild 2 (1 ∷ 1 ∷ 1 ∷ []) eight eight (placed 11 0)
+  pub build-6 : TellsBuild 1 (half ++ nothing) eight eight (placed 6 2)
+  pub build-10 : TellsBuild 1 (half ++ (10 ∷ 1 ∷ 2 ∷ [])) eight eight (placed 10 0)
+  pub build-11 : TellsBuild 1 (1 ∷ 1 ∷ 1 ∷ 1 ∷ 1 ∷ 1 ∷ []) eight eight (placed 11 0)
+  pub build-12 : TellsBuild 1 (three 1 100) (take 7 eight) (take 7 eight) (placed 12 0)
 
 -- the verdict's, by either engine: `tells` is what its entry tells
-pub record EachVerdict (tells : List ℕ → List ℕ → List ℕ → ℕ → Told → Type 0) : Type 0 where
-  pub verdict-3 : tells [] (three 1 100) (two 14) 1 (placed 3 0)
-  pub verdict-6 : tells plan1 (three 0 100) (two 14) 1 (placed 6 3)
-  pub verdict-7 : tells plan1 (three 1 100) (two 33) 1 (placed 7 2)
+pub record EachVerdict (tells : ℕ → List ℕ → List ℕ → List ℕ → ℕ → Told → Type 0) : Type 0 where
+  pub verdict-3 : tells 1 [] (three 1 100) (two 14) 1 (placed 3 0)
+  pub verdict-21 : tells 0 plan1 (three 1 100) (two 14) 1 (placed 21 0)
+  pub verdict-21-first : tells 17 (4 ∷ drop 1 plan1) (three 0 100) (two 33) 0 (placed 21 0)
+  pub verdict-3-first : tells 17 [] (three 1 100) (two 14) 1 (placed 3 0)
+  pub verdict-6 : tells 1 plan1 (three 0 100) (two 14) 1 (placed 6 3)
+  pub verdict-7 : tells 1 plan1 (three 1 100) (two 33) 1 (placed 7 2)
   -- a place outside the table comes after a bad record, and before 8
-  pub verdict-7-first : tells plan1 (three 1 100) (two 33) 3 (placed 7 2)
-  pub verdict-7-0 : tells plan1 (three 1 100) (two 14) 0 (placed 7 0)
-  pub verdict-7-past : tells (4 ∷ drop 1 plan1) (three 1 100) (two 14) 3 (placed 7 0)
-  pub verdict-8 : tells (4 ∷ drop 1 plan1) (three 1 100) (two 14) 1 (placed 8 1)
-  pub verdict-9 : tells plan1 (three 1 2) (two 14) 1 (telling 9 3 0 1 4)
+  pub verdict-7-first : tells 1 plan1 (three 1 100) (two 33) 3 (placed 7 2)
+  pub verdict-7-0 : tells 1 plan1 (three 1 100) (two 14) 0 (placed 7 0)
+  pub verdict-7-past : tells 1 (4 ∷ drop 1 plan1) (three 1 100) (two 14) 3 (placed 7 0)
+  pub verdict-8 : tells 1 (4 ∷ drop 1 plan1) (three 1 100) (two 14) 1 (placed 8 1)
+  pub verdict-9 : tells 1 plan1 (three 1 2) (two 14) 1 (telling 9 3 0 1 4)
+  pub verdict-9-granule : tells 2 plan1 (three 1 100) (two 14) 1 (telling 9 1 0 1 2)
 
 -- a plan of two partitions that doesn't serve them, its running counts with one number behind them, and the same with the last count off by one
 abbrev pub unserved : List ℕ
@@ -175,13 +196,25 @@ pub record EachFile : Type 0 where
   pub list-9 : TellsList unfair line (bytes "refused 9\n") (placed 0 10)
   pub list-12 : TellsList file (take 106 page) (take 106 page) (placed 12 0)
 
+-- an output as long as the line of a granule that comes too late
+abbrev pub late : List ℕ
+late = replicate 55 7
+
 -- the planner's, as the line that it writes
 pub record EachText : Type 0 where
   pub plan-3 : Plans [] line (bytes "refused 3\n") 10
+  pub plan-21 : Plans (bytes "granule 17\npartition 0 1/2") (7 ∷ line) (bytes "refused 21\n") 11
+  pub plan-3-first : Plans (bytes "granule 17") line (bytes "refused 3\n") 10
   pub plan-6 : Plans (bytes "partition 0 1/2") line (bytes "refused 6\n") 10
   pub plan-7 : Plans (bytes "partition 4 1/2\ntask 2 1 1 1") line (bytes "refused 7\n") 10
   pub plan-10 : Plans (bytes "partition 4 1/2\npartition 6 1/2") (7 ∷ line) (bytes "refused 10\n") 11
   pub plan-11 : Plans (bytes "partition 1 1/1\npartition 1 1/1") (7 ∷ line) (bytes "refused 11\n") 11
+  -- with granule 1 a tick of each of the two is enough, and 12 is next
+  pub plan-11-granule : Plans (bytes "granule 2\npartition 2 1/2\npartition 2 1/2") (7 ∷ line) (bytes "refused 11\n") 11
+  pub plan-11-none : Plans (bytes "granule 1\npartition 2 1/2\npartition 2 1/2") (7 ∷ line) (bytes "refused 12\n") 11
+  -- "once, before the partitions"
+  pub plan-late : Plans (bytes "partition 1 1/1\ngranule 2") late (expectedLine 2 EarlyGranule) 55
+  pub plan-twice : Plans (bytes "granule 2\ngranule 2") late (expectedLine 2 EarlyGranule) 55
   pub plan-12 : Plans (bytes "partition 1 1/1") (7 ∷ line) (bytes "refused 12\n") 11
 
 -- n jobs from start a on, one tick each, one behind the other
@@ -228,10 +261,13 @@ pub record EachLimit : Type 0 where
   pub runs-4096 : TellsRead (head-with 16 0) (placed 5 0)
   pub runs-4097 : TellsRead (head-with 16 1) (placed 3 0)
   -- "Cycle 1 to 4,096. Share num/den with 1 ≤ num ≤ den ≤ 1,000."
-  pub cycle-4096 : TellsBuild (4096 ∷ 1 ∷ 1 ∷ []) [] [] (placed 12 0)
-  pub cycle-4097 : TellsBuild (4097 ∷ 1 ∷ 1 ∷ []) [] [] (placed 6 1)
-  pub share-1000 : TellsBuild (4 ∷ 1 ∷ 1000 ∷ []) [] [] (placed 12 0)
-  pub share-1001 : TellsBuild (4 ∷ 1 ∷ 1001 ∷ []) [] [] (placed 6 1)
+  pub cycle-4096 : TellsBuild 1 (4096 ∷ 1 ∷ 1 ∷ []) [] [] (placed 12 0)
+  pub cycle-4097 : TellsBuild 1 (4097 ∷ 1 ∷ 1 ∷ []) [] [] (placed 6 1)
+  pub share-1000 : TellsBuild 1 (4 ∷ 1 ∷ 1000 ∷ []) [] [] (placed 12 0)
+  pub share-1001 : TellsBuild 1 (4 ∷ 1 ∷ 1001 ∷ []) [] [] (placed 6 1)
+  -- document 02, ask 5: "g from 1 to 16"
+  pub granule-16 : TellsBuild 16 (16 ∷ 1 ∷ 1000 ∷ []) [] [] (placed 12 0)
+  pub granule-17 : TellsBuild 17 (17 ∷ 1 ∷ 1000 ∷ []) [] [] (placed 21 0)
   -- "A task has 1 ≤ C ≤ D ≤ T ≤ 4,096"
   pub period-4096 : TellsWrite 4 parts (1 ∷ 1 ∷ 4 ∷ 4096 ∷ []) runs [] [] (placed 12 0)
   pub period-4097 : TellsWrite 4 parts (1 ∷ 1 ∷ 4 ∷ 4097 ∷ []) runs [] [] (placed 7 1)

@@ -1,0 +1,50 @@
+-- Document 02, ask 5: "g = 1 gives today's answers". With granule 1, and in each call that is given none, an entry's rule is document 01's own, for all
+-- tables: its numbers of ticks are whole ones, and no refusal stands between 3 and 6. Assumes nothing.
+use Prim.Native.Nat.{ℕ, _+_, _-_, _*_}
+use mathlib.Core.Path.{_≡_}
+use mathlib.Core.List.{List, []}
+use lib.ListN.{length}
+use Rattle.rules.specs.Limits.{longest}
+use Rattle.rules.specs.Walk.{pick, roundUp}
+use Rattle.rules.specs.Table.{cycle, num, den, wants, deadline}
+use Rattle.rules.specs.Terms.{usual, wanted}
+use Rattle.rules.specs.declared.Refusal.the-variants.{Limits}
+use Rattle.rules.specs.declared.Finding.{Finding}
+use Rattle.rules.specs.declared.Finding.the-variants as found
+use Rattle.rules.specs.declared.Filling.the-variants as filling
+use Rattle.tables.specs.Tables.{withinLimits, unless, recordsJudged, tablesOf}
+use Rattle.theory.specs.Plan.{own, least}
+use Rattle.theory.specs.Harmonic.{harmonicPlan}
+use Rattle.plan_check.specs.Check.{planCheckOf, checkOf}
+use Rattle.plan_build.specs.Build.{laidOf, buildOf}
+use Rattle.task_verdict.specs.declared.Judged.the-variants as judged
+use Rattle.task_verdict.specs.Verdict.{placeOf, passAt, verdictBy}
+use Rattle.file_lines.specs.Lines.{partitionLine}
+use Rattle.file_page.specs.Page.{partLine}
+
+-- "A partition with cycle m wants q = num·m/den, rounded up to a whole number."
+abbrev pub wholeTicks : List ℕ → ℕ → ℕ
+wholeTicks ps k = roundUp (num ps k * cycle ps k) (den ps k)
+
+-- "lowest number first, then lowest place": 3, 6, 7
+abbrev pub tables01 : ℕ → List ℕ → List ℕ → Finding
+tables01 frame ps ts = pick (withinLimits frame (length ps) (length ts)) (recordsJudged frame ps ts) (found.Refused Limits)
+
+pub record GranuleOne : Type 0 where
+  pub of-wants : (m n d : ℕ) → wants 1 m n d ≡ roundUp (n * m) d
+  -- of reader, writer, counts and listing too
+  pub of-tables : (frame : ℕ) (ps ts : List ℕ) → tablesOf usual frame ps ts ≡ tables01 frame ps ts
+  -- "the checker 3, 6, 8, 9"
+  pub of-check : (plan ps : List ℕ) → checkOf usual plan ps ≡ unless found.Refused (tables01 (length plan) ps []) (planCheckOf (wholeTicks ps) plan ps)
+  -- "the builder 3, 6, 10, 11, 12", and the plan that it writes
+  pub of-build : (ps : List ℕ) (room : ℕ) → buildOf usual ps room ≡ unless filling.Refused (tables01 longest ps []) (laidOf (wholeTicks ps) ps room)
+  pub of-plan : (ps : List ℕ) → harmonicPlan (wanted usual ps) ps ≡ harmonicPlan (wholeTicks ps) ps
+  -- "the verdict 3, 6, 7, 8, 9", by either engine
+  pub of-verdicts :
+      (engine : List ℕ → List ℕ → ℕ → ℕ) (plan ps ts : List ℕ) (place : ℕ)
+      → verdictBy engine usual plan ps ts place
+      ≡ unless judged.Refused (unless found.Refused (tables01 (length plan) ps ts) (placeOf (wholeTicks ps) plan ps ts place))
+      (passAt (deadline ts (place - 1)) (engine plan ts (place - 1)))
+  -- "partition 1 wants 2 in 4 least 2"
+  pub of-lines :
+      (plan ps : List ℕ) (k : ℕ) → partLine plan ps k ≡ partitionLine (k + 1) (wholeTicks ps k) (cycle ps k) (least own plan (k + 1) (cycle ps k))
