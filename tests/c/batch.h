@@ -2,7 +2,7 @@
    ends, and go out again on standard output with the answers put in. A batch is a number of bytes and then so many
    bytes, which are calls one behind the other. All numbers of a call are of 8 bytes, low byte first:
 
-     the entry, three plain numbers, five places for the answer, how many slices are lent, and for each slice
+     the entry, four plain numbers, five places for the answer, how many slices are lent, and for each slice
      how many elements are lent, how wide one is, how many bytes stand there, and the bytes, filled up to 8.
 
    A call works right in the batch. So what comes back shows also what it did to all that was lent, and to the bytes
@@ -37,7 +37,7 @@ enum {
     PLAN,
     ENTRIES
 };
-enum { MOST_SLICES = 5 };
+enum { PLAIN_NUMBERS = 4, MOST_SLICES = 5 };
 
 /* How wide the elements of each entry's slices are; 0 where it lends no more. */
 static const size_t widths[ENTRIES][MOST_SLICES + 1] = {
@@ -106,7 +106,7 @@ static slice take_slice(rest *batch, size_t width)
 static void answer_next(rest *batch)
 {
     const size_t entry = *take(batch, 1);
-    const size_t *given = take(batch, 3);
+    const size_t *given = take(batch, PLAIN_NUMBERS);
     size_t *place = take(batch, 5);
     const size_t slices = *take(batch, 1);
     if (entry >= ENTRIES)

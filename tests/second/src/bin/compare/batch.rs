@@ -30,9 +30,12 @@ pub enum Entry {
     Plan,
 }
 
+/// So many plain numbers stand in each call; those that it isn't given are 0.
+const PLAIN_NUMBERS: usize = 4;
+
 /// The numbers of a call: entry, given, answer, and how many slices.
 pub const GIVEN: usize = 8;
-pub const ANSWER: usize = GIVEN + 3 * 8;
+pub const ANSWER: usize = GIVEN + PLAIN_NUMBERS * 8;
 pub const SLICES: usize = ANSWER + 5 * 8;
 pub const HEAD: usize = SLICES + 8;
 
@@ -123,11 +126,13 @@ impl Batch {
     }
 
     /// Writes down a call that lends nothing yet.
-    pub fn call(&mut self, entry: Entry, given: [u64; 3], answer: Answer) -> Call<'_> {
+    pub fn call(&mut self, entry: Entry, given: &[u64], answer: Answer) -> Call<'_> {
+        let mut numbers = [0; PLAIN_NUMBERS];
+        numbers[..given.len()].copy_from_slice(given);
         self.starts.push(self.asked.len());
         for (bytes, answer) in [(&mut self.asked, UNANSWERED), (&mut self.expected, answer)] {
             put_number(entry as u64, bytes);
-            let rest = given.into_iter().chain(answer.numbers());
+            let rest = numbers.into_iter().chain(answer.numbers());
             rest.for_each(|number| put_number(number, bytes));
             put_number(0, bytes);
         }

@@ -30,7 +30,7 @@ fn compare(trial: &mut Trial, parts: &[u16], out_ticks: usize) -> (Answer, Vec<u
     let before = vec![PATTERN; out_ticks + BEHIND];
     let mut after = before.clone();
     let answer = builder::build(parts, &mut after[..out_ticks]);
-    let call = trial.call(Entry::Build, [0; 3], answer);
+    let call = trial.call(Entry::Build, &[], answer);
     call.reads(parts).writes(out_ticks, &before, &after);
     (answer, after)
 }

@@ -46,7 +46,7 @@ fn compare(trial: &mut Trial, plan: &[u16], p: u16, n: u32, numbers: usize) -> (
     let mut after = before.clone();
     let answer = curve::curve(plan, p, n, &mut after[..numbers]);
     let ticks = [plan, &[p; BEHIND]].concat();
-    let call = trial.call(Entry::Curve, [p.into(), n.into(), 0], answer);
+    let call = trial.call(Entry::Curve, &[p.into(), n.into()], answer);
     let call = call.writes(plan.len(), &ticks, &ticks);
     call.writes(numbers, &before, &after);
     (answer, after)
@@ -261,7 +261,7 @@ fn least_beside_it(trial: &mut Trial) {
         let n = some_n(&mut trial.rng, ticks);
         for (t, number) in (0..).zip(compare_exact(trial, &plan, p, n)) {
             let least = Answer::good([number.into(), 0, 0, 0]);
-            let call = trial.call(Entry::Least, [p.into(), t, 0], least);
+            let call = trial.call(Entry::Least, &[p.into(), t], least);
             call.reads(&plan);
         }
     }

@@ -61,7 +61,7 @@ impl Lent {
 fn open(trial: &mut Trial, lent: &mut Lent) -> Answer {
     let before = lent.clone();
     let answer = desk::open(&mut lent.desk, &mut lent.jobs[..before.places]);
-    let call = trial.call(Entry::Open, [0; 3], answer);
+    let call = trial.call(Entry::Open, &[], answer);
     lend_all(call, &before, lent);
     answer
 }
@@ -70,7 +70,7 @@ fn request(trial: &mut Trial, lent: &mut Lent, request: Request) -> Answer {
     let before = lent.clone();
     let Request { t, c, d } = request;
     let answer = desk::request(&mut lent.desk, &mut lent.jobs[..before.places], t, c, d);
-    let call = trial.call(Entry::Request, [t, c, d].map(u64::from), answer);
+    let call = trial.call(Entry::Request, &[t, c, d].map(u64::from), answer);
     lend_all(call, &before, lent);
     answer
 }

@@ -42,13 +42,13 @@ fn compare_read(trial: &mut Trial, bytes: &[u8]) -> u64 {
 
 fn read(trial: &mut Trial, bytes: &[u8]) -> Answer {
     let answer = file::read(bytes);
-    trial.call(Entry::Read, [0; 3], answer).reads(bytes);
+    trial.call(Entry::Read, &[], answer).reads(bytes);
     answer
 }
 
 fn section(trial: &mut Trial, bytes: &[u8], which: u64) -> Answer {
     let answer = file::section(bytes, which);
-    let call = trial.call(Entry::Section, [which, 0, 0], answer);
+    let call = trial.call(Entry::Section, &[which], answer);
     call.reads(bytes);
     answer
 }
@@ -64,7 +64,7 @@ fn compare_write(trial: &mut Trial, tables: &Tables, out_bytes: usize) -> (Answe
     let before = vec![PATTERN; out_bytes + BEHIND];
     let mut after = before.clone();
     let answer = file::write(*frame, parts, tasks, runs, &mut after[..out_bytes]);
-    let call = trial.call(Entry::Write, [*frame, 0, 0], answer);
+    let call = trial.call(Entry::Write, &[*frame], answer);
     let call = call.reads(parts).reads(tasks).reads(runs);
     call.writes(out_bytes, &before, &after);
     after.truncate(out_bytes);

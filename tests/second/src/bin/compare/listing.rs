@@ -29,7 +29,7 @@ fn compare_into(trial: &mut Trial, file: &[u8], out_bytes: usize) {
     let before = vec![PATTERN; out_bytes + BEHIND];
     let mut after = before.clone();
     let answer = listing::list(file, &mut after[..out_bytes]);
-    let call = trial.call(Entry::List, [0; 3], answer);
+    let call = trial.call(Entry::List, &[], answer);
     call.reads(file).writes(out_bytes, &before, &after);
 }
 

@@ -38,7 +38,7 @@ fn compare_in_pieces(trial: &mut Trial, text: &[u8], read: u64, written: u64) ->
     let before = vec![PATTERN; wanted.len() + BEHIND];
     let after = [&wanted[..], &[PATTERN; BEHIND]].concat();
     let answer = Answer::good([wanted.len() as u64, 0, 0, 0]);
-    let call = trial.call(Entry::Plan, [read, written, 0], answer);
+    let call = trial.call(Entry::Plan, &[read, written], answer);
     call.reads(text).writes(before.len(), &before, &after);
     wanted
 }

@@ -22,19 +22,19 @@ pub const TRIALS: &[Named] = &[
 fn compare_held(trial: &mut Trial, plan: &[u16], p: u16, s: u32, n: u32) {
     let held = Answer::good([plan::held(plan, p, s, n), 0, 0, 0]);
     let given = [p.into(), s.into(), n.into()];
-    trial.call(Entry::Held, given, held).reads(plan);
+    trial.call(Entry::Held, &given, held).reads(plan);
 }
 
 fn compare_least(trial: &mut Trial, plan: &[u16], p: u16, t: u32) {
     let least = Answer::good([plan::least(plan, p, t), 0, 0, 0]);
-    let given = [p.into(), t.into(), 0];
-    trial.call(Entry::Least, given, least).reads(plan);
+    let given = [p.into(), t.into()];
+    trial.call(Entry::Least, &given, least).reads(plan);
 }
 
 /// Whether the plan is accepted.
 fn compare_check(trial: &mut Trial, plan: &[u16], parts: &[u16]) -> bool {
     let answer = plan::check(plan, parts);
-    let call = trial.call(Entry::Check, [0; 3], answer);
+    let call = trial.call(Entry::Check, &[], answer);
     call.reads(plan).reads(parts);
     answer.number == 0
 }

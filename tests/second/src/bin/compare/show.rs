@@ -198,9 +198,9 @@ mod tests {
     /// Two calls, of which the second comes back with another number at a place.
     fn shown(changed: usize) -> String {
         let mut batch = Batch::new();
-        batch.call(Entry::Wants, [1, 1, 1], Answer::good([1, 0, 0, 0]));
+        batch.call(Entry::Wants, &[1, 1, 1], Answer::good([1, 0, 0, 0]));
         let start = batch.asked.len();
-        let call = batch.call(Entry::Build, [0; 3], Answer::good([2, 0, 0, 0]));
+        let call = batch.call(Entry::Build, &[], Answer::good([2, 0, 0, 0]));
         let [before, after] = [[7; 9], [1, 1, 7, 7, 7, 7, 7, 7, 7]];
         call.reads::<u16>(&[2, 1, 1])
             .writes::<u16>(3, &before, &after);
@@ -220,7 +220,7 @@ mod tests {
         let input = "input build\n  parts [2, 1, 1]\n  out [7, 7, 7], behind it [7 x 6]";
         let library = format!("\nlibrary number 0, values [3, 0, 0, 0]{lent}");
         let second = format!("\nsecond number 0, values [2, 0, 0, 0]{lent}");
-        assert_eq!(shown(40), [input, &library, &second].concat());
+        assert_eq!(shown(48), [input, &library, &second].concat());
     }
 
     #[test]
@@ -234,9 +234,9 @@ mod tests {
 
     #[test]
     fn memory_that_differs() {
-        assert!(shown(104).ends_with("\nfirst difference: parts, element 0"));
-        assert!(shown(110)
-            .ends_with("\nfirst difference: outside of all that was lent, byte 110 of the call"));
-        assert!(shown(144).ends_with("\nfirst difference: out, element 4"));
+        assert!(shown(112).ends_with("\nfirst difference: parts, element 0"));
+        assert!(shown(118)
+            .ends_with("\nfirst difference: outside of all that was lent, byte 118 of the call"));
+        assert!(shown(152).ends_with("\nfirst difference: out, element 4"));
     }
 }

@@ -82,7 +82,7 @@ impl Trial {
     }
 
     /// A call, with the answer that the second program gave. What is lent is to be added.
-    pub fn call(&mut self, entry: Entry, given: [u64; 3], answer: Answer) -> Call<'_> {
+    pub fn call(&mut self, entry: Entry, given: &[u64], answer: Answer) -> Call<'_> {
         if self.batch.calls() >= self.most_calls || self.batch.asked.len() >= MANY_BYTES {
             self.send();
         }

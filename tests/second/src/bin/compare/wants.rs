@@ -36,7 +36,7 @@ fn compare(trial: &mut Trial, m: u16, num: u16, den: u16) {
         trial.same((m, num, den), shares::wants(m, num, den), q);
     }
     let given = [m, num, den].map(u64::from);
-    trial.call(Entry::Wants, given, Answer::good([q, 0, 0, 0]));
+    trial.call(Entry::Wants, &given, Answer::good([q, 0, 0, 0]));
 }
 
 fn all_small(trial: &mut Trial) {

@@ -83,7 +83,7 @@ pub fn ask(trial: &mut Trial, lent: &mut Lent, asked: &Ask) -> Answer {
 fn fill(trial: &mut Trial, lent: &mut Lent) -> Answer {
     let before = lent.clone();
     let answer = counts::fill(&lent.plan, &lent.parts, &mut lent.list);
-    lend_all(trial.call(Entry::CountsFill, [0; 3], answer), &before, lent);
+    lend_all(trial.call(Entry::CountsFill, &[], answer), &before, lent);
     answer
 }
 
@@ -95,7 +95,7 @@ pub fn held(trial: &mut Trial, lent: &Lent, question: Question) -> Answer {
     } = question;
     let answer = counts::held(&lent.plan, &lent.parts, &lent.list, question);
     let given = [partition, start, length].map(|number| number as u64);
-    lend_all(trial.call(Entry::CountsHeld, given, answer), lent, lent);
+    lend_all(trial.call(Entry::CountsHeld, &given, answer), lent, lent);
     answer
 }
 
@@ -104,7 +104,7 @@ pub fn held_many(trial: &mut Trial, lent: &Lent, questions: &[u16], answers: usi
     let mut after = before.clone();
     let Lent { plan, parts, list } = lent;
     let answer = counts::held_many(plan, parts, list, questions, &mut after);
-    let call = trial.call(Entry::CountsHeldMany, [0; 3], answer);
+    let call = trial.call(Entry::CountsHeldMany, &[], answer);
     let call = lend(lend_all(call, lent, lent), questions, questions);
     lend(call, &before, &after);
     answer
@@ -114,9 +114,9 @@ pub fn change(trial: &mut Trial, lent: &mut Lent, tick: usize, owner: usize) -> 
     let before = lent.clone();
     let Lent { plan, parts, list } = lent;
     let answer = counts::change(plan, parts, list, tick, owner);
-    let given = [tick as u64, owner as u64, 0];
+    let given = [tick as u64, owner as u64];
     lend_all(
-        trial.call(Entry::CountsChange, given, answer),
+        trial.call(Entry::CountsChange, &given, answer),
         &before,
         lent,
     );

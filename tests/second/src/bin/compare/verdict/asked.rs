@@ -63,7 +63,7 @@ pub fn ask(trial: &mut Trial, engine: Engine, input: &Input, place: usize) -> An
     let (entry, judged) = engine;
     let Input { plan, parts, tasks } = input;
     let answer = judged(plan, parts, tasks, place);
-    let call = trial.call(entry, [place as u64, 0, 0], answer);
+    let call = trial.call(entry, &[place as u64], answer);
     call.reads(plan).reads(parts).reads(tasks);
     answer
 }
