@@ -6,17 +6,17 @@ static merkazobi_answer only(size_t number)
     return (merkazobi_answer){.first = number};
 }
 
-/* A plan, or the task at a place by one of the two engines. */
-static merkazobi_answer judged(size_t entry, size_t place, const slice *of)
+/* A plan, or the task at a place by one of the two engines; granule and place are handed on in their whole width. */
+static merkazobi_answer judged(size_t entry, size_t granule, size_t place, const slice *of)
 {
     const slice plan = of[0], parts = of[1], tasks = of[2];
     switch (entry) {
     case CHECK:
-        return merkazobi_check(plan.at, plan.lent, parts.at, parts.lent);
+        return merkazobi_check(granule, plan.at, plan.lent, parts.at, parts.lent);
     case VERDICT:
-        return merkazobi_verdict(plan.at, plan.lent, parts.at, parts.lent, tasks.at, tasks.lent, place);
+        return merkazobi_verdict(granule, plan.at, plan.lent, parts.at, parts.lent, tasks.at, tasks.lent, place);
     default:
-        return merkazobi_plain(plan.at, plan.lent, parts.at, parts.lent, tasks.at, tasks.lent, place);
+        return merkazobi_plain(granule, plan.at, plan.lent, parts.at, parts.lent, tasks.at, tasks.lent, place);
     }
 }
 
@@ -41,10 +41,10 @@ static merkazobi_answer counts(size_t entry, const size_t *given, const slice *o
 
 static merkazobi_answer answer(size_t entry, const size_t *given, const slice *of)
 {
-    const size_t one = given[0], two = given[1], three = given[2];
+    const size_t one = given[0], two = given[1], three = given[2], four = given[3];
     switch (entry) {
     case WANTS:
-        return only(merkazobi_wants((uint16_t)one, (uint16_t)two, (uint16_t)three));
+        return only(merkazobi_wants(one, (uint16_t)two, (uint16_t)three, (uint16_t)four));
     case HELD:
         return only(merkazobi_held(of[0].at, of[0].lent, (uint16_t)one, (uint32_t)two, (uint32_t)three));
     case LEAST:
@@ -52,11 +52,11 @@ static merkazobi_answer answer(size_t entry, const size_t *given, const slice *o
     case CURVE:
         return merkazobi_curve(of[0].at, of[0].lent, (uint16_t)one, (uint32_t)two, of[1].at, of[1].lent);
     case BUILD:
-        return merkazobi_build(of[0].at, of[0].lent, of[1].at, of[1].lent);
+        return merkazobi_build(one, of[0].at, of[0].lent, of[1].at, of[1].lent);
     case CHECK:
     case VERDICT:
     case PLAIN:
-        return judged(entry, one, of);
+        return judged(entry, one, two, of);
     case COUNTS_FILL:
     case COUNTS_HELD:
     case COUNTS_HELD_MANY:

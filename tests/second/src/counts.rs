@@ -17,9 +17,14 @@ pub fn fill(plan: &[u16], parts: &[u16], list: &mut [u16]) -> Answer {
 }
 
 fn filled(plan: &[u16], parts: &[u16], lent: usize) -> Result<Vec<u16>, Answer> {
-    let counts = list_of(plan, plan::by_the_rules(plan, parts)?.len());
+    let counts = list_of(plan, partitions(plan, parts)?);
     long_enough(lent, counts.len())?;
     Ok(counts)
+}
+
+/// How many partitions there are. Counts take no granule.
+fn partitions(plan: &[u16], parts: &[u16]) -> Result<usize, Answer> {
+    Ok(plan::by_the_rules(1, plan, parts)?.len())
 }
 
 /// One stretch: 3, 6, 8, 8 with place 0, 12, 20, 26.
@@ -62,7 +67,7 @@ fn answered(
     questions: &[Question],
     answers: usize,
 ) -> Result<Vec<u64>, Answer> {
-    let partitions = plan::by_the_rules(plan, parts)?.len();
+    let partitions = partitions(plan, parts)?;
     let named = |one: &Question| 1 <= one.partition && one.partition <= partitions;
     each_question(questions, 8, named)?;
     let counts = list_of(plan, partitions);
@@ -101,7 +106,7 @@ fn changed(
     tick: usize,
     owner: usize,
 ) -> Result<usize, Answer> {
-    let partitions = plan::by_the_rules(plan, parts)?.len();
+    let partitions = partitions(plan, parts)?;
     if owner > partitions {
         return Err(Answer::refused_at(8, 0));
     }
@@ -204,7 +209,7 @@ mod tests {
     #[test]
     fn filled_by_hand() {
         let mut list = [77; 14];
-        assert_eq!(plan::check(&PLAN, &TABLE).number, 9);
+        assert_eq!(plan::check(1, &PLAN, &TABLE).number, 9);
         assert_eq!(fill(&PLAN, &TABLE, &mut list), good(12));
         assert_eq!((&list[..12], &list[12..]), (&LIST[..], &[77, 77][..]));
         let mut short = [77; 11];

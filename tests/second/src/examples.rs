@@ -1,7 +1,8 @@
 //! The worked examples of document 01, with W1's listing as ask 4 of document 02 has it, and what
-//! its plain engine says.
+//! its plain engine says; with granules of one tick and of more.
 
 mod desk;
+mod granules;
 
 use crate::answer::Answer;
 use crate::builder::build;
@@ -25,7 +26,7 @@ fn built(third: [u16; 2]) -> (Answer, Vec<u16>) {
     let mut parts = P1_TABLE;
     parts[7..].copy_from_slice(&third);
     let mut out = vec![77; 9];
-    let answer = build(&parts, &mut out);
+    let answer = build(1, &parts, &mut out);
     (answer, out)
 }
 
@@ -35,19 +36,19 @@ fn p1_p2_p3() {
     assert_eq!(built([1, 100]), (good, [&P1_PLAN[..], &[77]].concat()));
     assert_eq!(built([3, 8]), (good, vec![1, 2, 2, 2, 1, 3, 3, 3, 77]));
     assert_eq!(built([1, 2]), (Answer::refused(11), vec![77; 9]));
-    assert_eq!(check(&P1_PLAN, &P1_TABLE), Answer::good([0; 4]));
+    assert_eq!(check(1, &P1_PLAN, &P1_TABLE), Answer::good([0; 4]));
 }
 
 #[test]
 fn p4() {
     let mut out = [77; 6];
-    let answer = build(&[4, 1, 1, 6, 1, 1], &mut out);
+    let answer = build(1, &[4, 1, 1, 6, 1, 1], &mut out);
     assert_eq!((answer, out), (Answer::refused(10), [77; 6]));
 }
 
 #[test]
 fn p5() {
-    let answer = check(&[1, 1, 0, 0, 0, 0, 1, 1], &[4, 1, 2]);
+    let answer = check(1, &[1, 1, 0, 0, 0, 0, 1, 1], &[4, 1, 2]);
     assert_eq!(answer, Answer::new(9, [1, 1, 1, 2]));
 }
 
@@ -61,7 +62,7 @@ fn s1() {
 fn v1_v2() {
     let judged = |deadline, place| {
         let tasks = [2, 2, 8, 16, 2, 2, deadline, 32];
-        verdict(&P1_PLAN, &P1_TABLE, &tasks, place)
+        verdict(1, &P1_PLAN, &P1_TABLE, &tasks, place)
     };
     assert_eq!(judged(13, 1), Answer::good([8, 0, 0, 0]));
     assert_eq!(judged(13, 2), Answer::good([0, 0, 0, 0]));
@@ -74,7 +75,7 @@ fn v1_v2() {
 fn both(plan: &[u16], parts: &[u16], tasks: &[[u16; 4]]) -> [u64; 2] {
     let place = tasks.len();
     [verdict, plain].map(|engine| {
-        let answer = engine(plan, parts, &tasks.concat(), place);
+        let answer = engine(1, plan, parts, &tasks.concat(), place);
         assert_eq!(answer, Answer::good([answer.first, 0, 0, 0]));
         answer.first
     })
@@ -121,7 +122,7 @@ fn plain_in_one_tick() {
 #[test]
 fn both_engines_refuse_alike() {
     let refused = |plan: &[u16], cycle: u16, tasks: &[u16], place: usize| {
-        let answers = [verdict, plain].map(|engine| engine(plan, &[cycle, 1, 2], tasks, place));
+        let answers = [verdict, plain].map(|engine| engine(1, plan, &[cycle, 1, 2], tasks, place));
         assert_eq!(answers[0], answers[1]);
         answers[0]
     };

@@ -1,4 +1,4 @@
-//! The rules of document 01 once more, with asks 1, 2 and 4 of document 02, the curve of least
+//! The rules of document 01 once more, with asks 1, 2, 4 and 5 of document 02, the curve of least
 //! service and the share table, by plain counting and trying, to compare the library and the
 //! planner against.
 

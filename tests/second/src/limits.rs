@@ -8,6 +8,9 @@ pub const CYCLE: usize = 4096;
 pub const SHARE: u16 = 1000;
 pub const PERIOD: u64 = 4096;
 
+/// "g from 1 to 16" (ask 5 of document 02).
+pub const GRANULE: u64 = 16;
+
 /// "Desk: 64 jobs; times and budgets up to 1,000,000."
 pub const JOBS: usize = 64;
 pub const TIME: i64 = 1_000_000;

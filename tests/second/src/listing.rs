@@ -1,4 +1,4 @@
-//! The listing of a plan file.
+//! The listing of a plan file. "the listing program keeps g = 1".
 
 use crate::answer::Answer;
 use crate::{file, plan, ticks, verdict};
@@ -24,11 +24,11 @@ pub fn text(bytes: &[u8]) -> String {
 fn listed(bytes: &[u8]) -> Result<String, Answer> {
     let file = file::parse(bytes)?;
     let plan = ticks::of_runs(&file.runs);
-    plan::serves(&plan, &file.partitions)?;
+    plan::serves(1, &plan, &file.partitions)?;
     let mut text = format!("frame {}\n", file.frame);
     for (index, partition) in file.partitions.iter().enumerate() {
         let p = index + 1;
-        let (wants, m) = (partition.wants(), partition.cycle);
+        let (wants, m) = (partition.wants(1), partition.cycle);
         let least = plan::least(&plan, p as u16, u32::from(m));
         text += &format!("partition {p} wants {wants} in {m} least {least}\n");
     }

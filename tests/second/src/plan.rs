@@ -56,23 +56,28 @@ pub fn least_up_to(plan: &[u16], p: u16, longest: usize) -> Vec<u64> {
     least
 }
 
-/// The checker: 3, 6, 8, 9.
-pub fn check(plan: &[u16], parts: &[u16]) -> Answer {
-    match checked(plan, parts) {
+/// The checker: 3, 21, 6, 8, 9.
+pub fn check(granule: u64, plan: &[u16], parts: &[u16]) -> Answer {
+    match checked(granule, plan, parts) {
         Ok(()) => Answer::good([0; 4]),
         Err(refusal) => refusal,
     }
 }
 
-fn checked(plan: &[u16], parts: &[u16]) -> Result<(), Answer> {
-    let partitions = by_the_rules(plan, parts)?;
-    serves(plan, &partitions)
+fn checked(granule: u64, plan: &[u16], parts: &[u16]) -> Result<(), Answer> {
+    let partitions = by_the_rules(granule, plan, parts)?;
+    serves(granule, plan, &partitions)
 }
 
-/// The partitions of a plan that comes in, whether it serves or not: 3, 6, 8.
-pub(crate) fn by_the_rules(plan: &[u16], parts: &[u16]) -> Result<Vec<Partition>, Answer> {
+/// The partitions of a plan that comes in, whether it serves or not: 3, 21, 6, 8.
+pub(crate) fn by_the_rules(
+    granule: u64,
+    plan: &[u16],
+    parts: &[u16],
+) -> Result<Vec<Partition>, Answer> {
     let partitions = records::partitions(parts)?;
     records::frame(plan.len() as u64)?;
+    records::granule(granule)?;
     records::partition_rules(&partitions, plan.len())?;
     records::tick_rules(plan, partitions.len())?;
     Ok(partitions)
@@ -80,11 +85,11 @@ pub(crate) fn by_the_rules(plan: &[u16], parts: &[u16]) -> Result<Vec<Partition>
 
 /// "every stretch of m consecutive ticks of the repeated plan, from any start and across the
 /// frame's end too, holds at least q ticks of that partition". "For 9: lowest partition, then
-/// lowest start".
-pub fn serves(plan: &[u16], partitions: &[Partition]) -> Result<(), Answer> {
+/// lowest start". Where q is more than m, start 0 falls short already.
+pub fn serves(granule: u64, plan: &[u16], partitions: &[Partition]) -> Result<(), Answer> {
     for (index, partition) in partitions.iter().enumerate() {
         let p = index + 1;
-        let wanted = partition.wants();
+        let wanted = partition.wants(granule);
         for start in 0..plan.len() {
             let held = count(plan, p as u16, start, partition.m() as u64);
             if held < wanted {

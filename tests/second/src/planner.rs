@@ -23,7 +23,7 @@ fn planned(text: &[u8]) -> Result<Vec<u8>, Wrong> {
     records::partition_rules(&partitions, CYCLE)?;
     records::task_rules(&tasks, partitions.len())?;
     let mut plan = vec![0; FRAME];
-    let built = builder::build(&table.parts, &mut plan);
+    let built = builder::build(1, &table.parts, &mut plan);
     if built.number != 0 {
         return Err(built.into());
     }

@@ -1,7 +1,7 @@
-//! The tables, and the rules for their counts (3) and records (6, 7, 8).
+//! The tables, and the rules for their counts (3), the granule (21) and the records (6, 7, 8).
 
 use crate::answer::Answer;
-use crate::limits::{CYCLE, FRAME, PARTITIONS, PERIOD, RUNS, SHARE, TASKS};
+use crate::limits::{CYCLE, FRAME, GRANULE, PARTITIONS, PERIOD, RUNS, SHARE, TASKS};
 use crate::shares;
 
 #[derive(Clone, Copy, Debug)]
@@ -16,8 +16,8 @@ impl Partition {
         usize::from(self.cycle)
     }
 
-    pub fn wants(&self) -> u64 {
-        shares::wants(self.cycle, self.num, self.den)
+    pub fn wants(&self, granule: u64) -> u64 {
+        shares::wants(granule, self.cycle, self.num, self.den)
     }
 }
 
@@ -108,6 +108,14 @@ pub fn questions(numbers: &[u16]) -> Result<Vec<Question>, Answer> {
 /// "frame 1 to 4,096 ticks".
 pub fn frame(ticks: u64) -> Result<(), Answer> {
     within(usize::try_from(ticks).unwrap_or(usize::MAX), 1, FRAME)
+}
+
+/// "g outside 1 to 16 is 21, after 3".
+pub fn granule(granule: u64) -> Result<(), Answer> {
+    if !(1..=GRANULE).contains(&granule) {
+        return Err(Answer::refused(21));
+    }
+    Ok(())
 }
 
 /// "Cycle 1 to 4,096. Share num/den with 1 ≤ num ≤ den ≤ 1,000", and where a plan comes in

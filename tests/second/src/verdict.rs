@@ -6,23 +6,30 @@ use crate::answer::Answer;
 use crate::plan;
 use crate::records::{self, Task};
 
-/// The verdict for the task at a place from 1: 3, 6, 7, 7 with place 0, 8, 9.
-pub fn verdict(plan: &[u16], parts: &[u16], tasks: &[u16], place: usize) -> Answer {
-    judged(plan, parts, tasks, place, passing_point)
+/// The verdict for the task at a place from 1: 3, 21, 6, 7, 7 with place 0, 8, 9.
+pub fn verdict(granule: u64, plan: &[u16], parts: &[u16], tasks: &[u16], place: usize) -> Answer {
+    judged(granule, plan, parts, tasks, place, passing_point)
 }
 
 /// "a verdict he can follow with a pencil: every tick t from 1 to D, no scheduling points", with
 /// the verdict's refusals.
-pub fn plain(plan: &[u16], parts: &[u16], tasks: &[u16], place: usize) -> Answer {
-    judged(plan, parts, tasks, place, passing_tick)
+pub fn plain(granule: u64, plan: &[u16], parts: &[u16], tasks: &[u16], place: usize) -> Answer {
+    judged(granule, plan, parts, tasks, place, passing_tick)
 }
 
 /// What tells from a serving plan, good tasks and a place of their table where the task passes; a
 /// fail is 0.
 type Engine = fn(&[u16], &[Task], usize) -> u64;
 
-fn judged(plan: &[u16], parts: &[u16], tasks: &[u16], place: usize, passing: Engine) -> Answer {
-    match by_the_rules(plan, parts, tasks, place) {
+fn judged(
+    granule: u64,
+    plan: &[u16],
+    parts: &[u16],
+    tasks: &[u16],
+    place: usize,
+    passing: Engine,
+) -> Answer {
+    match by_the_rules(granule, plan, parts, tasks, place) {
         Ok(tasks) => Answer::good([passing(plan, &tasks, place), 0, 0, 0]),
         Err(refusal) => refusal,
     }
@@ -30,6 +37,7 @@ fn judged(plan: &[u16], parts: &[u16], tasks: &[u16], place: usize, passing: Eng
 
 /// The tasks of a table that can be judged at the place.
 fn by_the_rules(
+    granule: u64,
     plan: &[u16],
     parts: &[u16],
     tasks: &[u16],
@@ -38,6 +46,7 @@ fn by_the_rules(
     let partitions = records::partitions(parts)?;
     let tasks = records::tasks(tasks)?;
     records::frame(plan.len() as u64)?;
+    records::granule(granule)?;
     records::partition_rules(&partitions, plan.len())?;
     records::task_rules(&tasks, partitions.len())?;
     if place == 0 || place > tasks.len() {
@@ -45,7 +54,7 @@ fn by_the_rules(
         return Err(Answer::refused_at(7, 0));
     }
     records::tick_rules(plan, partitions.len())?;
-    plan::serves(plan, &partitions)?;
+    plan::serves(granule, plan, &partitions)?;
     Ok(tasks)
 }
 

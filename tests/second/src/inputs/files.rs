@@ -58,7 +58,7 @@ pub fn tables(rng: &mut Rng, longest: usize) -> Tables {
 
 /// Good tables whose plan serves, with tasks that are worth judging.
 pub fn serving(rng: &mut Rng, count: usize, longest: usize, task_count: usize) -> Tables {
-    let (plan, parts) = plans::served(rng, count, longest);
+    let plans::Served { plan, parts, .. } = plans::served(rng, 1, count, longest);
     let partitions = parts.len() / 3;
     let period = rng.pick(&[8, 40, 100]);
     Tables {

@@ -3,6 +3,7 @@
 pub mod counts;
 pub mod faults;
 pub mod files;
+pub mod granules;
 pub mod jobs;
 pub mod plans;
 pub mod requests;

@@ -1,6 +1,6 @@
 //! Plans as ticks.
 
-use super::tables;
+use super::{granules, tables};
 use crate::builder;
 use crate::limits::FRAME;
 use crate::rng::Rng;
@@ -51,9 +51,9 @@ pub fn one_run(ticks: usize, start: usize, length: usize, other: u16) -> Vec<u16
 
 /// The builder's plan for the table, turned to another start and repeated some times within
 /// `longest`; none where the builder refuses.
-pub fn serving(rng: &mut Rng, parts: &[u16], longest: usize) -> Option<Vec<u16>> {
+pub fn serving(rng: &mut Rng, granule: u64, parts: &[u16], longest: usize) -> Option<Vec<u16>> {
     let mut out = vec![0; FRAME];
-    let answer = builder::build(parts, &mut out);
+    let answer = builder::build(granule, parts, &mut out);
     let frame = answer.first as usize;
     if answer.number != 0 || frame > longest {
         return None;
@@ -64,12 +64,25 @@ pub fn serving(rng: &mut Rng, parts: &[u16], longest: usize) -> Option<Vec<u16>>
     Some(plan.repeat(times))
 }
 
-/// A serving plan for a table of up to `count` partitions, found by trying tables.
-pub fn served(rng: &mut Rng, count: usize, longest: usize) -> (Vec<u16>, Vec<u16>) {
+/// A plan and a table that it serves with this granule.
+#[derive(Clone, Debug)]
+pub struct Served {
+    pub granule: u64,
+    pub plan: Vec<u16>,
+    pub parts: Vec<u16>,
+}
+
+/// A serving plan for a table of up to `count` partitions, found by trying tables. The granule must
+/// not be longer than `longest`.
+pub fn served(rng: &mut Rng, granule: u64, count: usize, longest: usize) -> Served {
     loop {
-        let parts = tables::some_harmonic(rng, count, longest);
-        if let Some(plan) = serving(rng, &parts, longest) {
-            return (plan, parts);
+        let parts = tables::some_harmonic(rng, granule, count, longest);
+        if let Some(plan) = serving(rng, granule, &parts, longest) {
+            return Served {
+                granule,
+                plan,
+                parts,
+            };
         }
     }
 }
@@ -96,15 +109,32 @@ fn of_some_runs(rng: &mut Rng, frame: usize) -> (Vec<u16>, usize) {
     }
 }
 
+/// A granule of which each partition has at least one in the plan.
+fn within(rng: &mut Rng, plan: &[u16], partitions: usize) -> u64 {
+    let own = |p: usize| {
+        plan.iter()
+            .filter(|owner| usize::from(**owner) == p)
+            .count()
+    };
+    let fewest = (1..=partitions).map(own).min();
+    granules::up_to(rng, fewest.unwrap_or(1))
+}
+
 /// A plan of one of several shapes, and a table that it serves.
-pub fn of_some_shape(rng: &mut Rng, longest: usize) -> (Vec<u16>, Vec<u16>) {
+pub fn of_some_shape(rng: &mut Rng, longest: usize) -> Served {
     let frame = rng.between(1, longest);
     if rng.one_in(4) {
-        return served(rng, 4, frame);
+        let granule = granules::up_to(rng, frame);
+        return served(rng, granule, 4, frame);
     }
     let (plan, partitions) = of_some_runs(rng, frame);
-    let parts = tables::served_by(rng, &plan, partitions);
-    (plan, parts)
+    let granule = within(rng, &plan, partitions);
+    let parts = tables::served_by(rng, granule, &plan, partitions);
+    Served {
+        granule,
+        plan,
+        parts,
+    }
 }
 
 /// Another owner in one tick.

@@ -77,7 +77,7 @@ pub type Line = Vec<Vec<u8>>;
 
 /// A harmonic table of up to so many partitions and just so many tasks.
 pub fn table(rng: &mut Rng, partitions: usize, longest: usize, tasks: usize) -> ShareTable {
-    let parts = tables::some_harmonic(rng, partitions, longest);
+    let parts = tables::some_harmonic(rng, 1, partitions, longest);
     let tasks = tables::tasks(rng, tasks, parts.len() / 3, 4096);
     ShareTable { parts, tasks }
 }

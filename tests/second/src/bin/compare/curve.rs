@@ -228,7 +228,9 @@ fn serving_and_damaged(trial: &mut Trial) {
         let rng = &mut trial.rng;
         let longest = rng.between(1, 40);
         let count = rng.pick(&[1, 2, 3, 5, 16]);
-        let (mut plan, parts) = plans::served(rng, count, longest);
+        let plans::Served {
+            mut plan, parts, ..
+        } = plans::served(rng, 1, count, longest);
         let partitions = parts.len() / 3;
         let p = rng.between(0, partitions + 1) as u16;
         let n = some_n(rng, plan.len());
@@ -316,7 +318,7 @@ fn some_long_plan(rng: &mut Rng, case: u64, ticks: usize) -> Vec<u16> {
         3 => plans::one_run(ticks, start, length, 0),
         4 => plans::repeating(&[1, 2], ticks),
         _ => {
-            let short = plans::serving(rng, &parts, 128).unwrap_or_default();
+            let short = plans::serving(rng, 1, &parts, 128).unwrap_or_default();
             plans::repeating(&short, ticks)
         }
     }

@@ -52,7 +52,7 @@ fn compare(trial: &mut Trial, text: &[u8]) -> Vec<u8> {
 fn serves(trial: &Trial, table: &ShareTable, answer: &[u8]) {
     if let Ok(written) = file::parse(answer) {
         let ticks = ticks::of_runs(&written.runs);
-        trial.same(table, plan::check(&ticks, &table.parts).number, 0);
+        trial.same(table, plan::check(1, &ticks, &table.parts).number, 0);
     }
 }
 
@@ -124,7 +124,7 @@ fn full_and_one_tick_more(trial: &mut Trial) {
         let longest = trial.rng.between(1, 100);
         let count = trial.rng.pick(&[1, 2, 4, 16]);
         let above = trial.rng.one_in(2);
-        let parts = tables::full(&mut trial.rng, count, longest, above);
+        let parts = tables::full(&mut trial.rng, 1, count, longest, above);
         let tasks = Vec::new();
         let text = texts::plain(&ShareTable { parts, tasks });
         seen.note(&compare(trial, &text));

@@ -1,6 +1,7 @@
 //! held, least and the checker: the library against the second program.
 
-use second::inputs::{faults, plans, tables};
+use second::inputs::plans::Served;
+use second::inputs::{faults, granules, plans, tables};
 use second::rng::Rng;
 use second::{plan, Answer};
 
@@ -31,12 +32,11 @@ fn compare_least(trial: &mut Trial, plan: &[u16], p: u16, t: u32) {
     trial.call(Entry::Least, &given, least).reads(plan);
 }
 
-/// Whether the plan is accepted.
-fn compare_check(trial: &mut Trial, plan: &[u16], parts: &[u16]) -> bool {
-    let answer = plan::check(plan, parts);
-    let call = trial.call(Entry::Check, &[], answer);
+pub fn compare_check(trial: &mut Trial, granule: u64, plan: &[u16], parts: &[u16]) -> Answer {
+    let answer = plan::check(granule, plan, parts);
+    let call = trial.call(Entry::Check, &[granule], answer);
     call.reads(plan).reads(parts);
-    answer.number == 0
+    answer
 }
 
 fn some_plan(rng: &mut Rng, longest: usize) -> Vec<u16> {
@@ -104,26 +104,41 @@ fn any_plan(trial: &mut Trial) {
         let count = rng.pick(&[1, 1, 2, 3, 16]);
         let parts = tables::partitions(rng, count, frame);
         let plan = plans::scattered(rng, frame, count);
-        compare_check(trial, &plan, &parts);
+        let granule = granules::up_to(rng, frame);
+        let granule = granules::or_other(rng, granule);
+        compare_check(trial, granule, &plan, &parts);
     }
+}
+
+fn check_served(trial: &mut Trial, served: &Served, granule: u64) -> Answer {
+    compare_check(trial, granule, &served.plan, &served.parts)
 }
 
 fn serving_and_damaged(trial: &mut Trial) {
     for _ in trial.cases(30_000) {
-        let longest = trial.rng.between(1, 40);
-        let count = trial.rng.pick(&[1, 2, 3, 5, 16]);
-        let (mut plan, parts) = plans::served(&mut trial.rng, count, longest);
-        let accepted = compare_check(trial, &plan, &parts);
-        trial.same((&plan, &parts, "serves"), accepted, true);
-        plans::damage(&mut trial.rng, &mut plan, parts.len() / 3);
-        compare_check(trial, &plan, &parts);
+        let rng = &mut trial.rng;
+        let longest = rng.between(1, 40);
+        let count = rng.pick(&[1, 2, 3, 5, 16]);
+        let granule = granules::up_to(rng, longest);
+        let mut served = plans::served(rng, granule, count, longest);
+        let accepted = check_served(trial, &served, granule);
+        trial.same((&served, "serves"), accepted.number, 0);
+        let other = granules::or_other(&mut trial.rng, granule);
+        let partitions = served.parts.len() / 3;
+        plans::damage(&mut trial.rng, &mut served.plan, partitions);
+        check_served(trial, &served, other);
     }
 }
 
 fn faults(trial: &mut Trial) {
     for _ in trial.cases(60_000) {
         let rng = &mut trial.rng;
-        let (mut plan, mut parts) = plans::served(rng, 4, 24);
+        let granule = granules::good(rng);
+        let Served {
+            mut plan,
+            mut parts,
+            ..
+        } = plans::served(rng, granule, 4, 24);
         let count = parts.len() / 3;
         let frame = plan.len();
         if rng.one_in(2) {
@@ -135,7 +150,8 @@ fn faults(trial: &mut Trial) {
         if rng.one_in(2) {
             faults::plan(rng, &mut plan, count);
         }
-        compare_check(trial, &plan, &parts);
+        let granule = granules::or_other(rng, granule);
+        compare_check(trial, granule, &plan, &parts);
     }
 }
 
@@ -144,13 +160,21 @@ fn each_limit(trial: &mut Trial) {
         for records in [0, 1, 2, 15, 16, 17, 18] {
             for numbers in [3 * records, 3 * records + 1, 3 * records + 2] {
                 let parts = [1, 1, 1].repeat(records + 1)[..numbers].to_vec();
-                compare_check(trial, &vec![1; ticks], &parts);
+                for granule in [1, 16, 17] {
+                    compare_check(trial, granule, &vec![1; ticks], &parts);
+                }
             }
         }
     }
     for frame in trial.each([1, 2, 4095, 4096]) {
         for cycle in [0, 1, frame - 1, frame, frame + 1, 4097, 65535] {
-            compare_check(trial, &vec![1; frame.into()], &[cycle, 1, 1000]);
+            let plan = vec![1; frame.into()];
+            for granule in [1, 16, 17] {
+                compare_check(trial, granule, &plan, &[cycle, 1, 1000]);
+            }
+            for granule in [15, 16] {
+                compare_check(trial, granule, &plan, &[cycle, 1, 1]);
+            }
         }
     }
 }
@@ -160,16 +184,18 @@ fn long_frames(trial: &mut Trial) {
     for case in trial.cases(120) {
         let rng = &mut trial.rng;
         let parts = tables::sixteen(rng);
-        let short = plans::serving(rng, &parts, 128).unwrap_or_default();
+        let short = plans::serving(rng, 1, &parts, 128).unwrap_or_default();
         let mut plan = short.repeat(32);
         if case % 2 == 0 {
             plans::damage(rng, &mut plan, 16);
         }
-        compare_check(trial, &plan, &parts);
+        let granule = rng.pick(&[1, 1, 2, 4]);
+        compare_check(trial, granule, &plan, &parts);
     }
 }
 
-/// What every stretch holds at least, or a thousandth more.
+/// What every stretch holds at least, or a thousandth more; with a granule it is rounded up past
+/// that most often.
 fn long_cycles(trial: &mut Trial) {
     for case in trial.cases(60) {
         let rng = &mut trial.rng;
@@ -178,6 +204,7 @@ fn long_cycles(trial: &mut Trial) {
         let least = plan::least(&plan, 1, cycle as u32) as usize;
         let num = least * 1000 / cycle + rng.between(0, 1);
         let num = num.clamp(1, 1000) as u16;
-        compare_check(trial, &plan, &[cycle as u16, num, 1000]);
+        let granule = granules::up_to(rng, 1 + case as usize % 16);
+        compare_check(trial, granule, &plan, &[cycle as u16, num, 1000]);
     }
 }

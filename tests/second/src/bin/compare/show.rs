@@ -16,14 +16,18 @@ const TEXT: &str = "text";
 const LINE: &str = "plan file or line";
 
 const ENTRIES: [Names; 19] = [
-    ("wants", &["m", "num", "den"], &[]),
+    ("wants", &["granule", "m", "num", "den"], &[]),
     ("held", &["p", "s", "n"], &["plan"]),
     ("least", &["p", "t"], &["plan"]),
     ("curve", &["p", "n"], &["plan", "list"]),
-    ("check", &[], &["plan", "parts"]),
-    ("build", &[], &["parts", "out"]),
-    ("verdict", &["place"], &["plan", "parts", "tasks"]),
-    ("plain", &["place"], &["plan", "parts", "tasks"]),
+    ("check", &["granule"], &["plan", "parts"]),
+    ("build", &["granule"], &["parts", "out"]),
+    (
+        "verdict",
+        &["granule", "place"],
+        &["plan", "parts", "tasks"],
+    ),
+    ("plain", &["granule", "place"], &["plan", "parts", "tasks"]),
     ("counts_fill", &[], &["plan", "parts", "list"]),
     (
         "counts_held",
@@ -198,9 +202,9 @@ mod tests {
     /// Two calls, of which the second comes back with another number at a place.
     fn shown(changed: usize) -> String {
         let mut batch = Batch::new();
-        batch.call(Entry::Wants, &[1, 1, 1], Answer::good([1, 0, 0, 0]));
+        batch.call(Entry::Wants, &[1, 1, 1, 1], Answer::good([1, 0, 0, 0]));
         let start = batch.asked.len();
-        let call = batch.call(Entry::Build, &[], Answer::good([2, 0, 0, 0]));
+        let call = batch.call(Entry::Build, &[1], Answer::good([2, 0, 0, 0]));
         let [before, after] = [[7; 9], [1, 1, 7, 7, 7, 7, 7, 7, 7]];
         call.reads::<u16>(&[2, 1, 1])
             .writes::<u16>(3, &before, &after);
@@ -217,7 +221,7 @@ mod tests {
     #[test]
     fn an_answer_that_differs() {
         let lent = "\n  out [1, 1, 7], behind it [7 x 6]";
-        let input = "input build\n  parts [2, 1, 1]\n  out [7, 7, 7], behind it [7 x 6]";
+        let input = "input build granule 1\n  parts [2, 1, 1]\n  out [7, 7, 7], behind it [7 x 6]";
         let library = format!("\nlibrary number 0, values [3, 0, 0, 0]{lent}");
         let second = format!("\nsecond number 0, values [2, 0, 0, 0]{lent}");
         assert_eq!(shown(48), [input, &library, &second].concat());

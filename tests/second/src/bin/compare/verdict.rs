@@ -1,12 +1,12 @@
 //! The two engines of the verdict: the library against the second program, and against runs played
 //! out.
 
-mod asked;
+pub mod asked;
 mod long;
 mod plain;
 mod shapes;
 
-use second::inputs::{faults, plans};
+use second::inputs::{faults, granules, plans};
 use second::{records, runs};
 
 use crate::seen::Seen;
@@ -68,7 +68,9 @@ fn all_small(trial: &mut Trial) {
         for higher in [&[Vec::new()], &tasks[..]].concat() {
             for task in &tasks {
                 let frame = plan.len() as u16;
+                let own = plan.iter().filter(|owner| **owner == 1).count();
                 let input = Input {
+                    granule: granules::up_to(&mut trial.rng, own.max(1)),
                     plan: plan.clone(),
                     parts: vec![frame, 1, frame],
                     tasks: [&higher[..], task].concat(),
@@ -141,6 +143,7 @@ fn faults(trial: &mut Trial) {
         if rng.one_in(3) {
             plans::damage(rng, &mut input.plan, partitions);
         }
+        input.granule = granules::or_other(rng, input.granule);
         let listed = input.listed();
         let outside = rng.pick(&[0, listed + 1, 1 << 32, (1 << 32) + 1, usize::MAX]);
         let place = if rng.one_in(3) {
@@ -152,6 +155,7 @@ fn faults(trial: &mut Trial) {
     }
     let refused = ["3", "6", "7", "7 with place 0", "8", "9"];
     seen.share(trial, &refused, [1, 50]);
+    seen.share(trial, &["21"], [1, 100]);
     seen.share(trial, &["pass", "fail", BELOW], [1, 50]);
 }
 

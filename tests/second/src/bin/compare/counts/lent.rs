@@ -49,7 +49,10 @@ pub fn some_lent(rng: &mut Rng, longest: usize) -> Lent {
     let frame = rng.between(1, longest);
     let count = rng.pick(&[1, 2, 3, 5, 16]);
     let (plan, parts) = match rng.between(0, 2) {
-        0 => plans::served(rng, count, frame),
+        0 => {
+            let served = plans::served(rng, 1, count, frame);
+            (served.plan, served.parts)
+        }
         1 => {
             let plan = plans::in_runs(rng, frame, count);
             (plan, tables::partitions(rng, count, frame))

@@ -1,7 +1,8 @@
 //! A task that is asked about, and the calls of both engines in both programs.
 
 use second::inputs::files::Tables;
-use second::inputs::{plans, tables};
+use second::inputs::plans::Served;
+use second::inputs::{granules, plans, tables};
 use second::rng::Rng;
 use second::{ticks, verdict, Answer};
 
@@ -12,9 +13,22 @@ use crate::trial::Trial;
 
 #[derive(Clone, Debug)]
 pub struct Input {
+    pub granule: u64,
     pub plan: Vec<u16>,
     pub parts: Vec<u16>,
     pub tasks: Vec<u16>,
+}
+
+impl From<Served> for Input {
+    /// No tasks yet.
+    fn from(served: Served) -> Input {
+        Input {
+            granule: served.granule,
+            plan: served.plan,
+            parts: served.parts,
+            tasks: Vec::new(),
+        }
+    }
 }
 
 impl Input {
@@ -45,10 +59,10 @@ impl Input {
 }
 
 /// An entry, and what the second program makes of its call.
-type Engine = (Entry, fn(&[u16], &[u16], &[u16], usize) -> Answer);
+type Engine = (Entry, fn(u64, &[u16], &[u16], &[u16], usize) -> Answer);
 
 pub const VERDICT: Engine = (Entry::Verdict, verdict::verdict);
-const PLAIN: Engine = (Entry::Plain, verdict::plain);
+pub const PLAIN: Engine = (Entry::Plain, verdict::plain);
 
 /// What both engines say of a task.
 #[derive(Clone, Copy, Debug, PartialEq)]
@@ -61,9 +75,14 @@ pub enum Judged {
 /// Asks one engine.
 pub fn ask(trial: &mut Trial, engine: Engine, input: &Input, place: usize) -> Answer {
     let (entry, judged) = engine;
-    let Input { plan, parts, tasks } = input;
-    let answer = judged(plan, parts, tasks, place);
-    let call = trial.call(entry, &[place as u64], answer);
+    let Input {
+        granule,
+        plan,
+        parts,
+        tasks,
+    } = input;
+    let answer = judged(*granule, plan, parts, tasks, place);
+    let call = trial.call(entry, &[*granule, place as u64], answer);
     call.reads(plan).reads(parts).reads(tasks);
     answer
 }
@@ -134,9 +153,8 @@ fn note(seen: &mut Seen, input: &Input, judged: Judged) {
 
 /// A plan that serves a table of up to `count` partitions, within `longest` ticks, and no tasks.
 pub fn without_tasks(rng: &mut Rng, count: usize, longest: usize) -> Input {
-    let (plan, parts) = plans::served(rng, count, longest);
-    let tasks = Vec::new();
-    Input { plan, parts, tasks }
+    let granule = granules::up_to(rng, longest);
+    Input::from(plans::served(rng, granule, count, longest))
 }
 
 /// A plan that serves a small table, and tasks with periods up to `period`.

@@ -1,7 +1,7 @@
 //! Deadlines up to 4,096 in short frames and in the longest. A plain engine walks the plan for every
 //! tick that it tries, so it is asked less often.
 
-use second::inputs::{plans, tables};
+use second::inputs::{granules, plans, tables};
 use second::rng::Rng;
 
 use super::asked::{ask, compare, without_tasks, Input, Judged, VERDICT};
@@ -37,8 +37,9 @@ pub fn plain_many_frames(trial: &mut Trial) {
 /// Sixteen partitions in the longest frame, and a task of one of them behind a higher one.
 fn of_sixteen(rng: &mut Rng, c: u16, d: u16) -> Input {
     let parts = tables::sixteen(rng);
-    let plan = plans::serving(rng, &parts, 128).unwrap_or_default();
+    let plan = plans::serving(rng, 1, &parts, 128).unwrap_or_default();
     Input {
+        granule: 1,
         plan: plan.repeat(32),
         parts,
         tasks: vec![3, 40, 1500, 1500, 2, 1, 7, 7, 3, c, d, 4096],
@@ -72,6 +73,7 @@ fn of_one_run(rng: &mut Rng, frame: usize, own: usize, asked: usize) -> Input {
     let higher = rng.between(1, asked - 1);
     let budgets = [higher, asked - higher].map(|c| [1, c as u16, 4096, 4096]);
     Input {
+        granule: granules::good(rng),
         plan,
         parts: [frame as u16, 1, 5].repeat(2),
         tasks: budgets.concat(),

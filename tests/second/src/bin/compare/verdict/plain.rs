@@ -1,6 +1,6 @@
 //! Where the plain engine's ticks lie: at the ends of what a task may ask, and away from the points.
 
-use second::inputs::tables;
+use second::inputs::{granules, tables};
 use second::rng::Rng;
 
 use super::asked::{
@@ -19,9 +19,12 @@ fn nearly_own(rng: &mut Rng, tasks: usize) -> Input {
     if frame > 1 && rng.one_in(3) {
         plan[rng.between(0, frame - 1)] = 0;
     }
-    let parts = vec![frame as u16, 1, frame as u16];
-    let tasks = tables::tasks(rng, tasks, 1, 30);
-    Input { plan, parts, tasks }
+    Input {
+        granule: granules::up_to(rng, (frame - 1).max(1)),
+        plan,
+        parts: vec![frame as u16, 1, frame as u16],
+        tasks: tables::tasks(rng, tasks, 1, 30),
+    }
 }
 
 /// D = C: a task passes, at D, exactly when the plan is all its own and no task is higher.
@@ -70,6 +73,7 @@ pub fn one_tick(trial: &mut Trial) {
         let tasks = rng.between(0, 5);
         let period = rng.pick(&[1, 4, 20, 60]);
         let input = Input {
+            granule: granules::or_other(rng, 1),
             plan: vec![rng.pick(&[1, 1, 1, 1, 0, 2])],
             parts: tables::partitions(rng, partitions, 1),
             tasks: tables::tasks(rng, tasks, partitions, period),

@@ -12,9 +12,7 @@ use crate::trial::Trial;
 
 /// A plan of one of several shapes, a table that it serves, and no tasks.
 fn of_some_shape(rng: &mut Rng, longest: usize) -> Input {
-    let (plan, parts) = plans::of_some_shape(rng, longest);
-    let tasks = Vec::new();
-    Input { plan, parts, tasks }
+    Input::from(plans::of_some_shape(rng, longest))
 }
 
 /// One that serves at least two partitions.
@@ -42,7 +40,7 @@ fn no_more(input: &Input) -> bool {
     let partitions = records::partitions(&input.parts).unwrap_or_default();
     let wanted = |(p, partition): (u16, &Partition)| {
         let own = input.plan.iter().filter(|owner| **owner == p).count();
-        own * partition.m() == partition.wants() as usize * input.plan.len()
+        own * partition.m() == partition.wants(input.granule) as usize * input.plan.len()
     };
     (1..).zip(&partitions).any(wanted)
 }
