@@ -1,11 +1,12 @@
 //! Share tables as text: laid out in many ways, with words that don't belong, and damaged.
 
-use super::tables;
+use super::{granules, tables};
 use crate::rng::Rng;
 use crate::share_table::ShareTable;
 
 /// Words that are wrong somewhere, or only look so.
-pub const ODD_WORDS: [&[u8]; 46] = [
+pub const ODD_WORDS: [&[u8]; 52] = [
+    b"granule",
     b"partition",
     b"task",
     b"/",
@@ -15,6 +16,8 @@ pub const ODD_WORDS: [&[u8]; 46] = [
     b"00",
     b"1",
     b"007",
+    b"16",
+    b"17",
     b"1000",
     b"1001",
     b"4096",
@@ -38,6 +41,9 @@ pub const ODD_WORDS: [&[u8]; 46] = [
     b"1,000",
     b"4x",
     b"x4",
+    b"Granule",
+    b"granules",
+    b"granul",
     b"Partition",
     b"partitions",
     b"partitio",
@@ -72,20 +78,34 @@ const REMARKS: [&[u8]; 8] = [
     b" #\0\xff\r",
 ];
 
-/// A record's words; what a table ends with need not be a whole record.
+/// The words of a granule's line or of a record; what a table ends with need not be a whole record.
 pub type Line = Vec<Vec<u8>>;
 
-/// A harmonic table of up to so many partitions and just so many tasks.
+/// A harmonic table of up to so many partitions and just so many tasks, with a granule or without.
 pub fn table(rng: &mut Rng, partitions: usize, longest: usize, tasks: usize) -> ShareTable {
-    let parts = tables::some_harmonic(rng, 1, partitions, longest);
+    let granule = granules::up_to(rng, longest);
+    let parts = tables::some_harmonic(rng, granule, partitions, longest);
     let tasks = tables::tasks(rng, tasks, parts.len() / 3, 4096);
-    ShareTable { parts, tasks }
+    ShareTable {
+        granule: said(rng, granule),
+        parts,
+        tasks,
+    }
 }
 
-/// The partitions first, then the tasks.
+/// One tick need not be said, and a granule that has more than 16 bits can't be.
+pub fn said(rng: &mut Rng, granule: u64) -> Option<u16> {
+    let silent = granule == 1 && rng.one_in(2);
+    u16::try_from(granule).ok().filter(|_| !silent)
+}
+
+/// The granule first, then the partitions, then the tasks.
 pub fn lines(table: &ShareTable) -> Vec<Line> {
     let word = |number: &u16| number.to_string().into_bytes();
     let mut lines = Vec::new();
+    if let Some(granule) = &table.granule {
+        lines.push(vec![b"granule".to_vec(), word(granule)]);
+    }
     for record in table.parts.chunks(3) {
         let mut words = vec![b"partition".to_vec()];
         words.extend(record.iter().map(word));
@@ -114,7 +134,8 @@ pub fn joined(lines: &[Line]) -> Vec<u8> {
         .collect()
 }
 
-/// Lines in any order that keeps that of each kind, with gaps, remarks and zeros in front.
+/// Lines in any order that keeps that of the tasks and that of all others, with gaps, remarks and
+/// zeros in front.
 pub fn laid_out(rng: &mut Rng, table: &ShareTable) -> Vec<u8> {
     let mut lines = mixed(rng, lines(table));
     for word in lines.iter_mut().flatten() {
@@ -198,11 +219,12 @@ pub fn damage(rng: &mut Rng, text: &mut Vec<u8>) {
     } else {
         rng.pick(BYTES)
     };
-    match rng.between(0, 6) {
+    match rng.between(0, 7) {
         0 => text.insert(at, byte),
         1 => text.truncate(at),
         2 => swap_words(rng, text),
         3 => cut_line(rng, text, at),
+        7 => repeat_line(rng, text),
         _ if at == text.len() => text.push(byte),
         4 => drop(text.remove(at)),
         _ => text[at] = byte,
@@ -221,6 +243,14 @@ fn swap_words(rng: &mut Rng, text: &mut Vec<u8>) {
         pieces.swap(rng.pick(&words), rng.pick(&words));
     }
     *text = pieces.concat();
+}
+
+/// A line once more, somewhere else.
+fn repeat_line(rng: &mut Rng, text: &mut Vec<u8>) {
+    let mut lines: Vec<&[u8]> = text.split(|&byte| byte == b'\n').collect();
+    let line = rng.pick(&lines);
+    lines.insert(rng.between(0, lines.len()), line);
+    *text = lines.join(&b'\n');
 }
 
 /// From a place on the line ends, with its newline or without.

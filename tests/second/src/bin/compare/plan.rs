@@ -1,6 +1,6 @@
 //! The planner: the program against the second one, from a share table's text to a plan file.
 
-use second::inputs::{faults, tables, texts};
+use second::inputs::{faults, granules, tables, texts};
 use second::limits::TEXT;
 use second::rng::Rng;
 use second::share_table::ShareTable;
@@ -19,8 +19,10 @@ pub const TRIALS: &[Named] = &[
     ("plan, damaged texts", damaged_texts),
     ("plan, words that don't belong", words_that_dont_belong),
     ("plan, each word at each place", each_word_at_each_place),
+    ("plan, granule lines", granule_lines),
     ("plan, at the limits", at_the_limits),
     ("plan, long texts", long_texts),
+    ("plan, granule in a long text", granule_in_a_long_text),
     ("plan, far lines", far_lines),
     ("plan, a process each", a_process_each),
 ];
@@ -52,11 +54,15 @@ fn compare(trial: &mut Trial, text: &[u8]) -> Vec<u8> {
 fn serves(trial: &Trial, table: &ShareTable, answer: &[u8]) {
     if let Ok(written) = file::parse(answer) {
         let ticks = ticks::of_runs(&written.runs);
-        trial.same(table, plan::check(1, &ticks, &table.parts).number, 0);
+        trial.same(
+            table,
+            plan::check(table.g(), &ticks, &table.parts).number,
+            0,
+        );
     }
 }
 
-const BY_HAND: [&str; 24] = [
+const BY_HAND: [&str; 31] = [
     "",
     "\n",
     "\r\n\t \n",
@@ -81,6 +87,13 @@ const BY_HAND: [&str; 24] = [
     "partition 4 1/4\npartition 8 3/8\npartition 8 1/100\n",
     "partition 4 1/4\npartition 8 3/8\npartition 8 1/2\n",
     "partition 4 1/1\npartition 6 1/1\n",
+    "granule 2\npartition 4 1/4\npartition 8 3/8\n",
+    "granule 2\npartition 4 1/4\npartition 8 3/8\npartition 8 1/100\n",
+    "granule 17\npartition 4 1/4\n",
+    "partition 4 1/4\ngranule 2\n",
+    "granule 2\n\ngranule 2\npartition 4 1/4\n",
+    "granule\npartition 4 1/4\n",
+    "granules 2\npartition 4 1/4\n",
 ];
 
 fn by_hand(trial: &mut Trial) {
@@ -108,7 +121,7 @@ fn good_tables(trial: &mut Trial) {
             serves(trial, &table, &answer);
         }
     }
-    seen.share(trial, &["a plan"], [1, 2]);
+    seen.share(trial, &["a plan"], [2, 5]);
     let shapes = [
         "one run",
         "many runs",
@@ -121,13 +134,17 @@ fn good_tables(trial: &mut Trial) {
 fn full_and_one_tick_more(trial: &mut Trial) {
     let mut seen = Seen::default();
     for _ in trial.cases(10_000) {
-        let longest = trial.rng.between(1, 100);
-        let count = trial.rng.pick(&[1, 2, 4, 16]);
-        let above = trial.rng.one_in(2);
-        let parts = tables::full(&mut trial.rng, 1, count, longest, above);
-        let tasks = Vec::new();
-        let text = texts::plain(&ShareTable { parts, tasks });
-        seen.note(&compare(trial, &text));
+        let rng = &mut trial.rng;
+        let longest = rng.between(1, 100);
+        let count = rng.pick(&[1, 2, 4, 16]);
+        let above = rng.one_in(2);
+        let granule = granules::up_to(rng, longest);
+        let table = ShareTable {
+            granule: texts::said(rng, granule),
+            parts: tables::full(rng, granule, count, longest, above),
+            tasks: Vec::new(),
+        };
+        seen.note(&compare(trial, &texts::plain(&table)));
     }
     seen.share(trial, &["a plan", "refused 11"], [1, 20]);
 }
@@ -150,17 +167,21 @@ fn faults(trial: &mut Trial) {
         if rng.one_in(2) {
             faults::tasks(rng, &mut table.tasks, partitions);
         }
+        let granule = granules::or_other(rng, table.g());
+        table.granule = texts::said(rng, granule);
         let text = texts::laid_out(rng, &table);
         seen.note(&compare(trial, &text));
     }
+    seen.share(trial, &["refused 21"], [1, 200]);
     let refusals = ["refused 3", "refused 6", "refused 7", "refused 10"];
     seen.share(trial, &refusals, [1, 50]);
     seen.share(trial, &["a plan"], [1, 20]);
 }
 
 /// What the text's lines are answered with.
-const EXPECTED: [&str; 4] = [
-    "`partition` or `task`",
+const EXPECTED: [&str; 5] = [
+    "`granule`, `partition` or `task`",
+    "`granule` once, before the partitions",
     "a number from 0 to 65535",
     "`/`",
     "the end of the line",
@@ -209,6 +230,7 @@ fn words_that_dont_belong(trial: &mut Trial) {
 /// Before each word of a line, in its place, and behind the last; the line goes on, or ends there.
 fn each_word_at_each_place(trial: &mut Trial) {
     let table = ShareTable {
+        granule: Some(2),
         parts: vec![8, 1, 4],
         tasks: vec![1, 1, 8, 8],
     };
@@ -227,14 +249,96 @@ fn each_word_at_each_place(trial: &mut Trial) {
     }
 }
 
+/// What stands behind `granule` besides plain numbers, of which those above 65535 are none.
+const NEARLY_GRANULES: [&str; 17] = [
+    "0000000000000",
+    "016",
+    "00000000000017",
+    "18446744073709551617",
+    "",
+    "x",
+    "2x",
+    "+2",
+    "-1",
+    "2 2",
+    "2/1",
+    "/",
+    "2 granule 2",
+    "2 # 3",
+    "2#3",
+    "#2",
+    "\t2\r",
+];
+
+/// Where the line stands, and what else is wrong.
+const WITH_A_GRANULE: [&str; 19] = [
+    "granule G",
+    "granule G\npartition 96 1/100\npartition 96 1/3\n",
+    "# first\n\n\tgranule G\r\npartition 16 1/100",
+    "task 1 1 96 96\ngranule G\ntask 1 1 96 96\npartition 96 1/3\n",
+    "granule G\npartition 8 1/8\n",
+    "granule G\npartition 5 1/5\npartition 80 1/100\n",
+    // Too late.
+    "partition 96 1/3\ngranule G\n",
+    "partition 96 1/3\ntask 1 1 96 96\n#\ngranule G\npartition 96 1/3\n",
+    "partition 0 0/0\ngranule G",
+    "granule 2\ngranule G\npartition 96 1/3\n",
+    "granule G\ntask 1 1 96 96\ngranule 2\npartition 96 1/3\n",
+    "granule 17\ngranule G\n",
+    "granule 2\npartition 96 1/3\ngranule G",
+    // Another wrong line, then 3, 6, 7, 10 and 11.
+    "granule G\npartition 96 1/3\ngranule\n",
+    "granule G\ntask 1 1 96 96\n",
+    "granule G\npartition 0 1/3\npartition 5 1/3\npartition 96 1/3\n",
+    "granule G\npartition 96 1/3\ntask 3 1 96 96\npartition 95 1/3",
+    "granule G\npartition 96 1/3\npartition 95 1/3",
+    "granule G\npartition 16 1/1\npartition 16 1/1",
+];
+
+fn granule_lines(trial: &mut Trial) {
+    let mut seen = Seen::default();
+    let many = [
+        "partition 16 1/16\n".repeat(17),
+        "task 1 1 1 1\n".repeat(129),
+    ];
+    let many = many.map(|lines| format!("granule G\n{lines}partition 16 1/16\n"));
+    let tables = WITH_A_GRANULE.map(String::from).into_iter().chain(many);
+    let tables: Vec<String> = tables.collect();
+    let plain = granules::all().map(|granule| granule.to_string());
+    let words = plain.chain(NEARLY_GRANULES.map(String::from));
+    let cases = words.flat_map(|word| tables.iter().map(move |lines| lines.replace('G', &word)));
+    for text in trial.each(cases) {
+        seen.note(&compare(trial, text.as_bytes()));
+    }
+    seen.share(trial, &EXPECTED[1..3], [1, 20]);
+    let refusals = [3, 6, 7, 10, 11, 21].map(|number| format!("refused {number}"));
+    seen.share(trial, &refusals, [1, 100]);
+    seen.share(trial, &["a plan"], [1, 50]);
+}
+
+/// A text just long enough and a byte too long, with a granule that is refused.
+fn granule_in_a_long_text(trial: &mut Trial) {
+    for granule in trial.each(["1", "17", "x"]) {
+        for bytes in [TEXT, TEXT + 1] {
+            let said = format!("granule {granule}\npartition 8 1/8\n#");
+            let mut text = said.into_bytes();
+            text.resize(bytes, b' ');
+            compare_in_pieces(trial, &text, WHOLE, WHOLE);
+        }
+    }
+}
+
 /// So many partitions and tasks; the first owns every second tick, so that each run is one tick.
 fn many(partitions: usize, tasks: usize) -> ShareTable {
     let mut parts = [4096, 1, 1000].repeat(partitions);
     if let [cycle, _, den, ..] = &mut parts[..] {
         [*cycle, *den] = [2, 2];
     }
-    let tasks = [1, 1, 2, 4096].repeat(tasks);
-    ShareTable { parts, tasks }
+    ShareTable {
+        granule: None,
+        parts,
+        tasks: [1, 1, 2, 4096].repeat(tasks),
+    }
 }
 
 fn at_the_limits(trial: &mut Trial) {
@@ -243,8 +347,13 @@ fn at_the_limits(trial: &mut Trial) {
         for tasks in [0, 1, 127, 128, 129, 130, 255, 256, 257, 384] {
             let text = texts::plain(&many(partitions, tasks));
             longest = longest.max(compare(trial, &text).len());
-            // A wrong line comes first, a bad record last.
-            for line in ["partition 4 1", "partition 0 1/1", "task 1 2 1 1"] {
+            // A wrong line comes first, a granule behind too many records, a bad record last.
+            for line in [
+                "partition 4 1",
+                "partition 0 1/1",
+                "task 1 2 1 1",
+                "granule 17",
+            ] {
                 compare(trial, &[&text[..], line.as_bytes()].concat());
                 compare(trial, &[line.as_bytes(), b"\n", &text[..]].concat());
             }
@@ -255,10 +364,10 @@ fn at_the_limits(trial: &mut Trial) {
 
 /// A good table filled up to so many bytes: before a word, behind one, within one, in a line of
 /// its own, at the end.
-const PLACES: [usize; 8] = [0, 9, 10, 11, 12, 15, 16, 29];
+const PLACES: [usize; 9] = [0, 7, 8, 9, 19, 20, 21, 25, 39];
 
 fn filled(bytes: usize, filler: u8, place: usize) -> Vec<u8> {
-    let (before, behind) = b"partition 8 1/4\ntask 1 1 8 8\n".split_at(place);
+    let (before, behind) = b"granule 2\npartition 8 1/4\ntask 1 1 8 8\n".split_at(place);
     let more = bytes - before.len() - behind.len();
     [before, &vec![filler; more], behind].concat()
 }
