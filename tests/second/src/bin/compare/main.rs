@@ -7,6 +7,7 @@ mod counts;
 mod curve;
 mod desk;
 mod file;
+mod granules;
 mod library;
 mod listing;
 mod plan;
@@ -41,6 +42,7 @@ fn trials() -> Vec<Named> {
         curve::TRIALS,
         build::TRIALS,
         verdict::TRIALS,
+        granules::TRIALS,
         file::TRIALS,
         listing::TRIALS,
         desk::TRIALS,
