@@ -271,7 +271,7 @@ const NEARLY_GRANULES: [&str; 17] = [
 ];
 
 /// Where the line stands, and what else is wrong.
-const WITH_A_GRANULE: [&str; 19] = [
+const WITH_A_GRANULE: [&str; 20] = [
     "granule G",
     "granule G\npartition 96 1/100\npartition 96 1/3\n",
     "# first\n\n\tgranule G\r\npartition 16 1/100",
@@ -286,6 +286,7 @@ const WITH_A_GRANULE: [&str; 19] = [
     "granule G\ntask 1 1 96 96\ngranule 2\npartition 96 1/3\n",
     "granule 17\ngranule G\n",
     "granule 2\npartition 96 1/3\ngranule G",
+    "granule 2\ngranule G\nnor this",
     // Another wrong line, then 3, 6, 7, 10 and 11.
     "granule G\npartition 96 1/3\ngranule\n",
     "granule G\ntask 1 1 96 96\n",
