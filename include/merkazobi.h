@@ -39,6 +39,9 @@ extern "C" {
 #define MERKAZOBI_SHARE 1000
 #define MERKAZOBI_PERIOD 4096
 
+/* "g from 1 to 16": the granule of a call. Ticks are wanted in multiples of it; 1 asks for whole ticks and no more. */
+#define MERKAZOBI_GRANULE_TICKS 16
+
 /* The desk: "64 jobs; times and budgets up to 1,000,000". */
 #define MERKAZOBI_PLACES 64
 #define MERKAZOBI_TIME 1000000
@@ -48,7 +51,7 @@ extern "C" {
    and 1/2, are lent as
 
        const uint16_t parts[] = {4, 1, 4, 4, 1, 2};
-       merkazobi_build(parts, 6, out, MERKAZOBI_FRAME);
+       merkazobi_build(1, parts, 6, out, MERKAZOBI_FRAME);
 
    A length that is no whole number of records is refused with 3. A plan is the owner of each tick, 0 for idle: its
    length is the frame. The length of a file or a text counts bytes, that of a job table places. */
@@ -76,7 +79,7 @@ extern "C" {
 #define MERKAZOBI_LIST_STACK 81920
 
 /* The refusal numbers. Where several rules are broken the lowest number is told, then the lowest place; place 0, which is
-   of no record, comes after all others of its number. */
+   of no record, comes after all others of its number, and 21 comes after 3 and before 6. */
 enum {
     MERKAZOBI_GOOD = 0,
     MERKAZOBI_FILE_SHORT = 1, /* file under 16 bytes */
@@ -100,6 +103,7 @@ enum {
     MERKAZOBI_NO_PLACE = 18,  /* no place keeps every deadline */
     MERKAZOBI_TOO_FAR = 19,   /* a move would exceed a job's x: proved never to happen */
     MERKAZOBI_COUNTS = 20,    /* the running counts disagree with the plan */
+    MERKAZOBI_GRANULE = 21,   /* the granule is not from 1 to 16 */
     MERKAZOBI_STRETCH = 26    /* a tick outside the plan, a start not below the frame, or a stretch longer than it;
                                  second: of many questions the place from 1 */
 };
@@ -114,10 +118,17 @@ typedef struct {
     size_t fourth;
 } merkazobi_answer;
 
-/* ---- Shares and plans. Refusals 1 to 12 change no output; a success changes only what it needs. */
+/* ---- Shares and plans. Refusals 1 to 12 and 21 change no output; a success changes only what it needs.
 
-/* "q = num*m/den, rounded up to a whole number": the ticks that a share wants in a cycle of m. 0 where den is 0. */
-size_t merkazobi_wants(uint16_t m, uint16_t num, uint16_t den);
+   Boxes that switch only at multiples of g ticks of service in a cycle give g as the granule, all others 1. It sizes the
+   share and no more: windows need not start on it. A plan is checked, and its tasks are judged, with the granule that it
+   was built with; one that serves with any granule serves with 1 too. The plan file doesn't carry it: merkazobi_list
+   judges with 1. A granule is taken as it is given, in its whole width: what is not from 1 to 16 is refused with 21. */
+
+/* "the smallest multiple of g that is at least num*m/den": the ticks q that a share wants in a cycle of m. With granule 1
+   it is num*m/den rounded up. Nothing is refused: any granule is taken, and 0 answered where it or den is 0. For a
+   granule above m it can be more than m, and then no plan serves. */
+size_t merkazobi_wants(size_t granule, uint16_t m, uint16_t num, uint16_t den);
 
 /* The ticks of partition p in the n ticks of the repeated plan from tick s on; ticks is the plan's length. For p 0 it
    counts idle ticks. Of an empty plan every tick is idle. */
@@ -134,26 +145,30 @@ merkazobi_answer merkazobi_curve(const uint16_t *plan, size_t ticks, uint16_t p,
 
 /* The builder: "Take partitions by rising cycle, equal cycles by place. In each cycle, counted from tick 0, give the
    partition its q earliest idle ticks." first: the frame, the largest cycle. part_numbers is 3 for each partition;
-   out_ticks is how many ticks out has, MERKAZOBI_FRAME is always enough. Refusals 3, 6, 10, 11, 12. */
-merkazobi_answer merkazobi_build(const uint16_t *parts, size_t part_numbers, uint16_t *out, size_t out_ticks);
+   out_ticks is how many ticks out has, MERKAZOBI_FRAME is always enough. Refusals 3, 21, 6, 10, 11, 12, in
+   this order; 11 exactly where the sum of q*H/m is above the frame H, so too where any q is above its m. */
+merkazobi_answer merkazobi_build(size_t granule, const uint16_t *parts, size_t part_numbers, uint16_t *out,
+                                 size_t out_ticks);
 
 /* The checker: whether "every stretch of m consecutive ticks of the repeated plan, from any start and across the frame's
    end too, holds at least q ticks of that partition". ticks is the frame, part_numbers is 3 for each partition.
-   Refusals 3, 6, 8, 9; an empty plan is 3. */
-merkazobi_answer merkazobi_check(const uint16_t *plan, size_t ticks, const uint16_t *parts, size_t part_numbers);
+   Refusals 3, 21, 6, 8, 9; an empty plan is 3. A q above its m is 9 at start 0 of that partition, unless a lower one
+   falls short. */
+merkazobi_answer merkazobi_check(size_t granule, const uint16_t *plan, size_t ticks, const uint16_t *parts,
+                                 size_t part_numbers);
 
 /* The verdict for the task at a place counted from 1: "Task i passes exactly when demand(t) <= least(t) for some t from 1
    to D." first: the smallest scheduling point that holds, or 0 where the task fails. ticks is the frame, part_numbers
-   is 3 for each partition, task_numbers 4 for each task. Refusals 3, 6, 7, 8, 9; "a place outside the table is 7 with
+   is 3 for each partition, task_numbers 4 for each task. Refusals 3, 21, 6, 7, 8, 9; "a place outside the table is 7 with
    place 0, after the other 7s". */
-merkazobi_answer merkazobi_verdict(const uint16_t *plan, size_t ticks, const uint16_t *parts, size_t part_numbers,
-                                   const uint16_t *tasks, size_t task_numbers, size_t place);
+merkazobi_answer merkazobi_verdict(size_t granule, const uint16_t *plan, size_t ticks, const uint16_t *parts,
+                                   size_t part_numbers, const uint16_t *tasks, size_t task_numbers, size_t place);
 
 /* The same by the plain engine: "every tick t from 1 to D, no scheduling points". Lent, asked and refused as the verdict;
    it passes, fails and refuses exactly where that does. first: the smallest tick that holds, which is never above the
    scheduling point and may be below it, or 0 where the task fails. */
-merkazobi_answer merkazobi_plain(const uint16_t *plan, size_t ticks, const uint16_t *parts, size_t part_numbers,
-                                 const uint16_t *tasks, size_t task_numbers, size_t place);
+merkazobi_answer merkazobi_plain(size_t granule, const uint16_t *plan, size_t ticks, const uint16_t *parts,
+                                 size_t part_numbers, const uint16_t *tasks, size_t task_numbers, size_t place);
 
 /* ---- Running counts kept beside the plan: "for each partition the count of own ticks before each tick from 0 to F, in a
    list the caller lends", partition by partition. Partition p's count before tick k stands at (p - 1) * (F + 1) + k, so

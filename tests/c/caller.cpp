@@ -18,13 +18,13 @@ static const char listing[] = "frame 8\n"
 int main()
 {
     uint16_t plan[MERKAZOBI_FRAME];
-    const size_t frame = merkazobi_build(parts, 9, plan, MERKAZOBI_FRAME).first;
+    const size_t frame = merkazobi_build(1, parts, 9, plan, MERKAZOBI_FRAME).first;
     expect("P1", frame, 8);
-    expect("accepted", merkazobi_check(plan, frame, parts, 9).number, MERKAZOBI_GOOD);
-    expect("V1", merkazobi_verdict(plan, frame, parts, 9, tasks, 8, 1).first, 8);
-    expect("V2", merkazobi_verdict(plan, frame, parts, 9, tasks, 8, 2).first, 0);
-    expect("V1, tick by tick", merkazobi_plain(plan, frame, parts, 9, tasks, 8, 1).first, 7);
-    expect("V2, tick by tick", merkazobi_plain(plan, frame, parts, 9, tasks, 8, 2).first, 0);
+    expect("accepted", merkazobi_check(1, plan, frame, parts, 9).number, MERKAZOBI_GOOD);
+    expect("V1", merkazobi_verdict(1, plan, frame, parts, 9, tasks, 8, 1).first, 8);
+    expect("V2", merkazobi_verdict(1, plan, frame, parts, 9, tasks, 8, 2).first, 0);
+    expect("V1, tick by tick", merkazobi_plain(1, plan, frame, parts, 9, tasks, 8, 1).first, 7);
+    expect("V2, tick by tick", merkazobi_plain(1, plan, frame, parts, 9, tasks, 8, 2).first, 0);
 
     static uint8_t file[MERKAZOBI_FILE_BYTES];
     static uint8_t text[MERKAZOBI_LISTING_BYTES];

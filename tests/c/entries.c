@@ -71,11 +71,24 @@ static void begin(void)
 
 static void wants(void)
 {
-    expect("wants, P1", merkazobi_wants(8, 3, 8), 3);
-    expect("wants, P1 rounded up", merkazobi_wants(8, 1, 100), 1);
-    expect("wants", merkazobi_wants(8, 3, 5), 5);
-    expect("wants, the longest cycle", merkazobi_wants(4096, 999, 1000), 4092);
-    expect("wants, den 0", merkazobi_wants(8, 3, 0), 0);
+    expect("wants, P1", merkazobi_wants(1, 8, 3, 8), 3);
+    expect("wants, P1 rounded up", merkazobi_wants(1, 8, 1, 100), 1);
+    expect("wants", merkazobi_wants(1, 8, 3, 5), 5);
+    expect("wants, the longest cycle", merkazobi_wants(1, 4096, 999, 1000), 4092);
+    expect("wants, den 0", merkazobi_wants(1, 8, 3, 0), 0);
+}
+
+static void wants_in_granules(void)
+{
+    expect("wants, P1 in granules of 2", merkazobi_wants(2, 8, 3, 8), 4);
+    expect("wants, a whole number of them", merkazobi_wants(3, 8, 3, 8), 3);
+    expect("wants, 25 sixths by 4", merkazobi_wants(4, 10, 5, 12), 8);
+    expect("wants, a granule above the cycle", merkazobi_wants(16, 4, 1, 4), 16);
+    expect("wants, no granule", merkazobi_wants(0, 8, 3, 8), 0);
+    expect("wants, a granule past the limit", merkazobi_wants(65537, 8, 3, 8), 65537);
+    expect("wants, the widest granule", merkazobi_wants(SIZE_MAX, 65535, 65535, 1), SIZE_MAX);
+    expect("wants, the most", merkazobi_wants(1, 65535, 65535, 1), (size_t)65535 * 65535);
+    expect("wants, the widest granule of nothing", merkazobi_wants(SIZE_MAX, 8, 0, 8), 0);
 }
 
 static void service(void)
@@ -120,9 +133,14 @@ static void curves(void)
     ends("curve of no plan's idle ticks", merkazobi_curve(NULL, 0, 0, 2, lent.curve, 3), told(0, 3));
 }
 
+static merkazobi_answer build_by(size_t granule, size_t part_numbers, size_t ticks)
+{
+    return merkazobi_build(granule, lent.parts, part_numbers, lent.ticks, ticks);
+}
+
 static merkazobi_answer build(size_t part_numbers, size_t ticks)
 {
-    return merkazobi_build(lent.parts, part_numbers, lent.ticks, ticks);
+    return build_by(1, part_numbers, ticks);
 }
 
 static void builds(void)
@@ -153,9 +171,14 @@ static void build_refusals(void)
     ends("build, 6", build(PARTS, TICKS), told(6, 2));
 }
 
+static merkazobi_answer check_by(size_t granule, size_t ticks, size_t part_numbers)
+{
+    return merkazobi_check(granule, lent.plan, ticks, lent.parts, part_numbers);
+}
+
 static merkazobi_answer check(size_t ticks, size_t part_numbers)
 {
-    return merkazobi_check(lent.plan, ticks, lent.parts, part_numbers);
+    return check_by(1, ticks, part_numbers);
 }
 
 static void checks(void)
@@ -179,11 +202,11 @@ static void checks(void)
 }
 
 /* Either engine. */
-typedef merkazobi_answer engine(const uint16_t *, size_t, const uint16_t *, size_t, const uint16_t *, size_t, size_t);
+typedef merkazobi_answer engine(size_t, const uint16_t *, size_t, const uint16_t *, size_t, const uint16_t *, size_t, size_t);
 
 static merkazobi_answer judged(engine *judge, size_t task_numbers, size_t place)
 {
-    return judge(lent.plan, TICKS, lent.parts, PARTS, lent.tasks, task_numbers, place);
+    return judge(1, lent.plan, TICKS, lent.parts, PARTS, lent.tasks, task_numbers, place);
 }
 
 /* v1 and v2: where the tasks of V1 and V2 pass. */
@@ -207,9 +230,71 @@ static void verdicts(const char *name, engine *judge, size_t v1, size_t v2)
     begin();
     PUT(plan, short_plan);
     PUT(parts, short_parts);
-    ends("verdict, 9", judge(lent.plan, 10, lent.parts, 6, lent.tasks, TASKS, 1), (merkazobi_answer){9, 2, 3, 4, 5});
+    ends("verdict, 9", judge(1, lent.plan, 10, lent.parts, 6, lent.tasks, TASKS, 1), (merkazobi_answer){9, 2, 3, 4, 5});
     if (failures > before)
         printf("so answered %s\n", name);
+}
+
+/* ---- Granules. */
+
+static const size_t no_granules[] = {0, 17, 65537, (size_t)1 << 32, ((size_t)1 << 32) + 1, SIZE_MAX};
+enum { NO_GRANULES = sizeof no_granules / sizeof *no_granules };
+
+/* P1's table in granules of 2: 2, 4 and 2 ticks, and 2 * 2 + 4 + 2 is 10. Without the third partition 8 of 8. */
+static void granules(void)
+{
+    static const uint16_t in_twos[] = {1, 1, 2, 2, 1, 1, 2, 2};
+    begin();
+    ends("P1 in granules of 2", build_by(2, PARTS, TICKS), told(11, 0));
+    memcpy(wanted.ticks, in_twos, sizeof in_twos);
+    ends("two partitions in granules of 2", build_by(2, 6, TICKS), told(0, 8));
+    ends("P1 checked in granules of 2", check_by(2, TICKS, PARTS), (merkazobi_answer){9, 1, 0, 1, 2});
+    ends("a granule above the cycle", check_by(5, TICKS, PARTS), (merkazobi_answer){9, 1, 0, 1, 5});
+    ends("a granule above the cycle, built", build_by(5, 3, TICKS), told(11, 0));
+    PUT(plan, in_twos);
+    ends("checked with the same granule", check_by(2, TICKS, 6), told(0, 0));
+    ends("checked with 1", check_by(1, TICKS, 6), told(0, 0));
+    ends("checked with another", check_by(3, TICKS, 6), (merkazobi_answer){9, 1, 0, 2, 3});
+}
+
+/* "g outside 1 to 16 is 21, after 3, and changes no output byte": before 6, 7, 8, 9 and 12, in its whole width. */
+static void granule_refusals(engine *judge)
+{
+    for (size_t i = 0; i < NO_GRANULES; i++) {
+        const size_t g = no_granules[i];
+        begin();
+        SET(parts[4], 0), SET(plan[5], 9), SET(tasks[5], 0);
+        ends("build, 21", build_by(g, PARTS, 0), told(21, 0));
+        ends("build, 3 before 21", build_by(g, 0, TICKS), told(3, 0));
+        ends("check, 21", check_by(g, TICKS, PARTS), told(21, 0));
+        ends("check, 3 before 21", check_by(g, 0, PARTS), told(3, 0));
+        ends("verdict, 21", judge(g, lent.plan, TICKS, lent.parts, PARTS, lent.tasks, TASKS, 0), told(21, 0));
+        ends("verdict, 3 before 21", judge(g, lent.plan, TICKS, lent.parts, PARTS, lent.tasks, 1, 1), told(3, 0));
+    }
+}
+
+/* The verdict of a plan that serves in granules of 2, and of one that doesn't. */
+static void granule_verdicts(engine *judge)
+{
+    begin();
+    const merkazobi_answer nine = judge(2, lent.plan, TICKS, lent.parts, PARTS, lent.tasks, TASKS, 1);
+    ends("a verdict in granules of 2", nine, (merkazobi_answer){9, 1, 0, 1, 2});
+    PUT(plan, ((uint16_t[]){1, 1, 2, 2, 1, 1, 2, 2}));
+    const merkazobi_answer by_2 = judge(2, lent.plan, TICKS, lent.parts, 6, lent.tasks, TASKS, 1);
+    ends("as with 1", by_2, judge(1, lent.plan, TICKS, lent.parts, 6, lent.tasks, TASKS, 1));
+    expect("not refused", by_2.number, 0);
+}
+
+/* The largest sum: fifteen partitions of cycle 1 want 16 of every tick, 15 * 16 * 4,096 + 4,096 together, which is
+   4,096 again in 16 bits. */
+static void largest_sum(void)
+{
+    uint16_t table[16 * 3], out[1] = {7};
+    for (size_t i = 0; i < 16; i++)
+        memcpy(&table[3 * i], (uint16_t[]){i < 15 ? 1 : 4096, 1, 1}, 6);
+    const merkazobi_answer most = merkazobi_build(16, table, 48, out, 1);
+    expect("the largest sum", most.number, 11);
+    expect("no output", out[0], 7);
 }
 
 /* ---- The plan file. */
@@ -444,6 +529,7 @@ static void requests_that_drop(void)
 int main(void)
 {
     wants();
+    wants_in_granules();
     service();
     curves();
     builds();
@@ -451,6 +537,12 @@ int main(void)
     checks();
     verdicts("merkazobi_verdict", merkazobi_verdict, 8, 14);
     verdicts("merkazobi_plain", merkazobi_plain, 7, 14);
+    granules();
+    granule_refusals(merkazobi_verdict);
+    granule_refusals(merkazobi_plain);
+    granule_verdicts(merkazobi_verdict);
+    granule_verdicts(merkazobi_plain);
+    largest_sum();
     reads();
     writes();
     write_refusals();

@@ -49,14 +49,14 @@ static void fill(void)
 static size_t built(uint16_t cycle, uint16_t num, uint16_t den)
 {
     static uint16_t out[FRAME];
-    return merkazobi_build((uint16_t[]){cycle, num, den}, 3, out, FRAME).number;
+    return merkazobi_build(1, (uint16_t[]){cycle, num, den}, 3, out, FRAME).number;
 }
 
 static size_t judged(uint16_t c, uint16_t d, uint16_t t)
 {
     const uint16_t task[] = {1, c, d, t};
-    const size_t number = merkazobi_verdict(plan, FRAME, parts, PARTS, task, 4, 1).number;
-    expect("the plain engine's number", merkazobi_plain(plan, FRAME, parts, PARTS, task, 4, 1).number, number);
+    const size_t number = merkazobi_verdict(1, plan, FRAME, parts, PARTS, task, 4, 1).number;
+    expect("the plain engine's number", merkazobi_plain(1, plan, FRAME, parts, PARTS, task, 4, 1).number, number);
     return number;
 }
 
@@ -102,13 +102,15 @@ static size_t asked(uint32_t t, uint32_t c, uint32_t d)
 
 static void limits(void)
 {
-    expect("partitions and a frame", merkazobi_check(plan, FRAME, parts, PARTS).number, MERKAZOBI_GOOD);
-    expect("a partition more", merkazobi_check(plan, FRAME, parts, PARTS + 3).number, MERKAZOBI_LIMITS);
-    expect("a tick more", merkazobi_check(plan, FRAME + 1, parts, PARTS).number, MERKAZOBI_LIMITS);
+    expect("partitions and a frame", merkazobi_check(1, plan, FRAME, parts, PARTS).number, MERKAZOBI_GOOD);
+    expect("a partition more", merkazobi_check(1, plan, FRAME, parts, PARTS + 3).number, MERKAZOBI_LIMITS);
+    expect("a tick more", merkazobi_check(1, plan, FRAME + 1, parts, PARTS).number, MERKAZOBI_LIMITS);
     expect("cycle", built(MERKAZOBI_CYCLE, 1, 1), MERKAZOBI_GOOD);
     expect("a longer cycle", built(MERKAZOBI_CYCLE + 1, 1, 1), MERKAZOBI_PARTITION);
     expect("share", built(4, 1, MERKAZOBI_SHARE), MERKAZOBI_GOOD);
     expect("a finer share", built(4, 1, MERKAZOBI_SHARE + 1), MERKAZOBI_PARTITION);
+    expect("granule", merkazobi_check(MERKAZOBI_GRANULE_TICKS, plan, FRAME, parts, PARTS).number, MERKAZOBI_SERVICE);
+    expect("a larger granule", merkazobi_check(MERKAZOBI_GRANULE_TICKS + 1, plan, FRAME, parts, PARTS).number, MERKAZOBI_GRANULE);
     expect("period", judged(1, 16, MERKAZOBI_PERIOD), MERKAZOBI_GOOD);
     expect("a longer period", judged(1, 16, MERKAZOBI_PERIOD + 1), MERKAZOBI_TASK);
     expect("the longest file", written(FRAME, PARTS, TASKS, RUNS, sizeof file), MERKAZOBI_GOOD);
@@ -164,11 +166,11 @@ static void refusals(void)
     expect("another offset", merkazobi_read(file, sizeof file).number, MERKAZOBI_OFFSET);
     file[1]++;
     expect("another edition", merkazobi_read(file, sizeof file).number, MERKAZOBI_EDITION);
-    expect("an owner not in the table", merkazobi_check(plan, FRAME, parts, 3).number, MERKAZOBI_RUN);
-    expect("P3", merkazobi_build(third, 9, out, 8).number, MERKAZOBI_TICKS);
-    expect("P4", merkazobi_build((uint16_t[]){4, 1, 1, 6, 1, 1}, 6, out, 8).number, MERKAZOBI_HARMONIC);
+    expect("an owner not in the table", merkazobi_check(1, plan, FRAME, parts, 3).number, MERKAZOBI_RUN);
+    expect("P3", merkazobi_build(1, third, 9, out, 8).number, MERKAZOBI_TICKS);
+    expect("P4", merkazobi_build(1, (uint16_t[]){4, 1, 1, 6, 1, 1}, 6, out, 8).number, MERKAZOBI_HARMONIC);
     const uint16_t p5[] = {1, 1, 0, 0, 0, 0, 1, 1};
-    const merkazobi_answer short_at_1 = merkazobi_check(p5, 8, (uint16_t[]){4, 1, 2}, 3);
+    const merkazobi_answer short_at_1 = merkazobi_check(1, p5, 8, (uint16_t[]){4, 1, 2}, 3);
     expect("P5", short_at_1.number, MERKAZOBI_SERVICE);
     expect("P5 start", short_at_1.second, 1);
     opened(PLACES, PLACES);
@@ -183,11 +185,11 @@ static void refusals(void)
 
 static void nulls(void)
 {
-    expect("null plan", merkazobi_check(NULL, 0, parts, PARTS).number, MERKAZOBI_LIMITS);
-    expect("null table", merkazobi_build(NULL, 0, NULL, 0).number, MERKAZOBI_LIMITS);
-    expect("null output", merkazobi_build(parts, 3, NULL, 0).number, MERKAZOBI_OUTPUT);
-    expect("null tasks", merkazobi_verdict(plan, FRAME, parts, PARTS, NULL, 0, 1).number, MERKAZOBI_TASK);
-    expect("null tasks, plain", merkazobi_plain(plan, FRAME, parts, PARTS, NULL, 0, 1).number, MERKAZOBI_TASK);
+    expect("null plan", merkazobi_check(1, NULL, 0, parts, PARTS).number, MERKAZOBI_LIMITS);
+    expect("null table", merkazobi_build(1, NULL, 0, NULL, 0).number, MERKAZOBI_LIMITS);
+    expect("null output", merkazobi_build(1, parts, 3, NULL, 0).number, MERKAZOBI_OUTPUT);
+    expect("null tasks", merkazobi_verdict(1, plan, FRAME, parts, PARTS, NULL, 0, 1).number, MERKAZOBI_TASK);
+    expect("null tasks, plain", merkazobi_plain(1, plan, FRAME, parts, PARTS, NULL, 0, 1).number, MERKAZOBI_TASK);
     expect("null file", merkazobi_read(NULL, 0).number, MERKAZOBI_FILE_SHORT);
     expect("null part", merkazobi_section(NULL, 0, 0).number, MERKAZOBI_FILE_SHORT);
     expect("null listing", merkazobi_list(NULL, 0, NULL, 0).number, MERKAZOBI_OUTPUT);
@@ -230,8 +232,8 @@ enum {
     CURVE_STACK = 192,
     BUILD_STACK = 256,
     CHECK_STACK = 320,
-    VERDICT_STACK = 33408,
-    PLAIN_STACK = 33408,
+    VERDICT_STACK = 33472,
+    PLAIN_STACK = 33472,
     COUNTS_FILL_STACK = 256,
     COUNTS_HELD_STACK = 704,
     COUNTS_HELD_MANY_STACK = 704,
@@ -292,14 +294,14 @@ static void count_stack(void)
 
 static void stack(void)
 {
-    STACK(WANTS_STACK, MERKAZOBI_STACK, merkazobi_wants(4096, 999, 1000));
+    STACK(WANTS_STACK, MERKAZOBI_STACK, merkazobi_wants(MERKAZOBI_GRANULE_TICKS, 4096, 999, 1000));
     STACK(HELD_STACK, MERKAZOBI_STACK, merkazobi_held(plan, FRAME, 1, 7, UINT32_MAX));
     STACK(LEAST_STACK, MERKAZOBI_STACK, merkazobi_least(plan, FRAME, 1, UINT32_MAX));
     STACK(CURVE_STACK, MERKAZOBI_STACK, merkazobi_curve(plan, FRAME, 1, MERKAZOBI_PERIOD, curve, MERKAZOBI_CURVE_NUMBERS));
-    STACK(BUILD_STACK, MERKAZOBI_STACK, merkazobi_build(parts, PARTS, plan, FRAME));
-    STACK(CHECK_STACK, MERKAZOBI_STACK, merkazobi_check(plan, FRAME, parts, PARTS));
-    STACK(VERDICT_STACK, MERKAZOBI_VERDICT_STACK, merkazobi_verdict(plan, FRAME, parts, PARTS, tasks, TASKS, MERKAZOBI_TASKS));
-    STACK(PLAIN_STACK, MERKAZOBI_VERDICT_STACK, merkazobi_plain(plan, FRAME, parts, PARTS, tasks, TASKS, MERKAZOBI_TASKS));
+    STACK(BUILD_STACK, MERKAZOBI_STACK, merkazobi_build(1, parts, PARTS, plan, FRAME));
+    STACK(CHECK_STACK, MERKAZOBI_STACK, merkazobi_check(1, plan, FRAME, parts, PARTS));
+    STACK(VERDICT_STACK, MERKAZOBI_VERDICT_STACK, merkazobi_verdict(1, plan, FRAME, parts, PARTS, tasks, TASKS, MERKAZOBI_TASKS));
+    STACK(PLAIN_STACK, MERKAZOBI_VERDICT_STACK, merkazobi_plain(1, plan, FRAME, parts, PARTS, tasks, TASKS, MERKAZOBI_TASKS));
     STACK(WRITE_STACK, MERKAZOBI_STACK,
           merkazobi_write(FRAME, parts, PARTS, tasks, TASKS, runs, RUNS, file, sizeof file));
     STACK(READ_STACK, MERKAZOBI_READ_STACK, merkazobi_read(file, sizeof file));
