@@ -139,7 +139,7 @@ fi
 ends "a refusal" 1 "refused 2" ./box list README.md
 is "a refusal prints nothing" "$(cat "$made/out")" ""
 printf 'partition 4 1/4\npartitoin 8 3/8\n' >"$made/typing.shares"
-ends "a typing error" 1 "line 2: expected \`partition\` or \`task\`" ./box plan "$made/typing.shares" "$made/typing.plan"
+ends "a typing error" 1 "line 2: expected \`granule\`, \`partition\` or \`task\`" ./box plan "$made/typing.shares" "$made/typing.plan"
 is "no plan of a typing error" "$(ls "$made/typing.plan" 2>/dev/null)" ""
 ends "a share table listed" 1 "refused 2
 box: $table is a share table: *" ./box list "$table"

@@ -30,6 +30,12 @@ is "overlong" "$({ cat samples/w1.plan; head -c 20000 /dev/zero; } | listed)" "r
 
 ends "plan cabin" 0 '' ./box plan samples/cabin.shares "$made/cabin.plan"
 same "plan cabin" "$made/cabin.plan" samples/cabin.plan
+ends "plan in granules of two" 0 '' ./box plan samples/twos.shares "$made/twos.plan"
+ends "list it, with whole ticks" 0 '' ./box list "$made/twos.plan"
+same "list it, with whole ticks" "$made/out" samples/twos.txt
+is "granule 17" "$(sed 's/^granule 2/granule 17/' samples/twos.shares | planned)" "refused 21"
+is "granules of four" "$(sed 's/^granule 2/granule 4/' samples/twos.shares | planned)" "refused 11"
+is "a second granule" "$({ cat samples/twos.shares && echo granule 2; } | planned)" "line 8: expected \`granule\` once, before the partitions"
 ends "plan full" 1 "$(cat samples/full.txt)" ./box plan samples/full.shares "$made/full.plan"
 is "no file for a refusal" "$(ls "$made/full.plan" 2>/dev/null)" ""
 

@@ -7,6 +7,7 @@ use second::records::{Partition, Task};
 use second::{file, ticks, Answer};
 
 use crate::page;
+use crate::walk;
 
 /// The higher tasks of the same partition.
 fn rivals(tasks: &[Task], place: usize) -> impl Iterator<Item = &Task> {
@@ -46,7 +47,7 @@ pub fn list(
     let plan = ticks::of_runs(&file.runs);
     let mut of_cycle = |(partition, p): (&Partition, u16)| least(&plan, p, partition.m());
     let cycles = || file.partitions.iter().zip(1..);
-    if !cycles().all(|one| of_cycle(one) >= one.0.wants()) {
+    if !cycles().all(|one| of_cycle(one) >= walk::wants(one.0)) {
         return Err(Answer::refused(9));
     }
     let leasts: Vec<u64> = cycles().map(of_cycle).collect();

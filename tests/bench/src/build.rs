@@ -2,7 +2,7 @@
 
 use second::builder;
 
-use crate::library;
+use crate::library::{self, GRANULE};
 use crate::timing::line;
 
 pub fn run() {
@@ -14,6 +14,6 @@ pub fn run() {
     line(
         "build 16 x 4096",
         || (library::build(&parts, &mut ours), ours.clone()),
-        || (builder::build(&parts, &mut theirs), theirs.clone()),
+        || (builder::build(GRANULE, &parts, &mut theirs), theirs.clone()),
     );
 }

@@ -6,6 +6,9 @@ use second::Answer;
 #[cfg(not(target_arch = "x86_64"))]
 compile_error!("the archive is for x86-64, and a time under an emulator means nothing");
 
+/// With which the second program's entries are asked too: whole ticks.
+pub const GRANULE: u64 = 1;
+
 #[link(name = "api", kind = "static")]
 extern "C" {
     fn merkazobi_held(plan: *const u16, ticks: usize, p: u16, s: u32, n: u32) -> usize;
@@ -19,18 +22,21 @@ extern "C" {
         list_numbers: usize,
     ) -> Answer;
     fn merkazobi_build(
+        granule: usize,
         parts: *const u16,
         part_numbers: usize,
         out: *mut u16,
         out_ticks: usize,
     ) -> Answer;
     fn merkazobi_check(
+        granule: usize,
         plan: *const u16,
         ticks: usize,
         parts: *const u16,
         part_numbers: usize,
     ) -> Answer;
     fn merkazobi_verdict(
+        granule: usize,
         plan: *const u16,
         ticks: usize,
         parts: *const u16,
@@ -40,6 +46,7 @@ extern "C" {
         place: usize,
     ) -> Answer;
     fn merkazobi_plain(
+        granule: usize,
         plan: *const u16,
         ticks: usize,
         parts: *const u16,
@@ -93,19 +100,44 @@ pub fn curve(plan: &[u16], p: u16, n: u32, list: &mut [u32]) -> Answer {
 }
 
 pub fn build(parts: &[u16], out: &mut [u16]) -> Answer {
-    unsafe { merkazobi_build(parts.as_ptr(), parts.len(), out.as_mut_ptr(), out.len()) }
+    unsafe {
+        merkazobi_build(
+            GRANULE as usize,
+            parts.as_ptr(),
+            parts.len(),
+            out.as_mut_ptr(),
+            out.len(),
+        )
+    }
 }
 
 pub fn check(plan: &[u16], parts: &[u16]) -> Answer {
-    unsafe { merkazobi_check(plan.as_ptr(), plan.len(), parts.as_ptr(), parts.len()) }
+    unsafe {
+        merkazobi_check(
+            GRANULE as usize,
+            plan.as_ptr(),
+            plan.len(),
+            parts.as_ptr(),
+            parts.len(),
+        )
+    }
 }
 
-type Engine =
-    unsafe extern "C" fn(*const u16, usize, *const u16, usize, *const u16, usize, usize) -> Answer;
+type Engine = unsafe extern "C" fn(
+    usize,
+    *const u16,
+    usize,
+    *const u16,
+    usize,
+    *const u16,
+    usize,
+    usize,
+) -> Answer;
 
 fn judged(engine: Engine, plan: &[u16], parts: &[u16], tasks: &[u16], place: usize) -> Answer {
     unsafe {
         engine(
+            GRANULE as usize,
             plan.as_ptr(),
             plan.len(),
             parts.as_ptr(),

@@ -12,7 +12,7 @@ use second::{ticks, Answer};
 use crate::anew;
 use crate::apart;
 use crate::files::{Shape, FAILING, LATE};
-use crate::library;
+use crate::library::{self, GRANULE};
 use crate::steps;
 use crate::timing::line;
 use crate::walk;
@@ -21,7 +21,7 @@ use crate::walk;
 fn short_deadlines() -> Vec<u8> {
     let mut rng = Rng::new(1);
     let parts = tables::sixteen(&mut rng);
-    let short = plans::serving(&mut rng, &parts, 128).unwrap_or_default();
+    let short = plans::serving(&mut rng, GRANULE, &parts, 128).unwrap_or_default();
     let plan = short.repeat(4096 / short.len());
     let period = |place: u16| 256 + place;
     let task = |place: u16| [1 + place % 16, 2, period(place), period(place)];

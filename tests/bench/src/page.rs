@@ -2,12 +2,14 @@
 
 use second::file::PlanFile;
 
+use crate::walk;
+
 /// `leasts` has each partition's least service of its cycle, `ends` each task's point and tick, or
 /// zeros where it fails.
 pub fn text(file: &PlanFile, leasts: &[u64], ends: &[[u64; 2]]) -> String {
     let mut text = format!("frame {}\n", file.frame);
     for ((partition, least), p) in file.partitions.iter().zip(leasts).zip(1..) {
-        let (wants, m) = (partition.wants(), partition.m());
+        let (wants, m) = (walk::wants(partition), partition.m());
         text += &format!("partition {p} wants {wants} in {m} least {least}\n");
     }
     for ((task, end), place) in file.tasks.iter().zip(ends).zip(1..) {

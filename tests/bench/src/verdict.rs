@@ -6,7 +6,7 @@
 use second::verdict;
 
 use crate::curve::scattered;
-use crate::library;
+use crate::library::{self, GRANULE};
 use crate::steps;
 use crate::timing::line;
 
@@ -42,14 +42,14 @@ pub fn run() {
     for (name, plan, parts, tasks) in cases {
         let library = || library::verdict(&plan, &parts, tasks, 4);
         line(&format!("verdict {name}"), library, || {
-            verdict::verdict(&plan, &parts, tasks, 4)
+            verdict::verdict(GRANULE, &plan, &parts, tasks, 4)
         });
         line(&format!("verdict {name}, same"), library, || {
             steps::verdict(&plan, &parts, tasks, 4)
         });
         let plain = || library::plain(&plan, &parts, tasks, 4);
         line(&format!("plain {name}"), plain, || {
-            verdict::plain(&plan, &parts, tasks, 4)
+            verdict::plain(GRANULE, &plan, &parts, tasks, 4)
         });
         line(&format!("plain {name}, same"), plain, || {
             steps::plain(&plan, &parts, tasks, 4)

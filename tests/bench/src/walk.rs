@@ -43,9 +43,14 @@ pub fn least(plan: &[u16], p: u16, t: usize) -> u64 {
     least
 }
 
+/// "q = num·m/den, rounded up": divided, as the library does, and not counted.
+pub fn wants(partition: &Partition) -> u64 {
+    (u64::from(partition.num) * u64::from(partition.cycle)).div_ceil(partition.den.into())
+}
+
 pub fn serves(plan: &[u16], partitions: &[Partition]) -> Result<(), Answer> {
     for (partition, p) in partitions.iter().zip(1..) {
-        let wanted = partition.wants();
+        let wanted = wants(partition);
         let mut found = Ok(());
         walk(plan, p, partition.m(), |start, held| {
             if held < wanted {
