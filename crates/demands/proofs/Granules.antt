@@ -20,9 +20,9 @@ use Rattle.tables.specs.Tables.{withinLimits, unless, tablesOf}
 use Rattle.tables.proofs.Chain.{tables-3, tables-21, unless-holds}
 use Rattle.theory.specs.Harmonic.{harmonicPlan}
 use Rattle.theory.proofs.Wants.{wants-whole}
-use Rattle.plan_check.specs.Check.{planCheckOf, checkOf}
-use Rattle.plan_build.specs.Build.{laidOf, buildOf}
-use Rattle.task_verdict.specs.Verdict.{placeOf, answerableOf, verdictBy}
+use Rattle.plan_check.specs.Check.{checkOf}
+use Rattle.plan_build.specs.Build.{buildOf}
+use Rattle.task_verdict.specs.Verdict.{answerableOf, verdictBy}
 use Rattle.file_page.specs.Page.{partLine}
 use Rattle.demands.specs.GranuleOne.{wholeTicks, tables01, GranuleOne}
 use Rattle.demands.specs.Demands.{BadGranule}
