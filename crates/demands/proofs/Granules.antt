@@ -1,5 +1,5 @@
 -- Refusal 21, and that granule 1 gives document 01's answers. Assumes nothing.
-use Prim.Native.Nat.{ℕ, _+_, _≤_}
+use Prim.Native.Nat.{ℕ, zero, suc, _+_, _≤_}
 use mathlib.Core.Path.{_≡_, refl, sym, ap, fun-ext, _∙_}
 use mathlib.Core.Logic.{_↔_}
 use mathlib.Core.Bool.{Bool, true, false, true≢false}
@@ -8,6 +8,7 @@ use native.Mathlib.Omega.{arith}
 use borrow.Author.Tests.{le-leb}
 use lib.ListN.{length}
 use Rattle.rules.specs.Limits.{mostGranule}
+use Rattle.rules.specs.Walk.{gathered}
 use Rattle.rules.specs.Table.{cycle, num, den}
 use Rattle.rules.specs.Terms.{goodGranule, granules, usual, wanted}
 use Rattle.rules.specs.Refusals.{told}
@@ -18,12 +19,19 @@ use Rattle.rules.specs.declared.Finding.the-variants as found
 use Rattle.rules.proofs.Tests.{good-granule}
 use Rattle.tables.specs.Tables.{withinLimits, unless, tablesOf}
 use Rattle.tables.proofs.Chain.{tables-3, tables-21, unless-holds}
-use Rattle.theory.specs.Harmonic.{harmonicPlan}
+use Rattle.theory.specs.Harmonic.{frame, harmonicPlan}
 use Rattle.theory.proofs.Wants.{wants-whole}
 use Rattle.plan_check.specs.Check.{checkOf}
 use Rattle.plan_build.specs.Build.{buildOf}
 use Rattle.task_verdict.specs.Verdict.{answerableOf, verdictBy}
+use Rattle.file_write.specs.Writer.{fileOf}
+use Rattle.file_runs.specs.Ticks.{runsOf}
 use Rattle.file_page.specs.Page.{partLine}
+use Rattle.share_line.specs.declared.Row.{Row}
+use Rattle.share_line.specs.declared.Row.the-variants as row
+use Rattle.share_text.specs.declared.Kind.the-variants.{Granules}
+use Rattle.share_text.specs.Table.{rowAt, numsIn, numsAt, recordsOf}
+use Rattle.share_plan.specs.Answer.{writeBuiltOf, writePlanOf, planFile}
 use Rattle.demands.specs.GranuleOne.{wholeTicks, tables01, GranuleOne}
 use Rattle.demands.specs.Demands.{BadGranule}
 
@@ -80,8 +88,21 @@ tables-whole : (frame : ℕ) (ps ts : List ℕ) → tablesOf usual frame ps ts �
 unfolding tablesOf goodGranule
 tables-whole frame ps ts = refl
 
+-- the numbers of a line that gives no granule
+no-number : (r : Row) → ((g : ℕ) → ¬ (r ≡ row.Granule g)) → numsIn Granules r ≡ []
+no-number row.Nothing h = refl
+no-number (row.Granule g) h = absurd (h g refl)
+no-number (row.Partition m n d) h = refl
+no-number (row.Task p c d t) h = refl
+no-number (row.Wrong w) h = refl
+
+no-granule : (t : List ℕ) → ((k g : ℕ) → ¬ (rowAt t k ≡ row.Granule g)) → (n : ℕ) → gathered (numsAt Granules t) n ≡ []
+unfolding gathered numsAt
+no-granule t h zero = refl
+no-granule t h (suc n) = rw (no-granule t h n) (no-number (rowAt t n) (h n))
+
 pub granule-one : GranuleOne
-unfolding checkOf buildOf answerableOf verdictBy partLine
+unfolding checkOf buildOf answerableOf verdictBy recordsOf writePlanOf writeBuiltOf planFile partLine
 granule-one = record {
   of-wants = wants-whole;
   of-tables = tables-whole;
@@ -89,5 +110,8 @@ granule-one = record {
   of-build = λ ps room. rw (tables-whole _ ps [], whole ps);
   of-plan = λ ps. ap (λ (q : ℕ → ℕ). harmonicPlan q ps) (whole ps);
   of-verdicts = λ engine plan ps ts place. rw (tables-whole (length plan) ps ts, whole ps);
+  of-text = λ t h. rw (no-granule t h (length t));
+  of-planner = λ ps ts room. rw (tables-whole _ ps ts);
+  of-file = λ ps ts. ap (λ (q : ℕ → ℕ). fileOf (frame ps) ps ts (runsOf (harmonicPlan q ps))) (whole ps);
   of-lines = λ plan ps k. rw (wants-whole (cycle ps k) (num ps k) (den ps k));
 }

@@ -212,7 +212,7 @@ pub record EachText : Type 0 where
   -- with granule 1 a tick of each of the two is enough, and 12 is next
   pub plan-11-granule : Plans (bytes "granule 2\npartition 2 1/2\npartition 2 1/2") (7 ∷ line) (bytes "refused 11\n") 11
   pub plan-11-none : Plans (bytes "granule 1\npartition 2 1/2\npartition 2 1/2") (7 ∷ line) (bytes "refused 12\n") 11
-  -- "once, before the partitions"
+  -- a granule that comes too late, and one that comes twice
   pub plan-late : Plans (bytes "partition 1 1/1\ngranule 2") late (expectedLine 2 EarlyGranule) 55
   pub plan-twice : Plans (bytes "granule 2\ngranule 2") late (expectedLine 2 EarlyGranule) 55
   pub plan-12 : Plans (bytes "partition 1 1/1") (7 ∷ line) (bytes "refused 12\n") 11

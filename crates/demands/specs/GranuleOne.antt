@@ -6,7 +6,7 @@ use mathlib.Core.List.{List, []}
 use lib.ListN.{length}
 use Rattle.rules.specs.Limits.{longest}
 use Rattle.rules.specs.Walk.{pick, roundUp}
-use Rattle.rules.specs.Table.{cycle, num, den, wants, deadline}
+use Rattle.rules.specs.Table.{cycle, num, den, deadline}
 use Rattle.rules.specs.Terms.{usual, wanted}
 use Rattle.rules.specs.declared.Refusal.the-variants.{Limits}
 use Rattle.rules.specs.declared.Finding.{Finding}
@@ -14,13 +14,19 @@ use Rattle.rules.specs.declared.Finding.the-variants as found
 use Rattle.rules.specs.declared.Filling.the-variants as filling
 use Rattle.tables.specs.Tables.{withinLimits, unless, recordsJudged, tablesOf}
 use Rattle.theory.specs.Plan.{own, least}
-use Rattle.theory.specs.Harmonic.{harmonicPlan}
+use Rattle.theory.specs.Theorems.{WantsWhole}
+use Rattle.theory.specs.Harmonic.{frame, harmonicPlan}
 use Rattle.plan_check.specs.Check.{planCheckOf, checkOf}
 use Rattle.plan_build.specs.Build.{laidOf, buildOf}
 use Rattle.task_verdict.specs.declared.Judged.the-variants as judged
 use Rattle.task_verdict.specs.Verdict.{placeOf, passAt, verdictBy}
+use Rattle.file_write.specs.Writer.{fileOf}
+use Rattle.file_runs.specs.Ticks.{runsOf}
 use Rattle.file_lines.specs.Lines.{partitionLine}
 use Rattle.file_page.specs.Page.{partLine}
+use Rattle.share_line.specs.declared.Row.the-variants.{Granule}
+use Rattle.share_text.specs.Table.{rowAt, granuleOf}
+use Rattle.share_plan.specs.Answer.{writtenBy, writePlanOf, planFile}
 
 -- "A partition with cycle m wants q = num·m/den, rounded up to a whole number."
 abbrev pub wholeTicks : List ℕ → ℕ → ℕ
@@ -31,7 +37,7 @@ abbrev pub tables01 : ℕ → List ℕ → List ℕ → Finding
 tables01 frame ps ts = pick (withinLimits frame (length ps) (length ts)) (recordsJudged frame ps ts) (found.Refused Limits)
 
 pub record GranuleOne : Type 0 where
-  pub of-wants : (m n d : ℕ) → wants 1 m n d ≡ roundUp (n * m) d
+  pub of-wants : WantsWhole
   -- of reader, writer, counts and listing too
   pub of-tables : (frame : ℕ) (ps ts : List ℕ) → tablesOf usual frame ps ts ≡ tables01 frame ps ts
   -- "the checker 3, 6, 8, 9"
@@ -45,6 +51,11 @@ pub record GranuleOne : Type 0 where
       → verdictBy engine usual plan ps ts place
       ≡ unless judged.Refused (unless found.Refused (tables01 (length plan) ps ts) (placeOf (wholeTicks ps) plan ps ts place))
       (passAt (deadline ts (place - 1)) (engine plan ts (place - 1)))
+  -- the planner: a text that gives no granule has granule 1, and of its tables are judged, built and written the same
+  pub of-text : (t : List ℕ) → ((k g : ℕ) → ¬ (rowAt t k ≡ Granule g)) → granuleOf t ≡ 1
+  pub of-planner :
+      (ps ts : List ℕ) (room : ℕ) → writePlanOf usual ps ts room ≡ unless filling.Refused (tables01 longest ps ts) (writtenBy (buildOf usual ps longest) usual ps ts room)
+  pub of-file : (ps ts : List ℕ) → planFile usual ps ts ≡ fileOf (frame ps) ps ts (runsOf (harmonicPlan (wholeTicks ps) ps))
   -- "partition 1 wants 2 in 4 least 2"
   pub of-lines :
       (plan ps : List ℕ) (k : ℕ) → partLine plan ps k ≡ partitionLine (k + 1) (wholeTicks ps k) (cycle ps k) (least own plan (k + 1) (cycle ps k))

@@ -1,6 +1,6 @@
-// The rules that every call shares: limits, tables behind accessors, and why a call refuses.
+// The rules that every call shares: limits, tables behind accessors, the terms of a call, and why it refuses.
 ghost use mathlib.Core.Path.{_≡_};
-ghost use Rattle.rules.specs.Refusals.{told, placed, questioned};
+ghost use Rattle.rules.specs.Refusals.{told, telling, placed, questioned};
 ghost use Rattle.rules.specs.Terms.{usual};
 
 pub mod limits; // limits.rt: every limit and width by name
@@ -91,13 +91,7 @@ pub fn tell(r: Refusal) -> Told
             start,
             held,
             wanted,
-        } => Told {
-            number: 9,
-            first: partition,
-            second: start,
-            third: held,
-            fourth: wanted,
-        },
+        } => telling(9, partition, start, held, wanted),
         Refusal::Unharmonic => numbered(10, 0),
         Refusal::Want => numbered(11, 0),
         Refusal::Output => numbered(12, 0),
@@ -114,27 +108,27 @@ pub fn tell(r: Refusal) -> Told
     }
 }
 
-fn numbered(number: usize, place: usize) -> Told
-    ensures { λ t. ⌜ t ≡ placed number place ⌝ }
+fn telling(number: usize, first: usize, second: usize, third: usize, fourth: usize) -> Told
+    ensures { λ t. ⌜ t ≡ telling number first second third fourth ⌝ }
 {
     Told {
         number,
-        first: place,
-        second: 0,
-        third: 0,
-        fourth: 0,
+        first,
+        second,
+        third,
+        fourth,
     }
+}
+
+fn numbered(number: usize, place: usize) -> Told
+    ensures { λ t. ⌜ t ≡ placed number place ⌝ }
+{
+    telling(number, place, 0, 0, 0)
 }
 
 // Of a question that a call was given, by its place from 1; 0 where the call is one question itself.
 fn questioned(number: usize, question: usize) -> Told
     ensures { λ t. ⌜ t ≡ questioned number question ⌝ }
 {
-    Told {
-        number,
-        first: 0,
-        second: question,
-        third: 0,
-        fourth: 0,
-    }
+    telling(number, 0, question, 0, 0)
 }

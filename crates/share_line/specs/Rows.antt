@@ -55,7 +55,7 @@ recordOf l =
 unfoldable pub rowOf : List ℕ → Row
 rowOf line = recordOf (take (found Comment line) line)
 
--- "once, before the partitions": behind such a line no granule is given
+-- the granule is given once, before the partitions: behind such a line it comes too late
 abbrev pub closes : Row → Bool
 closes Nothing = false
 closes (Granule g) = true

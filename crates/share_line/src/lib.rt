@@ -2,7 +2,8 @@
 pub mod rows; // rows.rt: the record of a line, or what was expected in it first
 pub mod expected; // expected.rt: the line that says what was expected where
 
-// What was expected in a line: one of the three words, a number, `/`, the line's end, or `granule` no later and once.
+// What was expected in a line: `granule`, `partition` or `task`, a number, `/`, or the line's end; or that a granule, where
+// it is given, comes once and before the partitions.
 pub enum What {
     Record,
     Number,

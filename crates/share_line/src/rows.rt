@@ -129,8 +129,8 @@ pub fn row_of(line: &[u8]) -> Row
     record_of(&line[..e])
 }
 
-// Whether a granule is given no more, behind this row too.
-pub fn closes(closed: bool, row: Row) -> bool
+// Whether a granule comes too late behind this row: so it was before it, or the row closes it.
+pub fn closed_behind(closed: bool, row: Row) -> bool
     ensures { λ r. ⌜ r ≡ closes row || closed ⌝ }
 {
     match row {

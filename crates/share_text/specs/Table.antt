@@ -36,10 +36,11 @@ fromLine t (suc k) = afterLine (fromLine t k)
 unfoldable pub rowAt : List ℕ → ℕ → Row
 rowAt t k = rowOf (lineOf (fromLine t k))
 
--- whether a line before line k closes the granule
+-- line k closes the granule
 unfoldable pub closesAt : List ℕ → ℕ → Bool
 closesAt t k = closes (rowAt t k)
 
+-- some line before it does
 abbrev pub closedAt : List ℕ → ℕ → Bool
 closedAt t k = some (closesAt t) k
 

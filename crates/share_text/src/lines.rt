@@ -1,7 +1,7 @@
 // The lines of a text in order, and the first that is wrong.
 use crate::Seen;
 use share_line::Row;
-use share_line::rows::closes;
+use share_line::rows::closed_behind;
 use share_line::rows::is_wrong;
 use share_line::rows::row_of;
 use share_line::rows::what_of;
@@ -54,7 +54,7 @@ pub fn first_wrong(text: &[u8]) -> Seen
                 what: what_of(row),
             };
         }
-        closed = closes(closed, row);
+        closed = closed_behind(closed, row);
         at = next_line(text, at);
         k += 1;
     }

@@ -59,6 +59,9 @@ questioned-requires c κs = search needs
 enum-known-r-5 : tie.Need-enum-known-r-5
 enum-known-r-5 c = search needs
 
+telling-requires : tie.Need-telling-requires
+telling-requires c κs = search needs
+
 enum-told-6 : tie.Need-enum-told-6
 enum-told-6 c = search needs
 
@@ -165,7 +168,7 @@ returns-9 : tie.Need-returns-9
 returns-9 c = rw (c .before .before .r4 .given .1) (c .questioned .ensures)
 
 returns-10 : tie.Need-returns-10
-returns-10 c = rw (c .before .r5 .given .1)
+returns-10 c = rw (c .before .before .r5 .given .1) (c .telling .ensures)
 
 returns-11 : tie.Need-returns-11
 returns-11 c = rw (c .before .enum-told6 .given .1) (c .numbered9 .ensures)
@@ -229,6 +232,7 @@ tell-spec =
     enum-known-r-4
     questioned-requires
     enum-known-r-5
+    telling-requires
     enum-told-6
     numbered-requires-9
     enum-told-7

@@ -32,8 +32,8 @@ what-of-requires c κs = search needs
 returns : tie.Need-returns Inv-loop μ-loop
 returns c = let row = reached-row (c .before .before .before .before .before .loop .inv .1) (c .before .before .before .row-at .ensures) in rw (c .what-of .ensures) (some-wrong _ _ _ (search needs) (first-found _ _ _ (search needs) (c .before .before .before .before .before .loop .inv .2) (wrong-is _ _ row (c .before .before .before .before .before .loop .inv .3) (c .before .before .is-wrong .ensures) (c .before .if1 .taken))) row)
 
-closes-requires : tie.Need-closes-requires Inv-loop μ-loop
-closes-requires c κs = search needs
+closed-behind-requires : tie.Need-closed-behind-requires Inv-loop μ-loop
+closed-behind-requires c κs = search needs
 
 next-line-requires : tie.Need-next-line-requires Inv-loop μ-loop
 next-line-requires c κs = search needs
@@ -45,7 +45,7 @@ loop-less : tie.Need-loop-less Inv-loop μ-loop
 loop-less c = search needs
 
 loop-again : tie.Need-loop-again Inv-loop μ-loop
-loop-again c = let row = reached-row (c .before .before .before .before .before .before .loop .inv .1) (c .before .before .before .before .row-at .ensures) in (c .next-line .ensures .1, reached-next _ (c .before .before .before .before .before .before .loop .inv .1) (c .next-line .ensures .0) (c .next-line .ensures .2), first-more _ _ (c .before .before .before .before .before .before .loop .inv .2) (wrong-is _ _ row (c .before .before .before .before .before .before .loop .inv .3) (c .before .before .before .is-wrong .ensures) (c .before .before .if1 .left)), closed-more _ _ row (c .before .before .before .before .before .before .loop .inv .3) (c .before .closes .ensures))
+loop-again c = let row = reached-row (c .before .before .before .before .before .before .loop .inv .1) (c .before .before .before .before .row-at .ensures) in (c .next-line .ensures .1, reached-next _ (c .before .before .before .before .before .before .loop .inv .1) (c .next-line .ensures .0) (c .next-line .ensures .2), first-more _ _ (c .before .before .before .before .before .before .loop .inv .2) (wrong-is _ _ row (c .before .before .before .before .before .before .loop .inv .3) (c .before .before .before .is-wrong .ensures) (c .before .before .if1 .left)), closed-more _ _ row (c .before .before .before .before .before .before .loop .inv .3) (c .before .closed-behind .ensures))
 
 returns-2 : tie.Need-returns-2 Inv-loop μ-loop
 returns-2 c = none-wrong (c .before .loop .inv .1) (c .before .loop .inv .0) (search needs) (c .before .loop .inv .2)
@@ -62,7 +62,7 @@ first-wrong-spec =
     add-t9
     what-of-requires
     returns
-    closes-requires
+    closed-behind-requires
     next-line-requires
     add-k
     loop-less

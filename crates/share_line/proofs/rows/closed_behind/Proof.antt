@@ -1,6 +1,6 @@
 use borrow.Author.Needs.{needs}
-use Rattle.share_line.proofs.rows.closes.Statement.{statement}
-use Rattle.share_line.proofs.rows.closes.Tie as tie
+use Rattle.share_line.proofs.rows.closed_behind.Statement.{statement}
+use Rattle.share_line.proofs.rows.closed_behind.Tie as tie
 
 enum-told : tie.Need-enum-told
 enum-told c = search needs
@@ -32,8 +32,8 @@ returns-4 c = rw (c .enum-told4 .given .1)
 returns-5 : tie.Need-returns-5
 returns-5 c = rw (c .enum-told5 .given .1)
 
-pub closes-spec : {M : Type 1} → statement M
-closes-spec =
+pub closed-behind-spec : {M : Type 1} → statement M
+closed-behind-spec =
     tie.close
     (tie.spec
     enum-told
