@@ -126,8 +126,9 @@ typedef struct {
    judges with 1. A granule is taken as it is given, in its whole width: what is not from 1 to 16 is refused with 21. */
 
 /* "the smallest multiple of g that is at least num*m/den": the ticks q that a share wants in a cycle of m. With granule 1
-   it is num*m/den rounded up. Nothing is refused: any granule is taken, and 0 answered where it or den is 0. For a
-   granule above m it can be more than m, and then no plan serves. */
+   it is num*m/den rounded up. Nothing is refused: any numbers are taken, and 0 is answered where the granule or den is
+   0. Of a good share it passes m by less than a granule, and where it does no plan serves (a whole cycle of 4 ticks in
+   granules of 3 wants 6). */
 size_t merkazobi_wants(size_t granule, uint16_t m, uint16_t num, uint16_t den);
 
 /* The ticks of partition p in the n ticks of the repeated plan from tick s on; ticks is the plan's length. For p 0 it

@@ -143,6 +143,8 @@ ends "a typing error" 1 "line 2: expected \`granule\`, \`partition\` or \`task\`
 is "no plan of a typing error" "$(ls "$made/typing.plan" 2>/dev/null)" ""
 ends "a share table listed" 1 "refused 2
 box: $table is a share table: *" ./box list "$table"
+ends "a share table with a granule listed" 1 "refused 2
+box: samples/twos.shares is a share table: *" ./box list samples/twos.shares
 ends "a plan file planned" 1 "line 1: *
 box: $plan is a plan file: *" ./box plan "$plan" -
 

@@ -251,6 +251,10 @@ static void granules(void)
     ends("P1 checked in granules of 2", check_by(2, TICKS, PARTS), (merkazobi_answer){9, 1, 0, 1, 2});
     ends("a granule above the cycle", check_by(5, TICKS, PARTS), (merkazobi_answer){9, 1, 0, 1, 5});
     ends("a granule above the cycle, built", build_by(5, 3, TICKS), told(11, 0));
+    SET(parts[1], 4);
+    ends("a whole cycle in granules of 3", check_by(3, TICKS, PARTS), (merkazobi_answer){9, 1, 0, 1, 6});
+    ends("a whole cycle in granules of 3, built", build_by(3, 3, TICKS), told(11, 0));
+    SET(parts[1], 1);
     PUT(plan, in_twos);
     ends("checked with the same granule", check_by(2, TICKS, 6), told(0, 0));
     ends("checked with 1", check_by(1, TICKS, 6), told(0, 0));
@@ -273,26 +277,27 @@ static void granule_refusals(engine *judge)
     }
 }
 
-/* The verdict of a plan that serves in granules of 2, and of one that doesn't. */
-static void granule_verdicts(engine *judge)
+/* The verdict of a plan that doesn't serve in granules of 2, and of one that does: any 4 ticks in a row hold 2 of
+   partition 2, and no 3 do. */
+static void granule_verdicts(engine *judge, size_t passes)
 {
     begin();
     const merkazobi_answer nine = judge(2, lent.plan, TICKS, lent.parts, PARTS, lent.tasks, TASKS, 1);
     ends("a verdict in granules of 2", nine, (merkazobi_answer){9, 1, 0, 1, 2});
     PUT(plan, ((uint16_t[]){1, 1, 2, 2, 1, 1, 2, 2}));
-    const merkazobi_answer by_2 = judge(2, lent.plan, TICKS, lent.parts, 6, lent.tasks, TASKS, 1);
-    ends("as with 1", by_2, judge(1, lent.plan, TICKS, lent.parts, 6, lent.tasks, TASKS, 1));
-    expect("not refused", by_2.number, 0);
+    for (size_t g = 1; g <= 2; g++)
+        ends("a pass", judge(g, lent.plan, TICKS, lent.parts, 6, lent.tasks, TASKS, 1), told(0, passes));
 }
 
 /* The largest sum: fifteen partitions of cycle 1 want 16 of every tick, 15 * 16 * 4,096 + 4,096 together, which is
    4,096 again in 16 bits. */
 static void largest_sum(void)
 {
-    uint16_t table[16 * 3], out[1] = {7};
-    for (size_t i = 0; i < 16; i++)
-        memcpy(&table[3 * i], (uint16_t[]){i < 15 ? 1 : 4096, 1, 1}, 6);
-    const merkazobi_answer most = merkazobi_build(16, table, 48, out, 1);
+    enum { RECORDS = MERKAZOBI_PARTITIONS, WIDTH = MERKAZOBI_PART_NUMBERS };
+    uint16_t table[RECORDS * WIDTH], out[1] = {7};
+    for (size_t i = 0; i < RECORDS; i++)
+        memcpy(&table[WIDTH * i], (uint16_t[]){i + 1 < RECORDS ? 1 : MERKAZOBI_CYCLE, 1, 1}, WIDTH * sizeof *table);
+    const merkazobi_answer most = merkazobi_build(MERKAZOBI_GRANULE_TICKS, table, RECORDS * WIDTH, out, 1);
     expect("the largest sum", most.number, 11);
     expect("no output", out[0], 7);
 }
@@ -540,8 +545,8 @@ int main(void)
     granules();
     granule_refusals(merkazobi_verdict);
     granule_refusals(merkazobi_plain);
-    granule_verdicts(merkazobi_verdict);
-    granule_verdicts(merkazobi_plain);
+    granule_verdicts(merkazobi_verdict, 8);
+    granule_verdicts(merkazobi_plain, 4);
     largest_sum();
     reads();
     writes();

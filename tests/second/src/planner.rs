@@ -15,8 +15,7 @@ pub fn answer(text: &[u8]) -> Vec<u8> {
     }
 }
 
-/// "too many records, then 3, 6 and 7 of the tables, then the builder's 10 and 11"; 21 stands
-/// behind 3.
+/// Too many records, then 3, 21, 6 and 7 of the tables, then the builder's 10 and 11.
 fn planned(text: &[u8]) -> Result<Vec<u8>, Wrong> {
     let table = share_table::read(text)?;
     let partitions = records::partitions(&table.parts)?;

@@ -100,8 +100,8 @@ struct Words {
 }
 
 impl Words {
-    /// "A line is blank, a comment from `#` on, `partition CYCLE NUM/DEN` or
-    /// `task PARTITION C D T`", or `granule G`.
+    /// A line is blank, a comment from `#` on, `granule G`, `partition CYCLE NUM/DEN` or
+    /// `task PARTITION C D T`.
     fn line(mut self) -> Result<Said, &'static str> {
         let Some(kind) = self.rest.next() else {
             return Ok(Said::Nothing);

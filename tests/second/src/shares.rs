@@ -36,7 +36,6 @@ mod tests {
         assert_eq!(by_granule, [3, 4, 3, 4, 5, 8, 9, 16]);
         assert_eq!(wants(4, 100, 9, 100), 12);
         assert_eq!(wants(4, 100, 8, 100), 8);
-        // 8 and one part in a thousand: the ticks are rounded once, to 12 and not by way of 9.
         assert_eq!([1, 3, 4, 5].map(|g| wants(g, 1000, 8, 999)), [9, 9, 12, 10]);
         assert_eq!(wants(16, 1, 1, 1000), 16);
         assert_eq!(wants(16, 4096, 1, 1), 4096);
