@@ -127,8 +127,8 @@ typedef struct {
 
 /* "the smallest multiple of g that is at least num*m/den": the ticks q that a share wants in a cycle of m. With granule 1
    it is num*m/den rounded up. Nothing is refused: any numbers are taken, and 0 is answered where the granule or den is
-   0. Of a good share it passes m by less than a granule, and where it does no plan serves (a whole cycle of 4 ticks in
-   granules of 3 wants 6). */
+   0. It can be more than m, though of a good share by less than a granule: a whole cycle of 4 ticks in granules of 3 wants
+   6. Then no plan serves. */
 size_t merkazobi_wants(size_t granule, uint16_t m, uint16_t num, uint16_t den);
 
 /* The ticks of partition p in the n ticks of the repeated plan from tick s on; ticks is the plan's length. For p 0 it
@@ -146,8 +146,8 @@ merkazobi_answer merkazobi_curve(const uint16_t *plan, size_t ticks, uint16_t p,
 
 /* The builder: "Take partitions by rising cycle, equal cycles by place. In each cycle, counted from tick 0, give the
    partition its q earliest idle ticks." first: the frame, the largest cycle. part_numbers is 3 for each partition;
-   out_ticks is how many ticks out has, MERKAZOBI_FRAME is always enough. Refusals 3, 21, 6, 10, 11, 12, in
-   this order; 11 exactly where the sum of q*H/m is above the frame H, so too where any q is above its m. */
+   out_ticks is how many ticks out has, MERKAZOBI_FRAME is always enough. Refusals 3, 21, 6, 10, 11, 12, in this order;
+   11 exactly where the sum of q*H/m is above the frame H, so too where any q is above its m. */
 merkazobi_answer merkazobi_build(size_t granule, const uint16_t *parts, size_t part_numbers, uint16_t *out,
                                  size_t out_ticks);
 
