@@ -71,24 +71,29 @@ static void begin(void)
 
 static void wants(void)
 {
-    expect("wants, P1", merkazobi_wants(1, 8, 3, 8), 3);
-    expect("wants, P1 rounded up", merkazobi_wants(1, 8, 1, 100), 1);
-    expect("wants", merkazobi_wants(1, 8, 3, 5), 5);
-    expect("wants, the longest cycle", merkazobi_wants(1, 4096, 999, 1000), 4092);
-    expect("wants, den 0", merkazobi_wants(1, 8, 3, 0), 0);
-}
-
-static void wants_in_granules(void)
-{
-    expect("wants, P1 in granules of 2", merkazobi_wants(2, 8, 3, 8), 4);
-    expect("wants, a whole number of them", merkazobi_wants(3, 8, 3, 8), 3);
-    expect("wants, 25 sixths by 4", merkazobi_wants(4, 10, 5, 12), 8);
-    expect("wants, a granule above the cycle", merkazobi_wants(16, 4, 1, 4), 16);
-    expect("wants, no granule", merkazobi_wants(0, 8, 3, 8), 0);
-    expect("wants, a granule past the limit", merkazobi_wants(65537, 8, 3, 8), 65537);
-    expect("wants, the widest granule", merkazobi_wants(SIZE_MAX, 65535, 65535, 1), SIZE_MAX);
-    expect("wants, the most", merkazobi_wants(1, 65535, 65535, 1), (size_t)65535 * 65535);
-    expect("wants, the widest granule of nothing", merkazobi_wants(SIZE_MAX, 8, 0, 8), 0);
+    static const struct {
+        const char *what;
+        size_t granule;
+        uint16_t m, num, den;
+        size_t ticks;
+    } cases[] = {
+        {"wants, P1", 1, 8, 3, 8, 3},
+        {"wants, P1, rounded up", 1, 8, 1, 100, 1},
+        {"wants, 24 fifths", 1, 8, 3, 5, 5},
+        {"wants, the longest cycle", 1, 4096, 999, 1000, 4092},
+        {"wants, den 0", 1, 8, 3, 0, 0},
+        {"wants, P1 in granules of 2", 2, 8, 3, 8, 4},
+        {"wants, a whole number of granules", 3, 8, 3, 8, 3},
+        {"wants, 25 sixths by 4", 4, 10, 5, 12, 8},
+        {"wants, a granule above the cycle", 16, 4, 1, 4, 16},
+        {"wants, no granule", 0, 8, 3, 8, 0},
+        {"wants, a granule past the limit", 65537, 8, 3, 8, 65537},
+        {"wants, the widest granule", SIZE_MAX, 65535, 65535, 1, SIZE_MAX},
+        {"wants, the most", 1, 65535, 65535, 1, (size_t)65535 * 65535},
+        {"wants, the widest granule of nothing", SIZE_MAX, 8, 0, 8, 0},
+    };
+    for (size_t i = 0; i < sizeof cases / sizeof *cases; i++)
+        expect(cases[i].what, merkazobi_wants(cases[i].granule, cases[i].m, cases[i].num, cases[i].den), cases[i].ticks);
 }
 
 static void service(void)
@@ -534,7 +539,6 @@ static void requests_that_drop(void)
 int main(void)
 {
     wants();
-    wants_in_granules();
     service();
     curves();
     builds();

@@ -108,7 +108,8 @@ pub extern "C" fn merkazobi_verdict(
     tasks: &[u16],
     place: usize,
 ) -> Told
-    ensures { λ r. ⌜ TellsVerdict granule (now (plan .entry)) (now (parts .entry)) (now (tasks .entry)) place r ⌝ }
+    ensures { λ r. ⌜ TellsVerdict granule (now (plan .entry)) (now (parts .entry)) (now (tasks .entry))
+        place r ⌝ }
 {
     answers::tell_judged(task_verdict::verdict(Terms { granule }, plan, parts, tasks, place))
 }
@@ -121,7 +122,8 @@ pub extern "C" fn merkazobi_plain(
     tasks: &[u16],
     place: usize,
 ) -> Told
-    ensures { λ r. ⌜ TellsPlain granule (now (plan .entry)) (now (parts .entry)) (now (tasks .entry)) place r ⌝ }
+    ensures { λ r. ⌜ TellsPlain granule (now (plan .entry)) (now (parts .entry)) (now (tasks .entry))
+        place r ⌝ }
 {
     answers::tell_judged(task_verdict::plain(Terms { granule }, plan, parts, tasks, place))
 }

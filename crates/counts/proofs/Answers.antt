@@ -21,7 +21,7 @@ use Rattle.rules.specs.declared.Filling.{Filling}
 use Rattle.rules.specs.declared.Filling.the-variants as filling
 use Rattle.rules.proofs.Named.{listed-length, listed-at, new-tail, named-list}
 use Rattle.tables.specs.Tables.{withinLimits, lowest, unless, tablesOf, ticksJudged}
-use Rattle.tables.proofs.Chain.{lowest-at}
+use Rattle.tables.proofs.Chain.{in-turn, lowest-at}
 use Rattle.plan_check.specs.Check.{scanOf, planCheckOf, checkOf}
 use Rattle.theory.specs.Plan.{own, held}
 use Rattle.counts.specs.declared.Holding.the-variants as holding
@@ -66,11 +66,7 @@ plan-exactly plan ps = (planned plan ps, is-planned plan ps)
 
 pub plan-as-checked : PlanAsChecked
 unfolding checkOf planCheckOf planJudged
-plan-as-checked plan ps = go (tablesOf usual (length plan) ps []) (ticksJudged plan ps)
-  where
-    go : (a b : Finding) → unless Refused a (unless Refused b (scanOf (wanted usual ps) plan ps)) ≡ unless Refused (unless Refused a b) (scanOf (wanted usual ps) plan ps)
-    go Good b = refl
-    go (Refused r) b = refl
+plan-as-checked plan ps = sym (in-turn Refused (tablesOf usual (length plan) ps []) (ticksJudged plan ps) (scanOf (wanted usual ps) plan ps))
 
 pub plan-places : PlanPlaces
 unfolding planJudged tablesOf goodGranule

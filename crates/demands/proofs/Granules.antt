@@ -14,8 +14,6 @@ use Rattle.rules.specs.Terms.{goodGranule, granules, usual, wanted}
 use Rattle.rules.specs.Refusals.{told}
 use Rattle.rules.specs.declared.Refusal.{Refusal}
 use Rattle.rules.specs.declared.Refusal.the-variants.{Limits, Granule, Partition, Task}
-use Rattle.rules.specs.declared.Finding.{Finding}
-use Rattle.rules.specs.declared.Finding.the-variants as found
 use Rattle.rules.proofs.Tests.{good-granule}
 use Rattle.tables.specs.Tables.{withinLimits, unless, tablesOf}
 use Rattle.tables.proofs.Chain.{tables-3, tables-21, unless-holds}
@@ -73,11 +71,6 @@ module _ (g frame : ℕ) (ps ts : List ℕ) {A : Type 0} (number : A → ℕ) (r
     outside (withinLimits frame (length ps) (length ts)) refl,
     λ (w, n). rw (← tables-21 (granules g) frame ps ts w (not-good g n)) (tells Granule),
   )
-
--- two findings, one behind the other
-pub in-turn : {A : Type 0} (refused : Refusal → A) (c p : Finding) (next : A) → unless refused (unless found.Refused c p) next ≡ unless refused c (unless refused p next)
-in-turn refused found.Good p next = refl
-in-turn refused (found.Refused r) p next = refl
 
 -- ---- granule 1
 

@@ -19,7 +19,7 @@ use Rattle.rules.specs.Refusals.{told, toldFinding, Tells}
 use Rattle.rules.proofs.Known.{not-0, found-good, tells-one}
 use Rattle.tables.specs.Tables.{unless, tablesOf}
 use Rattle.tables.specs.Contracts.{firstBadTick}
-use Rattle.tables.proofs.Chain.{unless-holds}
+use Rattle.tables.proofs.Chain.{in-turn, unless-holds}
 use Rattle.theory.specs.Plan.{own}
 use Rattle.theory.specs.Task.{taskPoint, taskTick}
 use Rattle.plan_check.specs.Check.{scanOf, planCheckOf, checkOf, Checks}
@@ -31,7 +31,7 @@ use Rattle.task_verdict.specs.Theorems as verdict
 use Rattle.task_verdict.proofs.Engines.{proved}
 use Rattle.api.specs.Answers.{TellsCheck, TellsVerdict, TellsPlain}
 use Rattle.demands.specs.Demands.{Numbered, BadGranule, ToldAlike, EndsInTime, EndsInTimeForEver}
-use Rattle.demands.proofs.Granules.{granule-exactly, in-turn}
+use Rattle.demands.proofs.Granules.{granule-exactly}
 
 -- ---- the numbers, whatever the tests give: one case for each answer
 

@@ -27,7 +27,8 @@ ghost use Rattle.file_listing.specs.Contracts.{Listable};
 // The file's tables are judged already: of the plan only 9 is left.
 fn put_checked(frame: usize, plan: &[u16], parts: &[u16], table: &[u16], out: &mut [u8]) -> usize
     requires { ⌜ GoodRecords (now parts) (now table) ⌝ }
-    requires { ⌜ checkOf usual (now plan) (now parts) ≡ scanOf (wanted usual (now parts)) (now plan) (now parts) ⌝ }
+    requires { ⌜ checkOf usual (now plan) (now parts)
+        ≡ scanOf (wanted usual (now parts)) (now plan) (now parts) ⌝ }
     ensures { λ r. ⌜ Put (now (out .entry)) 0
         (tablesLines frame (now (plan .entry)) (now (parts .entry)) (now (table .entry))) r (now (out .exit))
         × (r ≤ longestListing) ⌝ }

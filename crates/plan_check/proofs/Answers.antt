@@ -22,8 +22,8 @@ use Rattle.rules.proofs.Known.{found-refused}
 use Rattle.rules.proofs.Tests.{pick-first, pick-second, good-granule}
 use Rattle.tables.proofs.Chain.{not-good, lowest-none, good-lowest, within, unless-given, unless-good, without-terms}
 use Rattle.rules.proofs.Sum.{le-or-lt}
-use Rattle.theory.specs.Plan.{own, service, held, Serves}
-use Rattle.theory.proofs.Plan.{held-le, serves-in-frame}
+use Rattle.theory.specs.Plan.{own, held, Serves}
+use Rattle.theory.proofs.Plan.{past-cycle-short, serves-in-frame}
 use Rattle.theory.proofs.Wants.{wants-no-less}
 use Rattle.plan_check.specs.Check.{shortAt, scanOf, planCheckOf, checkOf}
 use Rattle.plan_check.proofs.Orders.{shortIn, shortStart, shortPart, shortfall}
@@ -93,7 +93,7 @@ module _ (q : ℕ → ℕ) (plan ps : List ℕ) where
   module _ (k : ℕ) (inside : k < partitions ps) (past : cycle ps k < q k) (full : 0 < length plan) where
     start-0 : shortAt q plan ps k 0 ≡ true
     unfolding shortAt
-    start-0 = lt-ltb (held own plan (k + 1) (cycle ps k) 0) (q k) (omega (arith, past, held-le (service own plan) (k + 1) (cycle ps k) 0))
+    start-0 = lt-ltb (held own plan (k + 1) (cycle ps k) 0) (q k) (past-cycle-short own plan (k + 1) (q k) (cycle ps k) 0 past)
 
     at-0 : shortStart q plan ps k ≡ 0
     at-0 = omega (arith, first-upto (shortAt q plan ps k) (length plan) 0 start-0)

@@ -70,7 +70,8 @@ fn give(out: &mut [u16], h: usize, p: u16, q: usize, m: usize)
 // The turn of the partition that is taken after r others.
 fn turn(terms: Terms, parts: &[u16], out: &mut [u16], h: usize, r: usize)
     requires { ⌜ Layable (now parts) × (r < partitions (now parts)) × (h ≤ length (now out)) ⌝ }
-    ensures { λ _. ⌜ AsNamed (turn (wanted terms (now (parts .entry))) (now (parts .entry)) r (tickOf (now (out .entry)))) h
+    ensures { λ _. ⌜ AsNamed
+        (turn (wanted terms (now (parts .entry))) (now (parts .entry)) r (tickOf (now (out .entry)))) h
         (now (out .entry)) (now (out .exit)) ⌝ }
 {
     let k = taken(parts, r);
@@ -82,7 +83,8 @@ fn turn(terms: Terms, parts: &[u16], out: &mut [u16], h: usize, r: usize)
 // The whole plan, in the first h ticks.
 pub fn lay(terms: Terms, parts: &[u16], out: &mut [u16], h: usize)
     requires { ⌜ Layable (now parts) × (h ≤ length (now out)) ⌝ }
-    ensures { λ _. ⌜ AsNamed (planned (wanted terms (now (parts .entry))) (now (parts .entry)) (partitions (now (parts .entry)))) h
+    ensures { λ _. ⌜ AsNamed
+        (planned (wanted terms (now (parts .entry))) (now (parts .entry)) (partitions (now (parts .entry)))) h
         (now (out .entry)) (now (out .exit)) ⌝ }
 {
     clear(out, h);

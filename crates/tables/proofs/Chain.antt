@@ -135,6 +135,11 @@ pub both-good : (f next : Finding) → unless Refused f next ≡ Good → (f ≡
 both-good Good next e = (refl, e)
 both-good (Refused r) next e = absurd (not-good r e)
 
+-- one behind the other: what follows both follows the second
+pub in-turn : {A : Type 0} (refused : Refusal → A) (f g : Finding) (next : A) → unless refused (unless Refused f g) next ≡ unless refused f (unless refused g next)
+in-turn refused Good g next = refl
+in-turn refused (Refused r) g next = refl
+
 -- what is no refusal of the lowest place comes behind good records
 module _ (refusal : ℕ → Refusal) (good : ℕ → Bool) (n : ℕ) where
   abbrev at-first : Refusal

@@ -15,7 +15,8 @@ pub enum Judged {
 
 // What is found for a place counted from 1, in tables whose records are good.
 fn at_place(terms: Terms, plan: &[u16], parts: &[u16], table: &[u16], place: usize) -> Finding
-    ensures { λ r. ⌜ r ≡ placeOf (wanted terms (now (parts .entry))) (now (plan .entry)) (now (parts .entry)) (now (table .entry)) place ⌝ }
+    ensures { λ r. ⌜ r ≡ placeOf (wanted terms (now (parts .entry))) (now (plan .entry)) (now (parts .entry))
+        (now (table .entry)) place ⌝ }
 {
     if place < 1 {
         return Finding::Refused(Refusal::Task(0));

@@ -10,7 +10,7 @@ use Rattle.rules.specs.Walk.{only, count, sum, smallest}
 use Rattle.rules.proofs.Sum.{count-zero, count-more, count-le, count-ext}
 use Rattle.rules.proofs.Least.{smallest-le, smallest-is, smallest-mono}
 use Rattle.theory.specs.Plan.{owner, Rule, own, service, owned, held, least}
-use Rattle.theory.specs.Theorems.{LeastIsLeast, LeastAttained, LeastZero, LeastBounds, LeastGrows, ServesInFrame}
+use Rattle.theory.specs.Theorems.{LeastIsLeast, LeastAttained, LeastZero, LeastBounds, LeastGrows, ServesInFrame, PastCycleShort}
 use Rattle.theory.proofs.Words.{ownsFrom}
 
 -- ---- the ticks held in a stretch
@@ -28,6 +28,9 @@ held-more o p n s = count-more (ownsFrom o p s) n
 pub held-le : (o : ℕ → ℕ) (p n s : ℕ) → owned o p n s ≤ n
 unfolding owned
 held-le o p n s = count-le (ownsFrom o p s) n
+
+pub past-cycle-short : PastCycleShort
+past-cycle-short rule plan p q m s h = omega (arith, held-le (service rule plan) p m s)
 
 -- ---- the plan repeats
 

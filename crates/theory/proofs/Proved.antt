@@ -1,10 +1,8 @@
 -- Every statement of specs/Theorems.antt, with its proof. Assumes nothing.
 use mathlib.Core.Path.{sym, _∙_}
-use native.Mathlib.Omega.{arith}
-use Rattle.theory.specs.Plan.{service}
 use Rattle.theory.specs.Theorems.{Proved}
 use Rattle.theory.proofs.Wants.{wants-smallest, wants-range, wants-whole, wants-no-less}
-use Rattle.theory.proofs.Plan.{held-le, least-is-least, least-attained, least-zero, least-bounds, least-grows, serves-in-frame}
+use Rattle.theory.proofs.Plan.{past-cycle-short, least-is-least, least-attained, least-zero, least-bounds, least-grows, serves-in-frame}
 use Rattle.theory.proofs.Tasks.{points-enough, ticks-exactly, run-theorem, endless-theorem}
 use Rattle.theory.proofs.Load.{load-theorem}
 use Rattle.theory.proofs.Points.{load-points, point-smallest, tick-smallest, tick-at-most-point}
@@ -44,6 +42,6 @@ proved = record {
   harmonic-serves = harmonic-serves;
   harmonic-refused = harmonic-refused;
   past-cycle-refused = past-cycle-refused;
-  past-cycle-short = λ rule plan p q m s h. omega (arith, held-le (service rule plan) p m s);
+  past-cycle-short = past-cycle-short;
   harmonic-plan-good = harmonic-plan-good;
 }
