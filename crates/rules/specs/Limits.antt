@@ -21,6 +21,10 @@ finestShare = 1000
 abbrev pub mostGranule : ℕ
 mostGranule = 16
 
+-- document 02, ask 6: "2 now means neither 1 nor 2"
+abbrev pub newestEdition : ℕ
+newestEdition = 2
+
 -- "Desk: 64 jobs"
 abbrev pub places : ℕ
 places = 64

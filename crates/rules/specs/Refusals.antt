@@ -8,10 +8,12 @@ use Rattle.rules.specs.declared.Finding.{Finding}
 use Rattle.rules.specs.declared.Finding.the-variants as found
 use Rattle.rules.specs.declared.Filling.{Filling}
 use Rattle.rules.specs.declared.Filling.the-variants as filling
+use Rattle.rules.specs.declared.Holding.{Holding}
+use Rattle.rules.specs.declared.Holding.the-variants as holding
 
--- a number, and up to four values beside it
+-- a number, and up to four values beside it; a fifth is the reader's alone
 abbrev pub telling : ℕ → ℕ → ℕ → ℕ → ℕ → Told
-telling n a b c d = record { number = n; first = a; second = b; third = c; fourth = d }
+telling n a b c d = record { number = n; first = a; second = b; third = c; fourth = d; fifth = 0 }
 
 abbrev pub placed : ℕ → ℕ → Told
 placed n place = telling n place 0 0 0
@@ -58,6 +60,11 @@ toldFinding (found.Refused r) = told r
 abbrev pub toldFilling : Filling → Told
 toldFilling (filling.Fills n) = placed 0 n
 toldFilling (filling.Refused r) = told r
+
+-- 0 and the count
+abbrev pub toldHolding : Holding → Told
+toldHolding (holding.Holds n) = placed 0 n
+toldHolding (holding.Refused r) = told r
 
 -- a call tells t: what its rule permits as the answer, told so
 abbrev pub Tells : {A : Type 0} → (A → Told) → (A → Type 0) → Told → Type 0

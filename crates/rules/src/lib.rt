@@ -1,7 +1,8 @@
 // The rules that every call shares: limits, tables behind accessors, the terms of a call, and why it refuses.
 ghost use mathlib.Core.Path.{_≡_};
 ghost use Rattle.rules.specs.Refusals.{told, telling, placed, questioned};
-ghost use Rattle.rules.specs.Terms.{usual};
+ghost use Rattle.rules.specs.Terms.{goodEdition, ruleOf, filed};
+use limits::NEWEST_EDITION;
 
 pub mod limits; // limits.rt: every limit and width by name
 pub mod numbers; // numbers.rt: what numbers need everywhere
@@ -47,10 +48,18 @@ pub struct Told {
     pub second: usize,
     pub third: usize,
     pub fourth: usize,
+    pub fifth: usize,
+}
+
+// Which of the ticks that a partition owns serve it: all of them, or all but switch ticks.
+pub enum Rule {
+    Own,
+    Switching,
 }
 
 // The terms of a call: what is given with it besides its tables and its plan.
 pub struct Terms {
+    pub edition: usize,
     pub granule: usize,
 }
 
@@ -66,11 +75,39 @@ pub enum Filling {
     Refused(Refusal),
 }
 
-// The terms of a call that is given none.
-pub fn usual() -> Terms
-    ensures { λ r. ⌜ r ≡ usual ⌝ }
+// How many ticks a stretch holds, or why a call refuses.
+pub enum Holding {
+    Holds(usize),
+    Refused(Refusal),
+}
+
+pub fn good_edition(edition: usize) -> bool
+    ensures { λ r. ⌜ r ≡ goodEdition edition ⌝ }
 {
-    Terms { granule: 1 }
+    if edition < 1 {
+        return false;
+    }
+    edition <= NEWEST_EDITION
+}
+
+// Which owned ticks serve, by an edition.
+pub fn rule_of(edition: usize) -> Rule
+    ensures { λ r. ⌜ r ≡ ruleOf edition ⌝ }
+{
+    if edition == 1 {
+        return Rule::Own;
+    }
+    Rule::Switching
+}
+
+// The terms of a file, which has an edition and no granule.
+pub fn filed(edition: usize) -> Terms
+    ensures { λ r. ⌜ r ≡ filed edition ⌝ }
+{
+    Terms {
+        edition,
+        granule: 1,
+    }
 }
 
 pub fn tell(r: Refusal) -> Told
@@ -117,6 +154,7 @@ fn telling(number: usize, first: usize, second: usize, third: usize, fourth: usi
         second,
         third,
         fourth,
+        fifth: 0,
     }
 }
 

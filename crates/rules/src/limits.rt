@@ -12,6 +12,8 @@ pub const FINEST_SHARE: u16 = 1000;
 
 pub const MOST_GRANULE: usize = 16;
 
+pub const NEWEST_EDITION: usize = 2;
+
 pub const PLACES: usize = 64;
 
 pub const LATEST: u32 = 1000000;

@@ -11,13 +11,13 @@ use lib.Dec.{ltb, leb, eqb}
 use borrow.Author.Tests.{lt-ltb, le-ltb, ltb-true, ltb-false, le-leb, leb-true, eqb-true, eq-eqb, not-true, not-false}
 use Rattle.rules.specs.Limits.{mostPartitions, mostTasks, longest, finestShare, partWidth, taskWidth}
 use Rattle.rules.specs.Walk.{pick, first, fails, Every}
-use Rattle.rules.specs.Terms.{goodGranule, usual}
+use Rattle.rules.specs.Terms.{goodEdition, goodGranule, granules, filed}
 use Rattle.rules.specs.declared.Terms.{Terms}
 use Rattle.rules.specs.Table.{partitions, cycle, num, den, tasks, goodShare, goodPart, goodTask}
 use Rattle.tables.specs.Contracts.{firstBadPart, firstBadTask, firstBadTick}
-use Rattle.tables.specs.Tables.{countedIn, withinLimits, lowest, unless, termsJudged, recordsJudged, tablesOf, ticksJudged, GoodTables}
+use Rattle.tables.specs.Tables.{countedIn, withinLimits, lowest, unless, editionJudged, granuleJudged, recordsJudged, inEdition, tablesOf, ticksJudged, GoodTables}
 use Rattle.rules.specs.declared.Refusal.{Refusal}
-use Rattle.rules.specs.declared.Refusal.the-variants.{Limits, Granule, Partition, Task, Tick}
+use Rattle.rules.specs.declared.Refusal.the-variants.{Edition, Limits, Granule, Partition, Task, Tick}
 use Rattle.rules.specs.declared.Finding.{Finding}
 use Rattle.rules.specs.declared.Finding.the-variants.{Good, Refused}
 use Rattle.rules.proofs.First.{first-found, first-done, first-at, first-before, every-first, first-every}
@@ -105,6 +105,7 @@ pub other-frame :
     → GoodTables terms g ps ts
 other-frame f g ps ts a l m h = record {
   limits = within-frame f g (length ps) (length ts) (a .limits) (framed g l m);
+  edition = a .edition;
   granule = a .granule;
   parts = λ k i. share-within f g (cycle ps k) (num ps k) (den ps k) (a .parts k i) (h k i);
   tasks = a .tasks;
@@ -114,6 +115,7 @@ other-frame f g ps ts a l m h = record {
 pub without-tasks : {terms : Terms} (f : ℕ) (ps ts : List ℕ) → GoodTables terms f ps ts → GoodTables terms f ps []
 without-tasks f ps ts a = record {
   limits = within-none f (length ps) (length ts) (a .limits);
+  edition = a .edition;
   granule = a .granule;
   parts = a .parts;
   tasks = λ j l. absurd (not-suc-le-zero l);
@@ -191,68 +193,82 @@ module _ (terms : Terms) (frame : ℕ) (ps ts : List ℕ) where
   abbrev good-terms : Bool
   good-terms = goodGranule (terms .granule)
 
-  pub tables-3 : within-all ≡ false → Refused Limits ≡ tablesOf terms frame ps ts
+  abbrev good-edition : Bool
+  good-edition = goodEdition (terms .edition)
+
+  pub tables-2 : good-edition ≡ false → Refused Edition ≡ tablesOf terms frame ps ts
   unfolding tablesOf
+  tables-2 e = rw e
+
+  pub tables-on : good-edition ≡ true → inEdition terms frame ps ts ≡ tablesOf terms frame ps ts
+  unfolding tablesOf
+  tables-on e = rw e
+
+  pub tables-3 : within-all ≡ false → Refused Limits ≡ inEdition terms frame ps ts
+  unfolding inEdition
   tables-3 e = rw e
 
-  pub tables-21 : within-all ≡ true → good-terms ≡ false → Refused Granule ≡ tablesOf terms frame ps ts
-  unfolding tablesOf
+  pub tables-21 : within-all ≡ true → good-terms ≡ false → Refused Granule ≡ inEdition terms frame ps ts
+  unfolding inEdition
   tables-21 w e = rw (w, e)
 
   module _ (w : within-all ≡ true) (g : good-terms ≡ true) (k : ℕ) (ek : k ≡ firstBadPart frame ps) where
-    pub tables-6 : k < partitions ps → Refused (Partition (k + 1)) ≡ tablesOf terms frame ps ts
-    unfolding tablesOf
+    pub tables-6 : k < partitions ps → Refused (Partition (k + 1)) ≡ inEdition terms frame ps ts
+    unfolding inEdition
     tables-6 h = rw (w, g, ← ek, lt-ltb k (partitions ps) h)
 
     module _ (hk : partitions ps ≤ k) (j : ℕ) (ej : j ≡ firstBadTask (partitions ps) ts) where
-      pub tables-7 : j < tasks ts → Refused (Task (j + 1)) ≡ tablesOf terms frame ps ts
-      unfolding tablesOf
+      pub tables-7 : j < tasks ts → Refused (Task (j + 1)) ≡ inEdition terms frame ps ts
+      unfolding inEdition
       tables-7 h = rw (w, g, ← ek, le-ltb k (partitions ps) hk, ← ej, lt-ltb j (tasks ts) h)
 
-      pub tables-good : tasks ts ≤ j → Good ≡ tablesOf terms frame ps ts
-      unfolding tablesOf
+      pub tables-good : tasks ts ≤ j → Good ≡ inEdition terms frame ps ts
+      unfolding inEdition
       tables-good h = rw (w, g, ← ek, le-ltb k (partitions ps) hk, ← ej, le-ltb j (tasks ts) h)
 
   -- ---- what it means
 
   good-of : tablesOf terms frame ps ts ≡ Good → GoodTables terms frame ps ts
-  unfolding tablesOf
+  unfolding tablesOf inEdition
   good-of e =
-      let a = pick-first within-all _ _ Good (not-good Limits) e in
-      let t = both-good (termsJudged terms) (recordsJudged frame ps ts) (a .1) in
+      let i = both-good (editionJudged (terms .edition)) (inEdition terms frame ps ts) e in
+      let d = pick-first good-edition Good (Refused Edition) Good (not-good Edition) (i .0) in
+      let a = pick-first within-all _ _ Good (not-good Limits) (i .1) in
+      let t = both-good (granuleJudged (terms .granule)) (recordsJudged frame ps ts) (a .1) in
       let g = pick-first good-terms Good (Refused Granule) Good (not-good Granule) (t .0) in
       let b = lowest-none Partition (goodPart frame ps) (partitions ps) Refused (lowest Task (goodTask (partitions ps) ts) (tasks ts)) Good (not-good _) (t .1) in
-      record { limits = a .0; granule = g .0; parts = b .0; tasks = lowest-good Task (goodTask (partitions ps) ts) (tasks ts) (b .1) }
+      record { edition = d .0; limits = a .0; granule = g .0; parts = b .0; tasks = lowest-good Task (goodTask (partitions ps) ts) (tasks ts) (b .1) }
 
   of-good : GoodTables terms frame ps ts → tablesOf terms frame ps ts ≡ Good
-  unfolding tablesOf
+  unfolding tablesOf inEdition
   of-good g =
       let p : firstBadPart frame ps ≡ partitions ps = every-first (goodPart frame ps) (partitions ps) (g .parts) in
       let t : firstBadTask (partitions ps) ts ≡ tasks ts = every-first (goodTask (partitions ps) ts) (tasks ts) (g .tasks) in
-      rw (g .limits, g .granule, p, le-ltb (partitions ps) (partitions ps) (omega arith), t, le-ltb (tasks ts) (tasks ts) (omega arith))
+      rw (g .edition, g .limits, g .granule, p, le-ltb (partitions ps) (partitions ps) (omega arith), t, le-ltb (tasks ts) (tasks ts) (omega arith))
 
   -- nothing is refused exactly where terms and tables are good
   pub good-exactly : (tablesOf terms frame ps ts ≡ Good) ↔ GoodTables terms frame ps ts
   good-exactly = (good-of, of-good)
 
-  -- what holds of 3, of 21 where the granule is bad, of any 6 and of any 7 with a place from 1 on holds of the chain's refusal
-  pub refusals : (P : Refusal → Type 0) → P Limits → (good-terms ≡ false → P Granule) → ((k : ℕ) → P (Partition k)) → ((j : ℕ) → P (Task (j + 1)))
+  -- what holds of 2 where the edition is bad, of 3, of 21 where the granule is bad, of any 6 and of any 7 with a place from 1 on holds of the chain's refusal
+  pub refusals : (P : Refusal → Type 0) → (good-edition ≡ false → P Edition) → P Limits → (good-terms ≡ false → P Granule) → ((k : ℕ) → P (Partition k)) → ((j : ℕ) → P (Task (j + 1)))
       → (r : Refusal) → tablesOf terms frame ps ts ≡ Refused r → P r
-  unfolding tablesOf
-  refusals P three twenty-one six seven r e =
-      at within-all good-terms (ltb (firstBadPart frame ps) (partitions ps)) (ltb (firstBadTask (partitions ps) ts) (tasks ts)) refl e
+  unfolding tablesOf inEdition
+  refusals P two three twenty-one six seven r e =
+      at good-edition within-all good-terms (ltb (firstBadPart frame ps) (partitions ps)) (ltb (firstBadTask (partitions ps) ts) (tasks ts)) refl refl e
     where
       same : (q : Refusal) → P q → _≡_ {A = Finding} (Refused q) (Refused r) → P r
       same q h e = let z : q ≡ r = cc in subst P z h
 
-      at : (a g b c : Bool) → good-terms ≡ g
-          → pick a (unless Refused (pick g Good (Refused Granule)) (unless Refused (pick b (Refused (Partition (firstBadPart frame ps + 1))) Good) (pick c (Refused (Task (firstBadTask (partitions ps) ts + 1))) Good))) (Refused Limits) ≡ Refused r
+      at : (d a g b c : Bool) → good-edition ≡ d → good-terms ≡ g
+          → unless Refused (pick d Good (Refused Edition)) (pick a (unless Refused (pick g Good (Refused Granule)) (unless Refused (pick b (Refused (Partition (firstBadPart frame ps + 1))) Good) (pick c (Refused (Task (firstBadTask (partitions ps) ts + 1))) Good))) (Refused Limits)) ≡ Refused r
           → P r
-      at false g b c h e = same Limits three e
-      at true false b c h e = same Granule (twenty-one h) e
-      at true true true c h e = same (Partition (firstBadPart frame ps + 1)) (six _) e
-      at true true false true h e = same (Task (firstBadTask (partitions ps) ts + 1)) (seven _) e
-      at true true false false h e = let z : _≡_ {A = ℕ} 0 1 = cc in absurd (omega arith)
+      at false a g b c i h e = same Edition (two i) e
+      at true false g b c i h e = same Limits three e
+      at true true false b c i h e = same Granule (twenty-one h) e
+      at true true true true c i h e = same (Partition (firstBadPart frame ps + 1)) (six _) e
+      at true true true false true i h e = same (Task (firstBadTask (partitions ps) ts + 1)) (seven _) e
+      at true true true false false i h e = let z : _≡_ {A = ℕ} 0 1 = cc in absurd (omega arith)
 
   -- a call's answer is what follows good tables, or the chain's refusal
   pub unless-cases : {A : Type 0} (refused : Refusal → A) (next z : A) → unless refused (tablesOf terms frame ps ts) next ≡ z
@@ -266,20 +282,20 @@ module _ (terms : Terms) (frame : ℕ) (ps ts : List ℕ) where
 
   -- one that is no refusal of the chain is what follows
   pub unless-given : {A : Type 0} (refused : Refusal → A) (next z : A)
-      → ¬ (refused Limits ≡ z) → (good-terms ≡ false → ¬ (refused Granule ≡ z)) → ((k : ℕ) → ¬ (refused (Partition k) ≡ z)) → ((j : ℕ) → ¬ (refused (Task (j + 1)) ≡ z))
+      → (good-edition ≡ false → ¬ (refused Edition ≡ z)) → ¬ (refused Limits ≡ z) → (good-terms ≡ false → ¬ (refused Granule ≡ z)) → ((k : ℕ) → ¬ (refused (Partition k) ≡ z)) → ((j : ℕ) → ¬ (refused (Task (j + 1)) ≡ z))
       → unless refused (tablesOf terms frame ps ts) next ≡ z → GoodTables terms frame ps ts × (next ≡ z)
-  unless-given refused next z three twenty-one six seven e =
-      ⊎-elim (λ g. g) (λ h. absurd (refusals (λ r. ¬ (refused r ≡ z)) three twenty-one six seven (h .0) (h .1) (h .2))) (unless-cases refused next z e)
+  unless-given refused next z two three twenty-one six seven e =
+      ⊎-elim (λ g. g) (λ h. absurd (refusals (λ r. ¬ (refused r ≡ z)) two three twenty-one six seven (h .0) (h .1) (h .2))) (unless-cases refused next z e)
 
-  -- what holds of the answers to 3, to 21 where the granule is bad, to any 6 and 7 and of what follows holds of the answer
+  -- what holds of the answers to 2 where the edition is bad, to 3, to 21 where the granule is bad, to any 6 and 7 and of what follows holds of the answer
   pub unless-holds : {A : Type 0} (P : A → Type 0) (refused : Refusal → A) (next : A)
-      → P (refused Limits) → (good-terms ≡ false → P (refused Granule)) → ((k : ℕ) → P (refused (Partition k))) → ((j : ℕ) → P (refused (Task (j + 1)))) → P next
+      → (good-edition ≡ false → P (refused Edition)) → P (refused Limits) → (good-terms ≡ false → P (refused Granule)) → ((k : ℕ) → P (refused (Partition k))) → ((j : ℕ) → P (refused (Task (j + 1)))) → P next
       → P (unless refused (tablesOf terms frame ps ts) next)
-  unless-holds P refused next three twenty-one six seven h = go (tablesOf terms frame ps ts) refl
+  unless-holds P refused next two three twenty-one six seven h = go (tablesOf terms frame ps ts) refl
     where
       go : (t : Finding) → tablesOf terms frame ps ts ≡ t → P (unless refused t next)
       go Good e = h
-      go (Refused r) e = refusals (λ r. P (refused r)) three twenty-one six seven r e
+      go (Refused r) e = refusals (λ r. P (refused r)) two three twenty-one six seven r e
 
   -- and of good tables it is what follows
   pub unless-good : {A : Type 0} (refused : Refusal → A) (next : A) → GoodTables terms frame ps ts → unless refused (tablesOf terms frame ps ts) next ≡ next
@@ -287,29 +303,43 @@ module _ (terms : Terms) (frame : ℕ) (ps ts : List ℕ) where
 
 -- without tasks there is no 7
 pub unless-parts-hold : (terms : Terms) (frame : ℕ) (ps : List ℕ) {A : Type 0} (P : A → Type 0) (refused : Refusal → A) (next : A)
-    → P (refused Limits) → (goodGranule (terms .granule) ≡ false → P (refused Granule)) → ((k : ℕ) → P (refused (Partition k))) → P next
+    → (goodEdition (terms .edition) ≡ false → P (refused Edition)) → P (refused Limits)
+    → (goodGranule (terms .granule) ≡ false → P (refused Granule)) → ((k : ℕ) → P (refused (Partition k))) → P next
     → P (unless refused (tablesOf terms frame ps []) next)
-unfolding tablesOf first
-unless-parts-hold terms frame ps P refused next three twenty-one six h =
-    at (withinLimits frame (length ps) 0) (goodGranule (terms .granule)) (ltb (firstBadPart frame ps) (partitions ps)) refl
+unfolding tablesOf inEdition first
+unless-parts-hold terms frame ps P refused next two three twenty-one six h =
+    at (goodEdition (terms .edition)) (withinLimits frame (length ps) 0) (goodGranule (terms .granule)) (ltb (firstBadPart frame ps) (partitions ps)) refl refl
   where
-    at : (a g b : Bool) → goodGranule (terms .granule) ≡ g
-        → P (unless refused (pick a (unless Refused (pick g Good (Refused Granule)) (unless Refused (pick b (Refused (Partition (firstBadPart frame ps + 1))) Good) Good)) (Refused Limits)) next)
-    at false g b e = three
-    at true false b e = twenty-one e
-    at true true true e = six _
-    at true true false e = h
+    at : (d a g b : Bool) → goodEdition (terms .edition) ≡ d → goodGranule (terms .granule) ≡ g
+        → P (unless refused (unless Refused (pick d Good (Refused Edition)) (pick a (unless Refused (pick g Good (Refused Granule)) (unless Refused (pick b (Refused (Partition (firstBadPart frame ps + 1))) Good) Good)) (Refused Limits))) next)
+    at false a g b i e = two i
+    at true false g b i e = three
+    at true true false b i e = twenty-one e
+    at true true true true i e = six _
+    at true true true false i e = h
 
--- ---- calls that are given no terms
+-- ---- calls that are given no edition or no granule
+
+first-edition : goodEdition 1 ≡ true
+unfolding goodEdition
+first-edition = refl
 
 usual-good : goodGranule 1 ≡ true
 unfolding goodGranule
 usual-good = refl
 
--- good tables are good for them
-pub without-terms : {terms : Terms} {f : ℕ} {ps ts : List ℕ} → GoodTables terms f ps ts → GoodTables usual f ps ts
-without-terms a = record { limits = a .limits; granule = usual-good; parts = a .parts; tasks = a .tasks }
+-- good tables are good for edition 1, with any good granule
+pub in-edition-1 : {terms : Terms} {f : ℕ} {ps ts : List ℕ} → GoodTables terms f ps ts → GoodTables (granules (terms .granule)) f ps ts
+in-edition-1 a = record { edition = first-edition; limits = a .limits; granule = a .granule; parts = a .parts; tasks = a .tasks }
 
--- 21 is none of theirs
+-- and with granule 1, of any good edition
+pub with-granule-1 : {terms : Terms} {f : ℕ} {ps ts : List ℕ} → GoodTables terms f ps ts → GoodTables (filed (terms .edition)) f ps ts
+with-granule-1 a = record { edition = a .edition; limits = a .limits; granule = usual-good; parts = a .parts; tasks = a .tasks }
+
+-- 2 is none of theirs
+pub not-2 : {A : Type 0} → goodEdition 1 ≡ false → A
+not-2 e = absurd (true≢false (sym first-edition ∙ e))
+
+-- nor 21
 pub usual-not-21 : {A : Type 0} → goodGranule 1 ≡ false → A
 usual-not-21 e = absurd (true≢false (sym usual-good ∙ e))

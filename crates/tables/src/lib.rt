@@ -1,4 +1,4 @@
-// What tells against terms and tables: the limits, good records, and the one chain of the refusals 3, 21, 6 and 7; and
+// What tells against terms and tables: the limits, good records, and the one chain of the refusals 2, 3, 21, 6 and 7; and
 // against a plan's ticks: 8.
 ghost use mathlib.Core.Path.{_≡_};
 ghost use mathlib.Core.List.{[]};
@@ -7,7 +7,7 @@ ghost use Rattle.rules.specs.Walk.{fails};
 ghost use Rattle.rules.specs.Terms.{goodGranule};
 ghost use Rattle.rules.specs.Table.{goodShare, goodTimes, goodPart, goodTask, goodTick};
 ghost use Rattle.tables.specs.Contracts.{firstBadPart, firstBadTask, firstBadTick};
-ghost use Rattle.tables.specs.Tables.{countedIn, withinLimits, unless, tablesOf, ticksJudged};
+ghost use Rattle.tables.specs.Tables.{countedIn, withinLimits, unless, inEdition, tablesOf, ticksJudged};
 ghost use Rattle.rules.specs.declared.Finding.the-variants.{Refused};
 use rules::Finding;
 use rules::Refusal;
@@ -173,9 +173,9 @@ pub fn first_bad_tick(plan: &[u16], parts: usize) -> usize
     n
 }
 
-// What tells against the terms and the tables, for cycles no longer than the frame: 3, 21, 6 and 7.
-pub fn judge_tables(terms: Terms, frame: usize, parts: &[u16], table: &[u16]) -> Finding
-    ensures { λ r. ⌜ r ≡ tablesOf terms frame (now (parts .entry)) (now (table .entry)) ⌝ }
+// What tells against the granule and the tables, for cycles no longer than the frame: 3, 21, 6 and 7.
+pub fn judge_in_edition(terms: Terms, frame: usize, parts: &[u16], table: &[u16]) -> Finding
+    ensures { λ r. ⌜ r ≡ inEdition terms frame (now (parts .entry)) (now (table .entry)) ⌝ }
 {
     if !within_limits(frame, parts.len(), table.len()) {
         return Finding::Refused(Refusal::Limits);
@@ -192,6 +192,16 @@ pub fn judge_tables(terms: Terms, frame: usize, parts: &[u16], table: &[u16]) ->
         return Finding::Refused(Refusal::Task(j + 1));
     }
     Finding::Good
+}
+
+// The same with the edition's 2 first of all.
+pub fn judge_tables(terms: Terms, frame: usize, parts: &[u16], table: &[u16]) -> Finding
+    ensures { λ r. ⌜ r ≡ tablesOf terms frame (now (parts .entry)) (now (table .entry)) ⌝ }
+{
+    if !rules::good_edition(terms.edition) {
+        return Finding::Refused(Refusal::Edition);
+    }
+    judge_in_edition(terms, frame, parts, table)
 }
 
 // The same where no tasks are asked about.

@@ -1,12 +1,14 @@
--- The harmonic rule on small tables, by computing: what a wrong formula in specs/Harmonic.antt falls by. Assumes nothing.
+-- The harmonic rule on small tables and switch ticks in small plans, by computing: what a wrong formula in specs/Harmonic.antt or specs/Plan.antt falls by. Assumes nothing.
 use mathlib.Core.Path.{_≡_, refl}
 use mathlib.Core.Bool.{true, false}
 use mathlib.Core.List.{List, [], _∷_}
 use Prim.Native.Nat.{ℕ}
+use lib.ListN.{length}
 use Rattle.rules.specs.Walk.{only, first, sum, count, largest, walk, listed, roundUp}
 use Rattle.rules.specs.Table.{wants}
 use Rattle.rules.specs.Terms.{granules, usual, wanted}
-use Rattle.theory.specs.Plan.{owned}
+use Rattle.rules.specs.declared.Rule.the-variants.{Switching}
+use Rattle.theory.specs.Plan.{owner, ownerBefore, switchTick, unswitched, service, owned}
 use Rattle.theory.specs.Harmonic.{pairs, frame, allWanted, sooner, rank, give, turn, planned, harmonicPlan}
 
 -- P1: cycles 4, 8, 8, shares 1/4, 3/8, 1/100
@@ -46,3 +48,28 @@ rising = 4 ∷ 1 ∷ 4 ∷ 4 ∷ 1 ∷ 4 ∷ 2 ∷ 1 ∷ 2 ∷ []
 pub rising-plan : harmonicPlan (wanted usual rising) rising ≡ 3 ∷ 1 ∷ 3 ∷ 2 ∷ []
 unfolding only first sum count largest walk roundUp wants owned frame sooner rank give turn planned listed
 rising-plan = refl
+
+-- ---- the switch tick: whom each tick of a frame serves
+
+abbrev served : List ℕ → List ℕ
+served plan = listed (service Switching plan) (length plan)
+
+-- every tick a switch tick
+pub all-switch : served (1 ∷ 2 ∷ 1 ∷ 2 ∷ []) ≡ 0 ∷ 0 ∷ 0 ∷ 0 ∷ []
+unfolding listed owner ownerBefore switchTick unswitched
+all-switch = refl
+
+-- the first run goes on where the last one ended
+pub joined-ends : served (1 ∷ 1 ∷ 2 ∷ 2 ∷ 1 ∷ 1 ∷ []) ≡ 1 ∷ 1 ∷ 0 ∷ 2 ∷ 0 ∷ 1 ∷ []
+unfolding listed owner ownerBefore switchTick unswitched
+joined-ends = refl
+
+-- idle between two runs of one owner, and before the first
+pub idle-between : served (1 ∷ 1 ∷ 0 ∷ 1 ∷ 1 ∷ 1 ∷ 0 ∷ []) ≡ 0 ∷ 1 ∷ 0 ∷ 0 ∷ 1 ∷ 1 ∷ 0 ∷ []
+unfolding listed owner ownerBefore switchTick unswitched
+idle-between = refl
+
+-- "A plan of one run has no switch tick."
+pub one-tick : served (3 ∷ []) ≡ 3 ∷ []
+unfolding listed owner ownerBefore switchTick unswitched
+one-tick = refl

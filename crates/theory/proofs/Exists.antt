@@ -11,7 +11,8 @@ use Rattle.rules.specs.Walk.{pick, first, some, sum}
 use Rattle.rules.specs.Table.{partition, tasks}
 use Rattle.rules.proofs.First.{first-at, first-upto, first-past, some-at}
 use Rattle.rules.proofs.Sum.{le-or-lt, sum-ext}
-use Rattle.theory.specs.Plan.{Rule, service}
+use Rattle.rules.specs.declared.Rule.{Rule}
+use Rattle.theory.specs.Plan.{service}
 use Rattle.theory.specs.Run.{Ran, nothing, job, hit, done, Waiting, atArrival, Before, Runs, Releases}
 use Rattle.theory.specs.Theorems.{LegalExists, LegalOne}
 use Rattle.rules.proofs.Tests.{and-parts, and-intro}

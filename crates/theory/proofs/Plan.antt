@@ -1,15 +1,17 @@
 -- Least service: the smallest over every start in ℕ, attained, 0 of no ticks, between 0 and t, growing with the stretch. Assumes nothing.
 use mathlib.Core.Path.{_≡_, ap}
 use mathlib.Core.List.{List}
-use Prim.Native.Nat.{ℕ, zero, suc, _+_, _%_, _≤_}
-use native.Mathlib.Nat.{mod-add-mod, mod-lt}
+use Prim.Native.Nat.{ℕ, zero, suc, _+_, _-_, _%_, _≤_}
+use native.Mathlib.Nat.{add-assoc, mod-add-mod, mod-lt}
 use native.Mathlib.Omega.{arith}
 use lib.Dec.{eqb}
 use lib.ListN.{length, getD}
 use Rattle.rules.specs.Walk.{only, count, sum, smallest}
 use Rattle.rules.proofs.Sum.{count-zero, count-more, count-le, count-ext}
 use Rattle.rules.proofs.Least.{smallest-le, smallest-is, smallest-mono}
-use Rattle.theory.specs.Plan.{owner, Rule, own, service, owned, held, least}
+use Rattle.rules.specs.declared.Rule.{Rule}
+use Rattle.rules.specs.declared.Rule.the-variants.{Own, Switching}
+use Rattle.theory.specs.Plan.{owner, ownerBefore, switchTick, unswitched, service, owned, held, least}
 use Rattle.theory.specs.Theorems.{LeastIsLeast, LeastAttained, LeastZero, LeastBounds, LeastGrows, ServesInFrame, PastCycleShort}
 use Rattle.theory.proofs.Words.{ownsFrom}
 
@@ -38,8 +40,17 @@ owner-around : (plan : List ℕ) (s k : ℕ) → owner plan (s % length plan + k
 unfolding owner
 owner-around plan s k = ap (λ (x : ℕ). getD plan x 0) (mod-add-mod s (length plan) k)
 
+before-around : (plan : List ℕ) (s k : ℕ) → ownerBefore plan (s % length plan + k) ≡ ownerBefore plan (s + k)
+unfolding ownerBefore
+before-around plan s k = simp add-assoc (owner-around plan s (k + (length plan - 1)))
+
+unswitched-around : (plan : List ℕ) (s k : ℕ) → unswitched plan (s % length plan + k) ≡ unswitched plan (s + k)
+unfolding unswitched switchTick
+unswitched-around plan s k = rw (before-around plan s k, owner-around plan s k)
+
 pub service-around : (rule : Rule) (plan : List ℕ) (s k : ℕ) → service rule plan (s % length plan + k) ≡ service rule plan (s + k)
-service-around own plan s k = owner-around plan s k
+service-around Own plan s k = owner-around plan s k
+service-around Switching plan s k = unswitched-around plan s k
 
 -- a start past the frame's end is one within it
 pub held-around : (rule : Rule) (plan : List ℕ) (p t s : ℕ) → held rule plan p t (s % length plan) ≡ held rule plan p t s

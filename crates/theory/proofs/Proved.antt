@@ -3,6 +3,7 @@ use mathlib.Core.Path.{sym, _∙_}
 use Rattle.theory.specs.Theorems.{Proved}
 use Rattle.theory.proofs.Wants.{wants-smallest, wants-range, wants-whole, wants-no-less}
 use Rattle.theory.proofs.Plan.{past-cycle-short, least-is-least, least-attained, least-zero, least-bounds, least-grows, serves-in-frame}
+use Rattle.theory.proofs.Switch.{switch-exactly, switch-serves, one-run, service-within, held-within, least-within, serves-within, passes-within}
 use Rattle.theory.proofs.Tasks.{points-enough, ticks-exactly, run-theorem, endless-theorem}
 use Rattle.theory.proofs.Load.{load-theorem}
 use Rattle.theory.proofs.Points.{load-points, point-smallest, tick-smallest, tick-at-most-point}
@@ -17,8 +18,16 @@ proved = record {
   wants-whole = wants-whole;
   wants-no-less = wants-no-less;
   wants-one = λ g m n d r r′ e f. e ∙ sym f;
-  held-one = λ plan p s n r r′ e f. e ∙ sym f;
-  least-one = λ plan p t r r′ e f. e ∙ sym f;
+  held-one = λ i plan p s n r r′ e f. e ∙ sym f;
+  least-one = λ i plan p t r r′ e f. e ∙ sym f;
+  switch-exactly = switch-exactly;
+  switch-serves = switch-serves;
+  one-run = one-run;
+  service-within = service-within;
+  held-within = held-within;
+  least-within = least-within;
+  serves-within = serves-within;
+  passes-within = passes-within;
   least-is-least = least-is-least;
   least-attained = least-attained;
   least-zero = least-zero;

@@ -12,7 +12,8 @@ use Rattle.rules.specs.Table.{partition, budget, deadline, period, tasks, goodT
 use mir.Facts.{yes-eqb}
 use Rattle.rules.proofs.Sum.{count-ext}
 use Rattle.rules.proofs.Tests.{good-times}
-use Rattle.theory.specs.Plan.{Rule, service, owned, held}
+use Rattle.rules.specs.declared.Rule.{Rule}
+use Rattle.theory.specs.Plan.{service, owned, held}
 use Rattle.theory.specs.Run.{Ran, nothing, job, Waiting, atArrival, Before, Runs, Releases, LegalTo}
 use Rattle.theory.specs.Load.{asked, demand, lastPoint, multiple, point, holds, earliest}
 use Rattle.theory.specs.Competition.{LowerBound, Brings, Queue}

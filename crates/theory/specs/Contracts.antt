@@ -2,7 +2,8 @@
 use mathlib.Core.List.{List}
 use Prim.Native.Nat.{ℕ, _*_, _/_}
 use Rattle.rules.specs.Table.{cycle, partition}
-use Rattle.theory.specs.Plan.{Rule, least}
+use Rattle.rules.specs.declared.Rule.{Rule}
+use Rattle.theory.specs.Plan.{least}
 
 -- "q·H/m": what place k wants in a frame of h ticks
 abbrev pub wantedIn : (ℕ → ℕ) → List ℕ → ℕ → ℕ → ℕ

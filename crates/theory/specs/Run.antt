@@ -8,7 +8,8 @@ use Prim.Native.Nat.{ℕ, _+_, _≤_, _<_}
 use lib.Dec.{eqb}
 use Rattle.rules.specs.Walk.{only, sum}
 use Rattle.rules.specs.Table.{partition, budget, period, tasks}
-use Rattle.theory.specs.Plan.{Rule, service}
+use Rattle.rules.specs.declared.Rule.{Rule}
+use Rattle.theory.specs.Plan.{service}
 
 -- what a tick runs
 pub data Ran : Type 0 where

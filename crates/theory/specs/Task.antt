@@ -4,7 +4,8 @@ use mathlib.Core.List.{List}
 use Prim.Native.Nat.{ℕ}
 use lib.Dec.{eqb}
 use Rattle.rules.specs.Table.{partition, budget, deadline, period}
-use Rattle.theory.specs.Plan.{Rule, least}
+use Rattle.rules.specs.declared.Rule.{Rule}
+use Rattle.theory.specs.Plan.{least}
 use Rattle.theory.specs.Load.{Load, Passes, firstPoint, firstTick}
 
 -- "Within a partition an earlier task has the higher priority": of the tasks before i, those of its partition

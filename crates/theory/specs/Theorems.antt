@@ -1,15 +1,18 @@
 -- What is proved of the definitions: each statement is a type, and its proof is a term of it in proofs/. Assumes nothing.
 use mathlib.Core.Path.{_≡_}
 use mathlib.Core.Logic.{_⊎_, _↔_}
-use mathlib.Core.Bool.{true}
+use mathlib.Core.Bool.{true, false}
 use mathlib.Core.List.{List}
-use Prim.Native.Nat.{ℕ, suc, _+_, _*_, _≤_, _<_}
+use Prim.Native.Nat.{ℕ, suc, _+_, _-_, _*_, _≤_, _<_}
 use lib.ListN.{length, getD}
 use Rattle.rules.specs.Limits.{longest}
 use Rattle.rules.specs.Walk.{Every, roundUp}
 use Rattle.rules.specs.Table.{cycle, partitions, wants, WantsIs, goodShare, goodPart, deadline, tasks, goodTask}
 use Rattle.rules.specs.Terms.{goodGranule}
-use Rattle.theory.specs.Plan.{Rule, own, held, HeldIs, least, LeastIs, Serves}
+use Rattle.rules.specs.declared.Rule.{Rule}
+use Rattle.rules.specs.declared.Rule.the-variants.{Own, Switching}
+use Rattle.rules.specs.declared.Holding.{Holding}
+use Rattle.theory.specs.Plan.{owner, switchTick, service, held, HeldIs, least, LeastIs, Serves}
 use Rattle.theory.specs.Harmonic.{Harmonic, pairs, frame, allWanted, rank, taken, harmonicPlan}
 use Rattle.theory.specs.Run.{Ran, done, Releases, LegalTo, Legal}
 use Rattle.theory.specs.Load.{Load, demand, lastPoint, point, firstPoint, firstTick}
@@ -42,10 +45,50 @@ abbrev pub WantsOne : Type 0
 WantsOne = (g m n d r r′ : ℕ) → WantsIs g m n d r → WantsIs g m n d r′ → r ≡ r′
 
 abbrev pub HeldOne : Type 0
-HeldOne = (plan : List ℕ) (p s n r r′ : ℕ) → HeldIs plan p s n r → HeldIs plan p s n r′ → r ≡ r′
+HeldOne = (e : ℕ) (plan : List ℕ) (p s n : ℕ) (r r′ : Holding) → HeldIs e plan p s n r → HeldIs e plan p s n r′ → r ≡ r′
 
 abbrev pub LeastOne : Type 0
-LeastOne = (plan : List ℕ) (p t r r′ : ℕ) → LeastIs plan p t r → LeastIs plan p t r′ → r ≡ r′
+LeastOne = (e : ℕ) (plan : List ℕ) (p t : ℕ) (r r′ : Holding) → LeastIs e plan p t r → LeastIs e plan p t r′ → r ≡ r′
+
+-- ==== the switch tick
+
+-- document 02, ask 6: "the first tick of a run is spent on switching when the tick before belongs to another partition or to idle": a partition's tick behind one of another owner,
+-- and the frame's first tick behind its last, "the frame's end joined to its start"
+abbrev pub SwitchExactly : Type 0
+SwitchExactly =
+    (plan : List ℕ) → 0 < length plan
+    → ((t : ℕ) → (switchTick plan (suc t) ≡ true) ↔ ((0 < owner plan (suc t)) × ¬ (owner plan t ≡ owner plan (suc t))))
+    × ((switchTick plan 0 ≡ true) ↔ ((0 < owner plan 0) × ¬ (owner plan (length plan - 1) ≡ owner plan 0)))
+
+-- "A switch tick is owned but doesn't count as service", and every other tick serves its owner
+abbrev pub SwitchServes : Type 0
+SwitchServes =
+    (plan : List ℕ) (t : ℕ)
+    → (switchTick plan t ≡ true → service Switching plan t ≡ 0) × (switchTick plan t ≡ false → service Switching plan t ≡ owner plan t)
+
+-- "A plan of one run has no switch tick."
+abbrev pub OneRun : Type 0
+OneRun = (plan : List ℕ) (p : ℕ) → ((t : ℕ) → owner plan t ≡ p) → (t : ℕ) → switchTick plan t ≡ false
+
+-- by no rule more is served than by edition 1's, tick by tick
+abbrev pub ServiceWithin : Type 0
+ServiceWithin = (rule : Rule) (plan : List ℕ) (p t : ℕ) → 0 < p → service rule plan t ≡ p → service Own plan t ≡ p
+
+-- nor held, nor sure
+abbrev pub HeldWithin : Type 0
+HeldWithin = (rule : Rule) (plan : List ℕ) (p n s : ℕ) → 0 < p → held rule plan p n s ≤ held Own plan p n s
+
+abbrev pub LeastWithin : Type 0
+LeastWithin = (rule : Rule) (plan : List ℕ) (p t : ℕ) → 0 < p → least rule plan p t ≤ least Own plan p t
+
+-- so what serves in edition 2 serves in edition 1, and a task that passes there passes here
+abbrev pub ServesWithin : Type 0
+ServesWithin = (rule : Rule) (q : ℕ → ℕ) (plan ps : List ℕ) → Serves rule q plan ps → Serves Own q plan ps
+
+abbrev pub PassesWithin : Type 0
+PassesWithin =
+    (rule : Rule) (plan ts : List ℕ) (parts : ℕ) → Every (goodTask parts ts) (tasks ts) → (i : ℕ) → i < tasks ts
+    → TaskPasses rule plan ts i → TaskPasses Own plan ts i
 
 -- ==== least service
 
@@ -157,7 +200,7 @@ TakenRises =
 abbrev pub HarmonicServes : Type 0
 HarmonicServes =
     (q : ℕ → ℕ) (ps : List ℕ) → 0 < partitions ps → Every (goodPart longest ps) (partitions ps) → Harmonic ps
-    → allWanted q ps (frame ps) ≤ frame ps → Serves own q (harmonicPlan q ps) ps
+    → allWanted q ps (frame ps) ≤ frame ps → Serves Own q (harmonicPlan q ps) ps
 
 -- "exactly when the sum of q·H/m is above H. Then no plan of any frame serves the table."
 abbrev pub HarmonicRefused : Type 0
@@ -194,6 +237,14 @@ pub record Proved : Type 0 where
   pub wants-one : WantsOne
   pub held-one : HeldOne
   pub least-one : LeastOne
+  pub switch-exactly : SwitchExactly
+  pub switch-serves : SwitchServes
+  pub one-run : OneRun
+  pub service-within : ServiceWithin
+  pub held-within : HeldWithin
+  pub least-within : LeastWithin
+  pub serves-within : ServesWithin
+  pub passes-within : PassesWithin
   pub least-is-least : LeastIsLeast
   pub least-attained : LeastAttained
   pub least-zero : LeastZero
