@@ -1,6 +1,6 @@
-// Numbers: widened, the smaller and the larger, a test as a number, and the place after in a round.
+// Numbers: widened, the smaller and the larger, a test as a number, and the places after and before in a round.
 ghost use mathlib.Core.Path.{_≡_};
-ghost use Prim.Native.Nat.{_+_, _%_, _^_, _≤_, _<_, min, max};
+ghost use Prim.Native.Nat.{_+_, _-_, _%_, _^_, _≤_, _<_, min, max};
 ghost use Rattle.rules.specs.Walk.{only};
 
 pub fn wide(x: u16) -> usize
@@ -41,4 +41,15 @@ pub fn after(at: usize, f: usize) -> usize
 {
     let next = at + 1;
     if next < f { next } else { 0 }
+}
+
+// The place before `at` in a round of f: the start is joined to the end.
+pub fn before(at: usize, f: usize) -> usize
+    requires { ⌜ at < f ⌝ }
+    ensures { λ r. ⌜ (r < f) × (r ≡ (at + (f - 1)) % f) ⌝ }
+{
+    if at == 0 {
+        return f - 1;
+    }
+    at - 1
 }

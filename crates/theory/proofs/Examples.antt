@@ -56,20 +56,20 @@ served plan = listed (service Switching plan) (length plan)
 
 -- every tick a switch tick
 pub all-switch : served (1 ∷ 2 ∷ 1 ∷ 2 ∷ []) ≡ 0 ∷ 0 ∷ 0 ∷ 0 ∷ []
-unfolding listed owner ownerBefore switchTick unswitched
+unfolding listed service owner ownerBefore switchTick unswitched
 all-switch = refl
 
 -- the first run goes on where the last one ended
 pub joined-ends : served (1 ∷ 1 ∷ 2 ∷ 2 ∷ 1 ∷ 1 ∷ []) ≡ 1 ∷ 1 ∷ 0 ∷ 2 ∷ 0 ∷ 1 ∷ []
-unfolding listed owner ownerBefore switchTick unswitched
+unfolding listed service owner ownerBefore switchTick unswitched
 joined-ends = refl
 
 -- idle between two runs of one owner, and before the first
 pub idle-between : served (1 ∷ 1 ∷ 0 ∷ 1 ∷ 1 ∷ 1 ∷ 0 ∷ []) ≡ 0 ∷ 1 ∷ 0 ∷ 0 ∷ 1 ∷ 1 ∷ 0 ∷ []
-unfolding listed owner ownerBefore switchTick unswitched
+unfolding listed service owner ownerBefore switchTick unswitched
 idle-between = refl
 
 -- "A plan of one run has no switch tick."
 pub one-tick : served (3 ∷ []) ≡ 3 ∷ []
-unfolding listed owner ownerBefore switchTick unswitched
+unfolding listed service owner ownerBefore switchTick unswitched
 one-tick = refl

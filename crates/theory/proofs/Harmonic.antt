@@ -14,7 +14,7 @@ use Rattle.rules.specs.Walk.{pick, only, sum, count, walk, listed}
 use Rattle.rules.proofs.Sum.{le-or-lt, only-eq, only-ne, only-self, sum-le, sum-eq, sum-first, sum-mono, count-zero, count-more}
 use Rattle.rules.proofs.Named.{listed-length, listed-at}
 use Rattle.rules.specs.declared.Rule.the-variants.{Own}
-use Rattle.theory.specs.Plan.{owner, owned, held}
+use Rattle.theory.specs.Plan.{owner, service, owned, held}
 use Rattle.theory.specs.Harmonic.{give}
 use Rattle.theory.proofs.Need.{owned-split}
 use Rattle.theory.specs.Contracts.{idle}
@@ -258,5 +258,5 @@ listed-owner o H pos per t =
     ap (λ (x : ℕ). getD (listed o H) (t % x) 0) (listed-length o H) ∙ listed-at o H (t % H) (mod-lt t pos) ∙ sym (period-mul o H per (t / H) (t % H)) ∙ ap o e
 
 pub listed-held : (o : ℕ → ℕ) (H : ℕ) → 0 < H → Period o H → (p t a : ℕ) → held Own (listed o H) p t a ≡ owned o p t a
-unfolding owned count
+unfolding service owned count
 listed-held o H pos per p t a = sum-eq t _ _ (λ k. ap (λ (x : ℕ). only (eqb x p) 1) (listed-owner o H pos per (a + k)))

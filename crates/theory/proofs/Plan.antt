@@ -49,6 +49,7 @@ unfolding unswitched switchTick
 unswitched-around plan s k = rw (before-around plan s k, owner-around plan s k)
 
 pub service-around : (rule : Rule) (plan : List ℕ) (s k : ℕ) → service rule plan (s % length plan + k) ≡ service rule plan (s + k)
+unfolding service
 service-around Own plan s k = owner-around plan s k
 service-around Switching plan s k = unswitched-around plan s k
 

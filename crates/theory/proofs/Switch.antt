@@ -50,7 +50,7 @@ pub switch-exactly : SwitchExactly
 switch-exactly plan h = (λ t. switch-means plan (suc t) (owner plan t) (before-next plan t h), switch-means plan 0 (owner plan (length plan - 1)) (before-first plan))
 
 pub switch-serves : SwitchServes
-unfolding unswitched
+unfolding service unswitched
 switch-serves plan t = (λ e. rw e, λ e. rw e)
 
 pub one-run : OneRun
@@ -64,7 +64,7 @@ one-run plan p all t = rw (all (t + (length plan - 1)), all t, eq-eqb p p refl) 
 -- ---- never more than the owned ticks
 
 pub service-within : ServiceWithin
-unfolding unswitched
+unfolding service unswitched
 service-within Own plan p t h e = e
 service-within Switching plan p t h e = go (switchTick plan t) e
   where
@@ -76,8 +76,8 @@ pub held-within : HeldWithin
 unfolding owned count
 held-within rule plan p n s h = sum-le n _ _ (λ k l. go k (ℕ-discrete (service rule plan (s + k)) p))
   where
-    go : (k : ℕ) → Dec (service rule plan (s + k) ≡ p) → only (eqb (service rule plan (s + k)) p) 1 ≤ only (eqb (owner plan (s + k)) p) 1
-    go k (yes e) = omega (arith, only-self (eqb (service rule plan (s + k)) p) 1, only-eq (owner plan (s + k)) p 1 (service-within rule plan p (s + k) h e))
+    go : (k : ℕ) → Dec (service rule plan (s + k) ≡ p) → only (eqb (service rule plan (s + k)) p) 1 ≤ only (eqb (service Own plan (s + k)) p) 1
+    go k (yes e) = omega (arith, only-self (eqb (service rule plan (s + k)) p) 1, only-eq (service Own plan (s + k)) p 1 (service-within rule plan p (s + k) h e))
     go k (no f) = omega (arith, only-ne (service rule plan (s + k)) p 1 f)
 
 pub least-within : LeastWithin

@@ -31,7 +31,7 @@ unfoldable pub unswitched : List ℕ → ℕ → ℕ
 unswitched plan t = pick (switchTick plan t) 0 (owner plan t)
 
 -- the partition that tick t serves, or 0 for none: by edition 1's rule its owner
-abbrev pub service : Rule → List ℕ → ℕ → ℕ
+unfoldable pub service : Rule → List ℕ → ℕ → ℕ
 service Own = owner
 service Switching = unswitched
 

@@ -1,7 +1,7 @@
 use native.Mathlib.Nat.{mod-lt}
 use native.Mathlib.Omega.{arith}
 use lib.ListN.{length}
-use Rattle.theory.specs.Plan.{owner}
+use Rattle.theory.specs.Plan.{service}
 use Rattle.theory.proofs.Plan.{held-le}
 use Rattle.plan_service.proofs.Turns.{held-whole}
 use borrow.Author.Needs.{needs}
@@ -39,13 +39,13 @@ div-result : tie.Need-div-result
 div-result c = search needs
 
 mul-result : tie.Need-mul-result
-mul-result c = omega (arith, held-whole _ _ _ _ _ _ (omega arith) (c .before .joined2 .ensures .1) (c .joined3 .ensures .1), held-le (owner (c .before .before .before .before .args .plan .now)) (c .before .before .before .before .args .p) (c .before .before .before .before .args .n) (c .before .before .before .before .args .s))
+mul-result c = omega (arith, held-whole _ _ _ _ _ _ _ (omega arith) (c .before .joined2 .ensures .1) (c .joined3 .ensures .1), held-le (service (c .before .before .before .before .args .rule) (c .before .before .before .before .args .plan .now)) (c .before .before .before .before .args .p) (c .before .before .before .before .args .n) (c .before .before .before .before .args .s))
 
 add-result : tie.Need-add-result
-add-result c = omega (arith, held-whole _ _ _ _ _ _ (omega arith) (c .before .joined2 .ensures .1) (c .joined3 .ensures .1), held-le (owner (c .before .before .before .before .args .plan .now)) (c .before .before .before .before .args .p) (c .before .before .before .before .args .n) (c .before .before .before .before .args .s))
+add-result c = omega (arith, held-whole _ _ _ _ _ _ _ (omega arith) (c .before .joined2 .ensures .1) (c .joined3 .ensures .1), held-le (service (c .before .before .before .before .args .rule) (c .before .before .before .before .args .plan .now)) (c .before .before .before .before .args .p) (c .before .before .before .before .args .n) (c .before .before .before .before .args .s))
 
 returns-2 : tie.Need-returns-2
-returns-2 c = held-whole _ _ _ _ _ _ (omega arith) (c .before .joined2 .ensures .1) (c .joined3 .ensures .1)
+returns-2 c = held-whole _ _ _ _ _ _ _ (omega arith) (c .before .joined2 .ensures .1) (c .joined3 .ensures .1)
 
 pub counted-spec : {M : Type 1} → statement M
 counted-spec =

@@ -4,10 +4,10 @@ use Rattle.plan_service.proofs.held_from.Statement.{statement}
 use Rattle.plan_service.proofs.held_from.Tie as tie
 
 returns : tie.Need-returns
-returns c = empty-idle _ _ _ _ (c .before .if1 .taken) (c .if2 .taken)
+returns c = empty-idle _ _ _ _ _ (c .before .if1 .taken) (c .if2 .taken)
 
 returns-2 : tie.Need-returns-2
-returns-2 c = empty-other _ _ _ _ (c .before .if1 .taken) (c .if2 .left)
+returns-2 c = empty-other _ _ _ _ _ (c .before .if1 .taken) (c .if2 .left)
 
 counted-requires : tie.Need-counted-requires
 counted-requires c κs = search needs

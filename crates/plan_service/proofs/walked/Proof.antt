@@ -2,26 +2,26 @@ use Prim.Native.Nat.{_-_, _≤_}
 use mathlib.Core.Path.{_≡_, sym}
 use native.Mathlib.Nat.{mod-eq-of-lt}
 use native.Mathlib.Omega.{arith}
-use Rattle.theory.specs.Plan.{own, held}
+use Rattle.theory.specs.Plan.{held}
 use Rattle.plan_service.proofs.Turns.{held-none, held-turn}
 use borrow.Author.Needs.{needs}
 use Rattle.plan_service.proofs.walked.Statement.{statement}
 use Rattle.plan_service.proofs.walked.Tie as tie
 
 abbrev Inv-loop : tie.InvT-loop
-Inv-loop plan p n a h₀ k₀ h k = (k ≤ n) × (h ≤ k) × (h ≡ held own plan p k a)
+Inv-loop rule plan p n a h₀ k₀ h k = (k ≤ n) × (h ≤ k) × (h ≡ held rule plan p k a)
 
 abbrev μ-loop : tie.MeasureT-loop
-μ-loop plan p n a h₀ k₀ h k = n - k
+μ-loop rule plan p n a h₀ k₀ h k = n - k
 
 loop-holds : tie.Need-loop-holds Inv-loop μ-loop
-loop-holds c = (search needs, search needs, held-none _ _ _)
+loop-holds c = (search needs, search needs, held-none _ _ _ _)
 
-add-own-at : tie.Need-add-own-at Inv-loop μ-loop
-add-own-at c = search needs
+add-serves-at : tie.Need-add-serves-at Inv-loop μ-loop
+add-serves-at c = search needs
 
-own-at-requires : tie.Need-own-at-requires Inv-loop μ-loop
-own-at-requires c κs = search needs
+serves-at-requires : tie.Need-serves-at-requires Inv-loop μ-loop
+serves-at-requires c κs = search needs
 
 add-h : tie.Need-add-h Inv-loop μ-loop
 add-h c = search needs
@@ -35,7 +35,7 @@ loop-less c = search needs
 loop-again : tie.Need-loop-again Inv-loop μ-loop
 loop-again c =
     let l = c .before .before .loop in
-    (search needs, search needs, held-turn _ _ _ _ _ _ _ (sym (mod-eq-of-lt (search needs))) (l .inv .2) (c .own-at .ensures .1))
+    (search needs, search needs, held-turn _ _ _ _ _ _ _ _ (sym (mod-eq-of-lt (search needs))) (l .inv .2) (c .serves-at .ensures .1))
 
 returns : tie.Need-returns Inv-loop μ-loop
 returns c =
@@ -49,8 +49,8 @@ walked-spec =
     Inv-loop
     μ-loop
     loop-holds
-    add-own-at
-    own-at-requires
+    add-serves-at
+    serves-at-requires
     add-h
     add-k
     loop-less
