@@ -1,15 +1,16 @@
 // The checker: whether every stretch of a plan holds what each partition wants.
 use rules::Finding;
 use rules::Refusal;
+use rules::Rule;
 use rules::Terms;
 ghost use mathlib.Core.Path.{_≡_};
-ghost use Rattle.rules.specs.Terms.{wanted};
+ghost use Rattle.rules.specs.Terms.{ruleIn, wanted};
 ghost use Rattle.plan_check.specs.Check.{scanOf, planCheckOf, Checks};
 
 // Refusal 9 alone: the lowest partition's lowest start whose stretch holds too little. It is public for a caller
 // whose plan is judged already, as the listing's is by the reader.
-pub fn scan(terms: Terms, plan: &[u16], parts: &[u16]) -> Finding
-    ensures { λ r. ⌜ r ≡ scanOf (wanted terms (now (parts .entry))) (now (plan .entry)) (now (parts .entry)) ⌝ }
+pub fn scan(rule: Rule, terms: Terms, plan: &[u16], parts: &[u16]) -> Finding
+    ensures { λ r. ⌜ r ≡ scanOf rule (wanted terms (now (parts .entry))) (now (plan .entry)) (now (parts .entry)) ⌝ }
 {
     let f = plan.len();
     let n = rules::records::partitions(parts);
@@ -18,7 +19,7 @@ pub fn scan(terms: Terms, plan: &[u16], parts: &[u16]) -> Finding
     'scan: while k < n {
         let m = rules::numbers::wide(rules::records::cycle(parts, k));
         let q = rules::records::wanted(terms, parts, k);
-        let mut stretch = plan_service::stretch_from(plan, k + 1, m, 0);
+        let mut stretch = plan_service::stretch_from(rule, plan, k + 1, m, 0);
         while stretch.start < f {
             if stretch.held < q {
                 found = Finding::Refused(Refusal::Shortfall {
@@ -29,7 +30,7 @@ pub fn scan(terms: Terms, plan: &[u16], parts: &[u16]) -> Finding
                 });
                 break 'scan;
             }
-            stretch = plan_service::next_stretch(plan, k + 1, stretch);
+            stretch = plan_service::next_stretch(rule, plan, k + 1, stretch);
         }
         k += 1;
     }
@@ -38,12 +39,12 @@ pub fn scan(terms: Terms, plan: &[u16], parts: &[u16]) -> Finding
 
 // Refusals 8 and 9, of tables whose numbers are within their limits.
 pub fn check_plan(terms: Terms, plan: &[u16], parts: &[u16]) -> Finding
-    ensures { λ r. ⌜ r ≡ planCheckOf (wanted terms (now (parts .entry))) (now (plan .entry)) (now (parts .entry)) ⌝ }
+    ensures { λ r. ⌜ r ≡ planCheckOf (ruleIn terms) (wanted terms (now (parts .entry))) (now (plan .entry)) (now (parts .entry)) ⌝ }
 {
     let ticks = tables::judge_ticks(plan, parts);
     match ticks {
         Finding::Refused(r) => Finding::Refused(r),
-        Finding::Good => scan(terms, plan, parts),
+        Finding::Good => scan(rules::rule_of(terms.edition), terms, plan, parts),
     }
 }
 
