@@ -13,19 +13,18 @@ use borrow.Author.Tests.{eq-eqb, le-ltb, le-leb, ltb-true, not-false}
 use Rattle.rules.specs.Walk.{pick, fails}
 use Rattle.rules.specs.Limits.{longest}
 use Rattle.rules.specs.Table.{cycle, partitions}
-use Rattle.rules.specs.Terms.{wanted}
+use Rattle.rules.specs.Terms.{given, granules, ruleOf, wanted}
 use Rattle.rules.specs.declared.Terms.{Terms}
 use Rattle.tables.specs.Tables.{GoodTables}
 use Rattle.rules.specs.Refusals.{told, toldFilling}
 use Rattle.rules.specs.declared.Refusal.{Refusal}
 use Rattle.rules.specs.declared.Refusal.the-variants.{Unharmonic, Want, Output}
 use Rattle.rules.proofs.First.{first-none, some-none}
-use Rattle.tables.proofs.Chain.{good-exactly, unless-given, other-frame}
+use Rattle.tables.proofs.Chain.{good-exactly, unless-given, other-frame, in-edition-1}
 use Rattle.rules.proofs.Sum.{le-or-lt}
 use Rattle.rules.proofs.Named.{listed-length}
 use Rattle.rules.proofs.Tests.{pick-second}
 use Rattle.rules.proofs.Known.{named, by-number, filling-refused, filling-as}
-use Rattle.theory.specs.Plan.{own}
 use Rattle.theory.specs.Harmonic.{pairs, Harmonic, frame, allWanted, planned, harmonicPlan}
 use Rattle.theory.proofs.Built.{harmonic-serves, harmonic-refused, past-cycle-refused, harmonic-plan-good}
 use Rattle.plan_check.proofs.Answers.{check-serves}
@@ -81,6 +80,7 @@ module _ (terms : Terms) (ps : List ℕ) (room : ℕ) where
   tens e =
       let ten : Filling = Refused Unharmonic in
       let a = unless-given terms longest ps [] Refused (laidOf q ps room) ten
+      (λ i e. let z : _≡_ {A = ℕ} 0 1 = cc in absurd (omega arith))
       (λ e. let z : _≡_ {A = ℕ} 0 1 = cc in absurd (omega arith))
       (λ g e. let z : _≡_ {A = ℕ} 0 1 = cc in absurd (omega arith))
       (λ k e. let z : _≡_ {A = ℕ} 0 1 = cc in absurd (omega arith))
@@ -101,6 +101,7 @@ module _ (terms : Terms) (ps : List ℕ) (room : ℕ) where
   elevens e =
       let eleven : Filling = Refused Want in
       let a = unless-given terms longest ps [] Refused (laidOf q ps room) eleven
+      (λ i e. let z : _≡_ {A = ℕ} 0 1 = cc in absurd (omega arith))
       (λ e. let z : _≡_ {A = ℕ} 0 1 = cc in absurd (omega arith))
       (λ g e. let z : _≡_ {A = ℕ} 0 1 = cc in absurd (omega arith))
       (λ k e. let z : _≡_ {A = ℕ} 0 1 = cc in absurd (omega arith))
@@ -146,8 +147,8 @@ built-serves terms ps out o h (e, left) =
     let w = harmonic-plan-good q ps few (a .0 .parts) in
     let n : length (harmonicPlan q ps) ≡ h = listed-length (planned q ps (partitions ps)) (frame ps) ∙ sym (a .3) in
     let t : take h o ≡ harmonicPlan q ps = rw left (take-at (harmonicPlan q ps) (drop h out) h n) in
-    let g : GoodTables terms (length (harmonicPlan q ps)) ps [] = rw (w .0) (other-frame longest (frame ps) ps [] (a .0) (w .1) (w .2) (w .3)) in
-    rw t (check-serves terms (harmonicPlan q ps) ps .1 (g, (λ k l. le-leb _ _ (w .4 k)), harmonic-serves q ps few (a .0 .parts) (a .1) (a .2)))
+    let g : GoodTables (granules (terms .granule)) (length (harmonicPlan q ps)) ps [] = rw (w .0) (other-frame longest (frame ps) ps [] (in-edition-1 (a .0)) (w .1) (w .2) (w .3)) in
+    rw t (check-serves (granules (terms .granule)) (harmonicPlan q ps) ps .1 (g, (λ k l. le-leb _ _ (w .4 k)), harmonic-serves q ps few (a .0 .parts) (a .1) (a .2)))
 
 -- ---- by the number that is told
 
@@ -169,7 +170,7 @@ want-none terms ps room e rule plan =
     harmonic-refused (wanted terms ps) ps (counted-few ps [] (a .0) .0) (a .0 .parts) (a .1) (a .2) rule plan
 
 pub want-checked : WantChecked
-want-checked terms ps room e plan s = want-none terms ps room e own plan (check-serves terms plan ps .0 s .2)
+want-checked terms ps room e i plan s = want-none terms ps room e (ruleOf i) plan (check-serves (given i (terms .granule)) plan ps .0 s .2)
 
 pub unharmonic-exactly : UnharmonicExactly
 unharmonic-exactly terms ps room = (λ e. tens terms ps room (by terms ps room 10 (omega arith) (λ q. absurd (omega arith)) e .1), λ h. rw (is-ten terms ps room h))

@@ -14,7 +14,7 @@ use Rattle.rules.specs.declared.Terms.{Terms}
 use Rattle.tables.specs.Tables.{tablesOf, GoodTables}
 use Rattle.rules.specs.declared.Finding.the-variants as found
 use Rattle.rules.specs.declared.Refusal.{Refusal}
-use Rattle.rules.specs.declared.Refusal.the-variants.{Limits, Granule, Partition, Task, Unharmonic, Want, Output}
+use Rattle.rules.specs.declared.Refusal.the-variants.{Edition, Limits, Granule, Partition, Task, Unharmonic, Want, Output}
 use Rattle.tables.proofs.Chain.{within, good-exactly, unless-given}
 use Rattle.rules.proofs.Tests.{pick-second, good-granule, good-share}
 use Rattle.rules.proofs.Answers.{no-filling}
@@ -74,7 +74,7 @@ module _ (terms : Terms) (ps : List ℕ) (room : ℕ) where
   pub laid : (h : ℕ) → buildOf terms ps room ≡ Fills h → Laid terms ps room h
   unfolding buildOf laidOf
   laid h e =
-      let a = unless-given terms longest ps [] Refused (laidOf (wanted terms ps) ps room) (Fills h) (no-filling h Limits) (λ g. no-filling h Granule) (λ k. no-filling h (Partition k)) (λ j. no-filling h (Task (j + 1))) e in
+      let a = unless-given terms longest ps [] Refused (laidOf (wanted terms ps) ps room) (Fills h) (λ i. no-filling h Edition) (no-filling h Limits) (λ g. no-filling h Granule) (λ k. no-filling h (Partition k)) (λ j. no-filling h (Task (j + 1))) e in
       let d = pick-second (unharmonic ps) _ _ (Fills h) (no-filling h _) (a .1) in
       let w = pick-second (ltb (frame ps) (allWanted (wanted terms ps) ps (frame ps))) _ _ (Fills h) (no-filling h _) (d .1) in
       let o = pick-second (ltb room (frame ps)) _ _ (Fills h) (no-filling h _) (w .1) in

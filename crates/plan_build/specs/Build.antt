@@ -27,7 +27,7 @@ laidOf q ps room =
     let h = frame ps in
     pick (unharmonic ps) (Refused Unharmonic) (pick (ltb h (allWanted q ps h)) (Refused Want) (pick (ltb room h) (Refused Output) (Fills h)))
 
--- "the builder 3, 6, 10, 11, 12" with "21, after 3"
+-- "the builder 3, 6, 10, 11, 12" with "21, after 3"; 2 before them where the terms have an edition
 unfoldable pub buildOf : Terms → List ℕ → ℕ → Filling
 buildOf terms ps room = unless Refused (tablesOf terms longest ps []) (laidOf (wanted terms ps) ps room)
 

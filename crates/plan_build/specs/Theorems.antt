@@ -6,11 +6,12 @@ use mathlib.Core.List.{List, []}
 use lib.ListN.{take}
 use Rattle.rules.specs.Limits.{longest}
 use Rattle.rules.specs.Table.{partitions, cycle}
-use Rattle.rules.specs.Terms.{wanted}
+use Rattle.rules.specs.Terms.{given, granules, wanted}
 use Rattle.rules.specs.declared.Terms.{Terms}
 use Rattle.tables.specs.Tables.{GoodTables}
 use Rattle.rules.specs.Refusals.{placed, toldFilling}
-use Rattle.theory.specs.Plan.{Rule, Serves}
+use Rattle.rules.specs.declared.Rule.{Rule}
+use Rattle.theory.specs.Plan.{Serves}
 use Rattle.theory.specs.Harmonic.{Harmonic, frame, allWanted}
 use Rattle.rules.specs.declared.Finding.the-variants as found
 use Rattle.plan_check.specs.Check.{checkOf}
@@ -18,9 +19,9 @@ use Rattle.rules.specs.declared.Filling.{Filling}
 use Rattle.rules.specs.declared.Filling.the-variants.{Fills}
 use Rattle.plan_build.specs.Build.{buildOf, Builds}
 
--- "What the harmonic rule writes is always accepted": what `build` leaves in the frame's ticks, `check` answers `serves`
+-- "What the harmonic rule writes is always accepted", and "Demand 3's second half is for edition 1": of what `build` leaves in the frame's ticks `check` answers there that it serves
 abbrev pub BuiltServes : Type 0
-BuiltServes = (terms : Terms) (ps out o : List ℕ) (h : ℕ) → Builds terms ps out o (Fills h) → checkOf terms (take h o) ps ≡ found.Good
+BuiltServes = (terms : Terms) (ps out o : List ℕ) (h : ℕ) → Builds terms ps out o (Fills h) → checkOf (granules (terms .granule)) (take h o) ps ≡ found.Good
 
 -- "It is refused for want of ticks exactly when the sum of q·H/m is above H."
 abbrev pub WantExactly : Type 0
@@ -36,9 +37,9 @@ PastCycleWant =
 abbrev pub WantNone : Type 0
 WantNone = (terms : Terms) (ps : List ℕ) (room : ℕ) → toldFilling (buildOf terms ps room) .number ≡ 11 → (rule : Rule) (plan : List ℕ) → ¬ Serves rule (wanted terms ps) plan ps
 
--- the same of the checker's answers
+-- the same of the checker's answers, in every edition
 abbrev pub WantChecked : Type 0
-WantChecked = (terms : Terms) (ps : List ℕ) (room : ℕ) → toldFilling (buildOf terms ps room) .number ≡ 11 → (plan : List ℕ) → ¬ (checkOf terms plan ps ≡ found.Good)
+WantChecked = (terms : Terms) (ps : List ℕ) (room : ℕ) → toldFilling (buildOf terms ps room) .number ≡ 11 → (e : ℕ) (plan : List ℕ) → ¬ (checkOf (given e (terms .granule)) plan ps ≡ found.Good)
 
 -- 10 exactly when of some two cycles neither divides the other
 abbrev pub UnharmonicExactly : Type 0
