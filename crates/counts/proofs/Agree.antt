@@ -12,14 +12,15 @@ use borrow.Author.Tests.{le-ltb, ltb-true, eq-eqb, ne-eqb, not-false}
 use Rattle.rules.specs.Walk.{first, fails, some, Every}
 use Rattle.rules.proofs.First.{first-more, first-at, some-at, some-none, every-first}
 use Rattle.rules.proofs.Sum.{le-or-lt}
-use Rattle.theory.specs.Plan.{own, held}
+use Rattle.rules.specs.declared.Rule.the-variants.{Own}
+use Rattle.theory.specs.Plan.{held}
 use Rattle.counts.specs.Counts.{rowOf, rowWidth, agreesAt}
 use Rattle.counts.specs.Contracts.{differsAt}
 use Rattle.counts.proofs.Passes.{count-row, row-end}
 
 -- ---- one number
 
-module _ (plan list : List ℕ) (p : ℕ) (some-p : 0 < p) (k h v row : ℕ) (l : k ≤ length plan) (er : row ≡ rowOf plan p) (eh : h ≡ held own plan p k 0) (ev : v ≡ getD list (row + k) 0) where
+module _ (plan list : List ℕ) (p : ℕ) (some-p : 0 < p) (k h v row : ℕ) (l : k ≤ length plan) (er : row ≡ rowOf plan p) (eh : h ≡ held Own plan p k 0) (ev : v ≡ getD list (row + k) 0) where
   differs-as : differsAt plan list p k ≡ not (eqb v h)
   unfolding differsAt agreesAt fails
   differs-as = rw (count-row plan p some-p k l, eh, ev, er)
@@ -31,7 +32,7 @@ module _ (plan list : List ℕ) (p : ℕ) (some-p : 0 < p) (k h v row : ℕ) (l 
   agrees-here e = differs-as ∙ ap not (eq-eqb v h e)
 
 -- the row's last number decides where none before it differs
-pub differs-last : (plan list : List ℕ) (p : ℕ) → 0 < p → (k h v row : ℕ) → k ≤ length plan → length plan ≤ k → row ≡ rowOf plan p → h ≡ held own plan p k 0 → v ≡ getD list (row + length plan) 0
+pub differs-last : (plan list : List ℕ) (p : ℕ) → 0 < p → (k h v row : ℕ) → k ≤ length plan → length plan ≤ k → row ≡ rowOf plan p → h ≡ held Own plan p k 0 → v ≡ getD list (row + length plan) 0
     → first (differsAt plan list p) k ≡ k → not (eqb v h) ≡ some (differsAt plan list p) (rowWidth plan)
 differs-last plan list p some-p k h v row l m er eh ev e =
     let q : k ≡ length plan = omega arith in

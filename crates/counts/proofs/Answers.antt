@@ -10,7 +10,7 @@ use lib.ListN.{length, getD, drop, length-append, List·getD-append}
 use borrow.Author.Tests.{leb-true, leb-false, eqb-true, eq-eqb}
 use Rattle.rules.specs.Walk.{pick}
 use Rattle.rules.specs.Table.{partitions, goodPart, goodTask, goodTick}
-use Rattle.rules.specs.Terms.{goodGranule, usual, wanted}
+use Rattle.rules.specs.Terms.{goodEdition, goodGranule, usual, wanted}
 use Rattle.rules.specs.Filling.{leftBy}
 use Rattle.rules.specs.Refusals.{told}
 use Rattle.rules.specs.declared.Refusal.{Refusal}
@@ -20,11 +20,12 @@ use Rattle.rules.specs.declared.Finding.the-variants.{Good, Refused}
 use Rattle.rules.specs.declared.Filling.{Filling}
 use Rattle.rules.specs.declared.Filling.the-variants as filling
 use Rattle.rules.proofs.Named.{listed-length, listed-at, new-tail, named-list}
-use Rattle.tables.specs.Tables.{withinLimits, lowest, unless, tablesOf, ticksJudged}
+use Rattle.tables.specs.Tables.{withinLimits, lowest, unless, inEdition, tablesOf, ticksJudged}
 use Rattle.tables.proofs.Chain.{in-turn, lowest-at}
 use Rattle.plan_check.specs.Check.{scanOf, planCheckOf, checkOf}
-use Rattle.theory.specs.Plan.{own, held}
-use Rattle.counts.specs.declared.Holding.the-variants as holding
+use Rattle.rules.specs.declared.Rule.the-variants.{Own}
+use Rattle.theory.specs.Plan.{held}
+use Rattle.rules.specs.declared.Holding.the-variants as holding
 use Rattle.counts.specs.Counts.{rowWidth, rowOf, countAt, needed, runningCounts, longEnough, agreesAt, planJudged, unlessGood, goodName, goodStretch, fillOf, heldOf}
 use Rattle.counts.specs.Theorems.{ListIs, Planned, Counted, CountedIs, PlanExactly, PlanAsChecked, PlanPlaces, FilledBy, fill-plan, fill-length, fill-done, FillAnswers, FillCounted, FillKeeps, Named, Within, HeldBy, held-plan, held-name, held-length, held-counts, held-stretch, held-done, HeldAnswers, FillOne, CountsHeldOne}
 use Rattle.counts.proofs.Passes.{count-row, row-end}
@@ -66,10 +67,10 @@ plan-exactly plan ps = (planned plan ps, is-planned plan ps)
 
 pub plan-as-checked : PlanAsChecked
 unfolding checkOf planCheckOf planJudged
-plan-as-checked plan ps = sym (in-turn Refused (tablesOf usual (length plan) ps []) (ticksJudged plan ps) (scanOf (wanted usual ps) plan ps))
+plan-as-checked plan ps = sym (in-turn Refused (tablesOf usual (length plan) ps []) (ticksJudged plan ps) (scanOf Own (wanted usual ps) plan ps))
 
 pub plan-places : PlanPlaces
-unfolding planJudged tablesOf goodGranule
+unfolding planJudged goodEdition inEdition tablesOf goodGranule
 plan-places plan ps r e =
     go (withinLimits (length plan) (length ps) 0) (lowest Partition (goodPart (length plan) ps) (partitions ps)) refl (lowest Task (goodTask (partitions ps) []) 0) refl (ticksJudged plan ps) refl e
   where
@@ -122,7 +123,7 @@ held-answers plan ps list p s n = go _ (judging plan ps list (unlessGood (goodNa
     named e = name-is (partitions ps) p (tested _ (Asked 0) e)
 
     go : (f : Finding) → Judging plan ps list (unlessGood (goodName (partitions ps) p) (Asked 0)) true (unlessGood (goodStretch (length plan) s n) (Beyond 0)) f
-        → HeldBy plan ps list p s n (unless holding.Refused f (holding.Holds (held own plan p n s)))
+        → HeldBy plan ps list p s n (unless holding.Refused f (holding.Holds (held Own plan p n s)))
     go f (at-plan r e) = held-plan r e
     go f (at-name g r e) = let a = untested (goodName (partitions ps) p) (Asked 0) r e in rw (a .1) (held-name g (λ h. true≢false (sym (is-name (partitions ps) p (h .0) (h .1)) ∙ a .0)))
     go f (at-length g e (inl l)) = held-length g (named e) l
@@ -131,7 +132,7 @@ held-answers plan ps list p s n = go _ (judging plan ps list (unlessGood (goodNa
     go f (at-stretch g e c m r h) = let a = untested (goodStretch (length plan) s n) (Beyond 0) r h in rw (a .1) (held-stretch g (named e) c (λ w. true≢false (sym (is-stretch (length plan) s n (w .0) (w .1)) ∙ a .0)))
     go f (at-none g e c m h) = held-done g (named e) c (stretch-is (length plan) s n (tested _ (Beyond 0) h))
 
-pub is-held : (plan ps list : List ℕ) (p s n : ℕ) → Planned plan ps → Counted plan ps list → Named ps p → Within plan s n → heldOf plan ps list p s n ≡ holding.Holds (held own plan p n s)
+pub is-held : (plan ps list : List ℕ) (p s n : ℕ) → Planned plan ps → Counted plan ps list → Named ps p → Within plan s n → heldOf plan ps list p s n ≡ holding.Holds (held Own plan p n s)
 is-held plan ps list p s n g c m w =
     sym (held-holds plan ps list p s n
     (is-called plan ps list _ true _ (record { plans = g; names = rw (is-name (partitions ps) p (m .0) (m .1)); list-is = c; room = refl; insides = rw (is-stretch (length plan) s n (w .0) (w .1)) })) _ refl)

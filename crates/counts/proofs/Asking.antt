@@ -21,8 +21,9 @@ use Rattle.rules.proofs.Answers.{no-filling}
 use Rattle.rules.proofs.Tests.{pick-first}
 use Rattle.tables.specs.Tables.{lowest, unless}
 use Rattle.tables.proofs.Chain.{lowest-good}
-use Rattle.theory.specs.Plan.{own, held}
-use Rattle.counts.specs.declared.Holding.the-variants as holding
+use Rattle.rules.specs.declared.Rule.the-variants.{Own}
+use Rattle.theory.specs.Plan.{held}
+use Rattle.rules.specs.declared.Holding.the-variants as holding
 use Rattle.counts.specs.Counts.{rowOf, rowWidth, needed, longEnough, agreesAt, planJudged, countsJudged, unlessGood, goodName, goodStretch, fillOf, heldOf, asked, start, span, questions, namesOne, withinFrame, answerAt, manyOf}
 use Rattle.counts.specs.Contracts.{Kept, Answerable}
 use Rattle.counts.specs.Theorems.{Planned, Counted, NamedIn, WithinIn}
@@ -80,7 +81,7 @@ module _ (plan ps list : List ℕ) (p s n : ℕ) where
   unfolding heldOf
   held-refused r e = rw e
 
-  pub held-holds : oneFound ≡ Good → (h : ℕ) → h ≡ held own plan p n s → holding.Holds h ≡ heldOf plan ps list p s n
+  pub held-holds : oneFound ≡ Good → (h : ℕ) → h ≡ held Own plan p n s → holding.Holds h ≡ heldOf plan ps list p s n
   unfolding heldOf
   held-holds e h q = rw (e, q)
 
@@ -101,7 +102,7 @@ pub within-as : (f : ℕ) (qs : List ℕ) (k s n : ℕ) (r : Bool) → s ≡ sta
 unfolding withinFrame fails
 within-as f qs k s n r es en er = rw (← es, ← en, ← er)
 
-pub answer-as : (plan qs : List ℕ) (k a s n h : ℕ) → a ≡ asked qs k → s ≡ start qs k → n ≡ span qs k → h ≡ held own plan a n s → h ≡ answerAt plan qs k
+pub answer-as : (plan qs : List ℕ) (k a s n h : ℕ) → a ≡ asked qs k → s ≡ start qs k → n ≡ span qs k → h ≡ held Own plan a n s → h ≡ answerAt plan qs k
 unfolding answerAt
 answer-as plan qs k a s n h ea es en eh = rw (← ea, ← es, ← en) eh
 

@@ -18,8 +18,9 @@ use Rattle.rules.specs.declared.Finding.the-variants.{Good, Refused}
 use Rattle.rules.proofs.Named.{listed-length, new-tail}
 use Rattle.rules.proofs.Sum.{only-true, only-false}
 use Rattle.rules.proofs.Tests.{and-none}
-use Rattle.theory.specs.Plan.{own, held}
-use Rattle.counts.specs.declared.Holding.the-variants as holding
+use Rattle.rules.specs.declared.Rule.the-variants.{Own}
+use Rattle.theory.specs.Plan.{held}
+use Rattle.rules.specs.declared.Holding.the-variants as holding
 use Rattle.counts.specs.Counts.{countAt, needed, runningCounts, unlessGood, heldOf, changeOf, changedBy, Changes}
 use Rattle.counts.specs.Theorems.{numberOf, HasNumber, Planned, Counted, Named, Within, ChangedBy, change-plan, change-name, change-length, change-counts, change-stretch, change-done, ChangeAnswers, ChangeCounted, OnlyMoves, ChangeMoves, ChangeSame, FillChangeHeld, ChangeOne, Proved}
 use Rattle.counts.proofs.Orders.{tested, untested, is-called, Judging, at-plan, at-name, at-length, at-counts, at-stretch, at-none, judging}
@@ -69,14 +70,14 @@ module _ (plan ps list plan′ o : List ℕ) (tick owner : ℕ) (c : Changes pla
 
   -- the numbers of both lists
   module _ (p k : ℕ) (h : HasNumber plan ps p k) where
-    number-old : getD list (numberOf plan p k) 0 ≡ held own plan p k 0
+    number-old : getD list (numberOf plan p k) 0 ≡ held Own plan p k 0
     number-old = kept-row plan ps list p (may .list-is) (h .named .0) (h .named .1) .counts k (h .upto)
 
-    number-new : getD o (numberOf plan p k) 0 ≡ held own (set plan tick owner) p k 0
+    number-new : getD o (numberOf plan p k) 0 ≡ held Own (set plan tick owner) p k 0
     number-new =
-        let n : held own plan′ p k 0 ≡ held own (set plan tick owner) p k 0 = ap (λ (l : List ℕ). held own l p k 0) (c .1) in
-        let i : getD o (numberOf plan′ p k) 0 ≡ held own plan′ p k 0 = kept-row plan′ ps o p (counted .1) (h .named .0) (h .named .1) .counts k (omega (arith, h .upto, as-long)) in
-        let i′ : getD o (numberOf plan p k) 0 ≡ held own plan′ p k 0 = rw as-long at i in
+        let n : held Own plan′ p k 0 ≡ held Own (set plan tick owner) p k 0 = ap (λ (l : List ℕ). held Own l p k 0) (c .1) in
+        let i : getD o (numberOf plan′ p k) 0 ≡ held Own plan′ p k 0 = kept-row plan′ ps o p (counted .1) (h .named .0) (h .named .1) .counts k (omega (arith, h .upto, as-long)) in
+        let i′ : getD o (numberOf plan p k) 0 ≡ held Own plan′ p k 0 = rw as-long at i in
         i′ ∙ n
 
     shift : getD o (numberOf plan p k) 0 + only (ltb tick k && eqb (getD plan tick 0) p) 1 ≡ getD list (numberOf plan p k) 0 + only (ltb tick k && eqb owner p) 1
@@ -136,11 +137,11 @@ fill-change-held plan ps list o plan′ o′ m tick owner r f c l i =
     let e : r ≡ Good = c .0 ∙ is-changed plan ps o tick owner (a .0) (a .1) l i in
     (e, λ p s n h m q w. w ∙ after (rw e at c) p s n m q)
   where
-    after : Changes plan ps o tick owner plan′ o′ Good → (p s n : ℕ) → Named ps p → Within plan s n → heldOf plan′ ps o′ p s n ≡ holding.Holds (held own (set plan tick owner) p n s)
+    after : Changes plan ps o tick owner plan′ o′ Good → (p s n : ℕ) → Named ps p → Within plan s n → heldOf plan′ ps o′ p s n ≡ holding.Holds (held Own (set plan tick owner) p n s)
     after c p s n m q =
         let b = change-counted plan ps o plan′ o′ tick owner c in
         let e : length plan′ ≡ length plan = ap length (c .1) ∙ length-set plan tick owner in
-        is-held plan′ ps o′ p s n (b .0) (b .1) m (rw e (q .0), rw e (q .1)) ∙ ap (λ (x : List ℕ). holding.Holds (held own x p n s)) (c .1)
+        is-held plan′ ps o′ p s n (b .0) (b .1) m (rw e (q .0), rw e (q .1)) ∙ ap (λ (x : List ℕ). holding.Holds (held Own x p n s)) (c .1)
 
 pub change-one : ChangeOne
 change-one plan ps list plan₁ plan₂ o₁ o₂ tick owner r r′ a b =

@@ -19,7 +19,8 @@ use Rattle.rules.specs.declared.Finding.the-variants.{Good}
 use Rattle.rules.proofs.Named.{named-list}
 use Rattle.rules.proofs.Sum.{le-or-lt, only-false}
 use Rattle.rules.proofs.Tests.{and-none}
-use Rattle.theory.specs.Plan.{owner, own, held}
+use Rattle.rules.specs.declared.Rule.the-variants.{Own}
+use Rattle.theory.specs.Plan.{service, held}
 use Rattle.theory.proofs.Plan.{held-zero}
 use Rattle.counts.specs.Counts.{rowWidth, countAt, needed, runningCounts, agreesAt, changeOf}
 use Rattle.counts.specs.Contracts.{Recounted}
@@ -35,33 +36,33 @@ module _ (plan : List ℕ) (tick new : ℕ) (inside : tick < length plan) where
   plan′ = set plan tick new
 
   -- one tick more, before and after
-  more : (l : List ℕ) (p k : ℕ) → k < length l → held own l p (suc k) 0 ≡ held own l p k 0 + only (eqb (getD l k 0) p) 1
-  more l p k h = ap (λ (x : ℕ). held own l p x 0) (sym (add-one k)) ∙ sym (count-turn l p k (held own l p k 0) (only (eqb (getD l k 0) p) 1) h refl refl)
+  more : (l : List ℕ) (p k : ℕ) → k < length l → held Own l p (suc k) 0 ≡ held Own l p k 0 + only (eqb (getD l k 0) p) 1
+  more l p k h = ap (λ (x : ℕ). held Own l p x 0) (sym (add-one k)) ∙ sym (count-turn l p k (held Own l p k 0) (only (eqb (getD l k 0) p) 1) h refl refl)
 
-  more-new : (p k : ℕ) → k < length plan → held own plan′ p (suc k) 0 ≡ held own plan′ p k 0 + only (eqb (getD plan′ k 0) p) 1
+  more-new : (p k : ℕ) → k < length plan → held Own plan′ p (suc k) 0 ≡ held Own plan′ p k 0 + only (eqb (getD plan′ k 0) p) 1
   more-new p k h = more plan′ p k (omega (arith, length-set plan tick new))
 
   -- "only the later counts of the old and the new owner", each by one
-  pub moved : (p k : ℕ) → k ≤ length plan → held own plan′ p k 0 + only (ltb tick k && eqb old p) 1 ≡ held own plan p k 0 + only (ltb tick k && eqb new p) 1
-  moved p zero l = rw (le-ltb tick 0 (omega arith), held-zero (owner plan′) p 0, held-zero (owner plan) p 0)
+  pub moved : (p k : ℕ) → k ≤ length plan → held Own plan′ p k 0 + only (ltb tick k && eqb old p) 1 ≡ held Own plan p k 0 + only (ltb tick k && eqb new p) 1
+  moved p zero l = rw (le-ltb tick 0 (omega arith), held-zero (service Own plan′) p 0, held-zero (service Own plan) p 0)
   moved p (suc k) l = go (le-or-lt tick k) (ℕ-discrete k tick) (moved p k (omega arith))
     where
-      go : (tick ≤ k) ⊎ (k < tick) → Dec (k ≡ tick) → held own plan′ p k 0 + only (ltb tick k && eqb old p) 1 ≡ held own plan p k 0 + only (ltb tick k && eqb new p) 1
-          → held own plan′ p (suc k) 0 + only (ltb tick (suc k) && eqb old p) 1 ≡ held own plan p (suc k) 0 + only (ltb tick (suc k) && eqb new p) 1
+      go : (tick ≤ k) ⊎ (k < tick) → Dec (k ≡ tick) → held Own plan′ p k 0 + only (ltb tick k && eqb old p) 1 ≡ held Own plan p k 0 + only (ltb tick k && eqb new p) 1
+          → held Own plan′ p (suc k) 0 + only (ltb tick (suc k) && eqb old p) 1 ≡ held Own plan p (suc k) 0 + only (ltb tick (suc k) && eqb new p) 1
       go m (yes e) ih =
-          let ih′ : held own plan′ p k 0 + only (false && eqb old p) 1 ≡ held own plan p k 0 + only (false && eqb new p) 1 = rw (le-ltb tick k (omega arith)) at ih in
+          let ih′ : held Own plan′ p k 0 + only (false && eqb old p) 1 ≡ held Own plan p k 0 + only (false && eqb new p) 1 = rw (le-ltb tick k (omega arith)) at ih in
           let a : getD plan′ k 0 ≡ new = rw e (getD-set-same plan tick new 0 inside) in
           let b : getD plan k 0 ≡ old = rw e in
           rw (lt-ltb tick (suc k) (omega arith), more-new p k (omega arith), more plan p k (omega arith), a, b) (omega (arith, ih′))
       go (inl m) (no e) ih =
-          let ih′ : held own plan′ p k 0 + only (true && eqb old p) 1 ≡ held own plan p k 0 + only (true && eqb new p) 1 = rw (lt-ltb tick k (omega arith)) at ih in
+          let ih′ : held Own plan′ p k 0 + only (true && eqb old p) 1 ≡ held Own plan p k 0 + only (true && eqb new p) 1 = rw (lt-ltb tick k (omega arith)) at ih in
           rw (lt-ltb tick (suc k) (omega arith), more-new p k (omega arith), more plan p k (omega arith), getD-set-other plan tick k new 0 e) (omega (arith, ih′))
       go (inr m) (no e) ih =
-          let ih′ : held own plan′ p k 0 + only (false && eqb old p) 1 ≡ held own plan p k 0 + only (false && eqb new p) 1 = rw (le-ltb tick k (omega arith)) at ih in
+          let ih′ : held Own plan′ p k 0 + only (false && eqb old p) 1 ≡ held Own plan p k 0 + only (false && eqb new p) 1 = rw (le-ltb tick k (omega arith)) at ih in
           rw (le-ltb tick (suc k) (omega arith), more-new p k (omega arith), more plan p k (omega arith), getD-set-other plan tick k new 0 e) (omega (arith, ih′))
 
   -- a row of neither owner stays
-  same-row : (p k : ℕ) → k ≤ length plan → ¬ (old ≡ p) → ¬ (new ≡ p) → held own plan′ p k 0 ≡ held own plan p k 0
+  same-row : (p k : ℕ) → k ≤ length plan → ¬ (old ≡ p) → ¬ (new ≡ p) → held Own plan′ p k 0 ≡ held Own plan p k 0
   same-row p k l ho hn =
       omega (arith, moved p k l, only-false _ 1 (and-none (ltb tick k) (eqb old p) (ne-eqb old p ho)), only-false _ 1 (and-none (ltb tick k) (eqb new p) (ne-eqb new p hn)))
 

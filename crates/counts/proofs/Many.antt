@@ -20,7 +20,8 @@ use Rattle.rules.specs.declared.Filling.the-variants as filling
 use Rattle.rules.proofs.Named.{listed-length, listed-at, new-tail}
 use Rattle.tables.specs.Tables.{lowest, unless}
 use Rattle.tables.proofs.Chain.{lowest-good, lowest-at}
-use Rattle.theory.specs.Plan.{own, held}
+use Rattle.rules.specs.declared.Rule.the-variants.{Own}
+use Rattle.theory.specs.Plan.{held}
 use Rattle.counts.specs.Counts.{countsJudged, asked, start, span, questions, namesOne, withinFrame, answerAt, manyOf}
 use Rattle.counts.specs.Theorems.{NamedIn, WithinIn, All, ManyBy, many-questions, many-plan, many-name, many-length, many-counts, many-stretch, many-done, ManyAnswers, ManyEach, ManyKeeps, ManyOne}
 use Rattle.counts.proofs.Orders.{name-is, is-name, stretch-is, is-stretch, Judging, at-plan, at-name, at-length, at-counts, at-stretch, at-none, judging}
@@ -86,7 +87,7 @@ many-each plan ps list qs out o n h k l =
     let m : k < questions qs = rw (w .1) at l in
     let a = many-asks plan ps list qs (length out) (w .2) k m in
     let answers = listed (answerAt plan qs) (questions qs) in
-    let e : getD o k 0 ≡ held own plan (asked qs k) (span qs k) (start qs k) =
+    let e : getD o k 0 ≡ held Own plan (asked qs k) (span qs k) (start qs k) =
     ap (λ (x : List ℕ). getD x k 0) (h .1) ∙ List·getD-append answers (drop n out) 0 k (omega (arith, listed-length (answerAt plan qs) (questions qs))) ∙ listed-at (answerAt plan qs) (questions qs) k m in
     rw e (is-held plan ps list (asked qs k) (start qs k) (span qs k) (w .2 .plans) (w .2 .list-is) (a .0) (a .1))
 

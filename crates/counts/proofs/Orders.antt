@@ -21,7 +21,7 @@ use Rattle.rules.proofs.Tests.{and-parts}
 use Rattle.rules.specs.Terms.{usual}
 use Rattle.tables.specs.Tables.{unless, tablesOf, ticksJudged}
 use Rattle.tables.specs.Contracts.{firstBadTick}
-use Rattle.tables.proofs.Chain.{not-good, both-good, lowest-good, good-lowest, within, good-exactly, unless-parts-hold, usual-not-21}
+use Rattle.tables.proofs.Chain.{not-good, both-good, lowest-good, good-lowest, within, good-exactly, unless-parts-hold, not-2, usual-not-21}
 use Rattle.counts.specs.Counts.{rowWidth, needed, agreesAt, planJudged, listJudged, countsJudged, unlessGood, goodName, goodStretch}
 use Rattle.counts.specs.Contracts.{Sized}
 use Rattle.counts.specs.Theorems.{Planned, Counted}
@@ -151,7 +151,7 @@ pub plan-holds : (plan ps : List ℕ) {A : Type 0} (P : A → Type 0) (refused :
     → P (refused Limits) → ((k : ℕ) → P (refused (Partition k))) → ((t : ℕ) → P (refused (Tick t))) → P next → P (unless refused (planJudged plan ps) next)
 unfolding planJudged
 plan-holds plan ps P refused next three six eight h =
-    unless-parts-hold usual (length plan) ps (λ (f : Finding). P (unless refused f next)) Refused (ticksJudged plan ps) three usual-not-21 six (ticks (ltb (firstBadTick (partitions ps) plan) (length plan)))
+    unless-parts-hold usual (length plan) ps (λ (f : Finding). P (unless refused f next)) Refused (ticksJudged plan ps) not-2 three usual-not-21 six (ticks (ltb (firstBadTick (partitions ps) plan) (length plan)))
   where
     ticks : (b : Bool) → P (unless refused (pick b (Refused (Tick (firstBadTick (partitions ps) plan + 1))) Good) next)
     ticks true = eight _

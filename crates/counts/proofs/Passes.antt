@@ -13,8 +13,9 @@ use Rattle.rules.specs.Walk.{pick, only}
 use Rattle.rules.specs.Contracts.{AsNamed}
 use Rattle.rules.proofs.Named.{named-none, named-turn}
 use Rattle.rules.proofs.Sum.{le-or-lt}
-use Rattle.theory.specs.Plan.{own, held}
-use Rattle.plan_service.proofs.Turns.{held-turn}
+use Rattle.rules.specs.declared.Rule.the-variants.{Own}
+use Rattle.theory.specs.Plan.{held}
+use Rattle.plan_service.proofs.Turns.{serves-owner, held-turn}
 use Rattle.counts.specs.Counts.{rowOf, rowWidth, countAt}
 use Rattle.counts.specs.Contracts.{Recounted}
 
@@ -38,7 +39,7 @@ row-is w i p pos h l m =
 
 module _ (plan : List ℕ) (p : ℕ) (some : 0 < p) where
   -- p's count before tick k
-  pub count-row : (k : ℕ) → k ≤ length plan → countAt plan (rowOf plan p + k) ≡ held own plan p k 0
+  pub count-row : (k : ℕ) → k ≤ length plan → countAt plan (rowOf plan p + k) ≡ held Own plan p k 0
   unfolding countAt
   count-row k l =
       let w = rowWidth plan in
@@ -48,8 +49,8 @@ module _ (plan : List ℕ) (p : ℕ) (some : 0 < p) where
       rw (q, m)
 
 -- one tick more
-pub count-turn : (plan : List ℕ) (p k h b : ℕ) → k < length plan → h ≡ held own plan p k 0 → b ≡ only (eqb (getD plan k 0) p) 1 → h + b ≡ held own plan p (k + 1) 0
-count-turn plan p k h b l eh eb = held-turn plan p 0 k k h b (sym (ap (λ (x : ℕ). x % length plan) (zero-add k) ∙ mod-eq-of-lt l)) eh eb
+pub count-turn : (plan : List ℕ) (p k h b : ℕ) → k < length plan → h ≡ held Own plan p k 0 → b ≡ only (eqb (getD plan k 0) p) 1 → h + b ≡ held Own plan p (k + 1) 0
+count-turn plan p k h b l eh eb = held-turn Own plan p 0 k k h b (sym (ap (λ (x : ℕ). x % length plan) (zero-add k) ∙ mod-eq-of-lt l)) eh (rw (← serves-owner plan k (getD plan k 0) l refl) eb)
 
 -- ---- a pass over one row
 
@@ -62,7 +63,7 @@ row-none plan l p = record { as-long = refl; done = λ t h. rw (lt-ltb t (rowOf 
 
 module _ (plan before : List ℕ) (p : ℕ) (some : 0 < p) where
   pub row-turn : (k h : ℕ) (cur after : List ℕ) → p * rowWidth plan ≤ length before → k ≤ length plan → AsNamed (recounted plan p before) (rowOf plan p + k) before cur
-      → h ≡ held own plan p k 0 → after ≡ set cur (rowOf plan p + k) h → AsNamed (recounted plan p before) (rowOf plan p + (k + 1)) before after
+      → h ≡ held Own plan p k 0 → after ≡ set cur (rowOf plan p + k) h → AsNamed (recounted plan p before) (rowOf plan p + (k + 1)) before after
   row-turn k h cur after long l w eh ea =
       let e : rowOf plan p + k + 1 ≡ rowOf plan p + (k + 1) = omega arith in
       let v : h ≡ recounted plan p before (rowOf plan p + k) = rw (le-ltb (rowOf plan p + k) (rowOf plan p) (omega arith)) (eh ∙ sym (count-row plan p some k l)) in
@@ -86,7 +87,7 @@ module _ (plan before : List ℕ) (p : ℕ) (some : 0 < p) where
 
   -- the count before the frame's end stands last
   pub row-last : (k h : ℕ) (cur after : List ℕ) → p * rowWidth plan ≤ length before → k ≤ length plan → length plan ≤ k → AsNamed (recounted plan p before) (rowOf plan p + k) before cur
-      → h ≡ held own plan p k 0 → after ≡ set cur (rowOf plan p + length plan) h → Recounted plan p before after
+      → h ≡ held Own plan p k 0 → after ≡ set cur (rowOf plan p + length plan) h → Recounted plan p before after
   row-last k h cur after long l m w eh ea =
       let e : k ≡ length plan = omega arith in
       row-done after (row-turn (length plan) h cur after long (omega arith) (rw e at w) (rw e at eh) ea)

@@ -7,7 +7,8 @@ use lib.ListN.{length, getD}
 use Rattle.rules.specs.Walk.{fails}
 use Rattle.rules.specs.Limits.{longest, mostPartitions}
 use Rattle.rules.specs.Table.{partitions}
-use Rattle.theory.specs.Plan.{own, held}
+use Rattle.rules.specs.declared.Rule.the-variants.{Own}
+use Rattle.theory.specs.Plan.{held}
 use Rattle.counts.specs.Counts.{rowWidth, rowOf, countAt, agreesAt, asked, start, span, questions}
 
 -- p's count before tick k is not the plan's
@@ -24,7 +25,7 @@ pub record Recounted (plan : List ℕ) (p : ℕ) (before after : List ℕ) : Typ
 pub record Kept (plan list : List ℕ) (p : ℕ) : Type 0 where
   pub partition : 0 < p
   pub long : p * rowWidth plan ≤ length list
-  pub counts : (k : ℕ) → k ≤ length plan → getD list (rowOf plan p + k) 0 ≡ held own plan p k 0
+  pub counts : (k : ℕ) → k ≤ length plan → getD list (rowOf plan p + k) 0 ≡ held Own plan p k 0
 
 -- numbers within the limits
 abbrev pub Sized : List ℕ → List ℕ → Type 0

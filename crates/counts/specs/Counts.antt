@@ -9,8 +9,6 @@ use Rattle.rules.specs.Walk.{pick, fails, some, listed}
 use Rattle.rules.specs.Limits.{questionWidth}
 use Rattle.rules.specs.Table.{fieldAt, partitions}
 use Rattle.rules.specs.Filling.{leftBy}
-use Rattle.rules.specs.Refusals.{told, placed}
-use Rattle.rules.specs.declared.Told.{Told}
 use Rattle.rules.specs.declared.Refusal.{Refusal}
 use Rattle.rules.specs.declared.Refusal.the-variants.{Limits, Output, Asked, Counts, Beyond}
 use Rattle.rules.specs.declared.Finding.{Finding}
@@ -19,9 +17,10 @@ use Rattle.rules.specs.declared.Filling.{Filling}
 use Rattle.rules.specs.declared.Filling.the-variants as filling
 use Rattle.rules.specs.Terms.{usual}
 use Rattle.tables.specs.Tables.{lowest, unless, tablesOf, ticksJudged}
-use Rattle.theory.specs.Plan.{own, held}
-use Rattle.counts.specs.declared.Holding.{Holding}
-use Rattle.counts.specs.declared.Holding.the-variants as holding
+use Rattle.rules.specs.declared.Rule.the-variants.{Own}
+use Rattle.theory.specs.Plan.{held}
+use Rattle.rules.specs.declared.Holding.{Holding}
+use Rattle.rules.specs.declared.Holding.the-variants as holding
 
 -- ---- the list
 
@@ -31,7 +30,7 @@ rowWidth plan = length plan + 1
 
 -- "the count of own ticks before each tick": number i of the list, which goes partition by partition
 unfoldable pub countAt : List ℕ → ℕ → ℕ
-countAt plan i = held own plan (i / rowWidth plan + 1) (i % rowWidth plan) 0
+countAt plan i = held Own plan (i / rowWidth plan + 1) (i % rowWidth plan) 0
 
 -- where p's numbers begin
 abbrev pub rowOf : List ℕ → ℕ → ℕ
@@ -99,16 +98,11 @@ unfoldable pub heldOf : List ℕ → List ℕ → List ℕ → ℕ → ℕ → �
 heldOf plan ps list p s n =
     unless holding.Refused
     (countsJudged plan ps list (unlessGood (goodName (partitions ps) p) (Asked 0)) true (unlessGood (goodStretch (length plan) s n) (Beyond 0)))
-    (holding.Holds (held own plan p n s))
+    (holding.Holds (held Own plan p n s))
 
 -- the answer r of the call
 abbrev pub HoldsOne : List ℕ → List ℕ → List ℕ → ℕ → ℕ → ℕ → Holding → Type 0
 HoldsOne plan ps list p s n r = r ≡ heldOf plan ps list p s n
-
--- 0 and the count
-abbrev pub toldHolding : Holding → Told
-toldHolding (holding.Holds n) = placed 0 n
-toldHolding (holding.Refused r) = told r
 
 -- ---- held of many stretches
 
@@ -133,7 +127,7 @@ withinFrame f qs k = goodStretch f (start qs k) (span qs k)
 
 -- the answer to question k
 unfoldable pub answerAt : List ℕ → List ℕ → ℕ → ℕ
-answerAt plan qs k = held own plan (asked qs k) (span qs k) (start qs k)
+answerAt plan qs k = held Own plan (asked qs k) (span qs k) (start qs k)
 
 -- the same refusals, where 8 with place 0 and 26 are the lowest question's, and answers too short are 12 too; 3 also where the questions are not whole
 unfoldable pub manyOf : List ℕ → List ℕ → List ℕ → List ℕ → ℕ → Filling

@@ -17,9 +17,10 @@ use Rattle.rules.specs.declared.Filling.the-variants as filling
 use Rattle.rules.specs.Terms.{usual, wanted}
 use Rattle.tables.specs.Tables.{unless, GoodTables}
 use Rattle.plan_check.specs.Check.{scanOf, checkOf}
-use Rattle.theory.specs.Plan.{own, held}
-use Rattle.counts.specs.declared.Holding.{Holding}
-use Rattle.counts.specs.declared.Holding.the-variants as holding
+use Rattle.rules.specs.declared.Rule.the-variants.{Own}
+use Rattle.theory.specs.Plan.{held}
+use Rattle.rules.specs.declared.Holding.{Holding}
+use Rattle.rules.specs.declared.Holding.the-variants as holding
 use Rattle.counts.specs.Counts.{rowWidth, rowOf, needed, runningCounts, agreesAt, planJudged, fillOf, FillsCounts, heldOf, HoldsOne, asked, start, span, questions, manyOf, HoldsMany, changeOf, Changes}
 
 -- ---- the list
@@ -42,7 +43,7 @@ abbrev pub ListIs : Type 0
 ListIs =
     (plan ps : List ℕ)
     → (length (runningCounts plan ps) ≡ partitions ps * rowWidth plan)
-    × ((p k : ℕ) → HasNumber plan ps p k → getD (runningCounts plan ps) (numberOf plan p k) 0 ≡ held own plan p k 0)
+    × ((p k : ℕ) → HasNumber plan ps p k → getD (runningCounts plan ps) (numberOf plan p k) 0 ≡ held Own plan p k 0)
 
 -- a plan by the checker's 3, 6 and 8; it need not serve
 pub record Planned (plan ps : List ℕ) : Type 0 where
@@ -65,7 +66,7 @@ abbrev pub PlanExactly : Type 0
 PlanExactly = (plan ps : List ℕ) → (planJudged plan ps ≡ Good) ↔ Planned plan ps
 
 abbrev pub PlanAsChecked : Type 0
-PlanAsChecked = (plan ps : List ℕ) → checkOf usual plan ps ≡ unless Refused (planJudged plan ps) (scanOf (wanted usual ps) plan ps)
+PlanAsChecked = (plan ps : List ℕ) → checkOf usual plan ps ≡ unless Refused (planJudged plan ps) (scanOf Own (wanted usual ps) plan ps)
 
 -- a bad record or tick is told with its place from 1, so that 8 with place 0 is never a tick's
 abbrev pub PlanPlaces : Type 0
@@ -95,7 +96,7 @@ pub data HeldBy (plan ps list : List ℕ) (p s n : ℕ) : Holding → Type 0 whe
       Planned plan ps → Named ps p → needed plan ps ≤ length list → ¬ Counted plan ps list → HeldBy plan ps list p s n (holding.Refused Counts)
   held-stretch : Planned plan ps → Named ps p → Counted plan ps list → ¬ Within plan s n → HeldBy plan ps list p s n (holding.Refused (Beyond 0))
   held-done :
-      Planned plan ps → Named ps p → Counted plan ps list → Within plan s n → HeldBy plan ps list p s n (holding.Holds (held own plan p n s))
+      Planned plan ps → Named ps p → Counted plan ps list → Within plan s n → HeldBy plan ps list p s n (holding.Holds (held Own plan p n s))
 
 abbrev pub HeldAnswers : Type 0
 HeldAnswers = (plan ps list : List ℕ) (p s n : ℕ) → HeldBy plan ps list p s n (heldOf plan ps list p s n)
@@ -214,7 +215,7 @@ FillChangeHeld =
     (plan ps list o plan′ o′ : List ℕ) (m tick owner : ℕ) (r : Finding) → FillsCounts plan ps list o (filling.Fills m)
     → Changes plan ps o tick owner plan′ o′ r → owner ≤ partitions ps → tick < length plan
     → (r ≡ Good)
-    × ((p s n : ℕ) (a : Holding) → Named ps p → Within plan s n → HoldsOne plan′ ps o′ p s n a → a ≡ holding.Holds (held own (set plan tick owner) p n s))
+    × ((p s n : ℕ) (a : Holding) → Named ps p → Within plan s n → HoldsOne plan′ ps o′ p s n a → a ≡ holding.Holds (held Own (set plan tick owner) p n s))
 
 -- ---- "any two outcomes it permits are equal": the answer, and what is then left in all that was lent
 

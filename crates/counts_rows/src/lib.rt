@@ -6,7 +6,8 @@ ghost use lib.ListN.{length};
 ghost use Rattle.rules.specs.Walk.{some, fails};
 ghost use Rattle.rules.specs.Limits.{longest};
 ghost use Rattle.rules.specs.Contracts.{AsNamed};
-ghost use Rattle.theory.specs.Plan.{own, held};
+ghost use Rattle.rules.specs.declared.Rule.the-variants.{Own};
+ghost use Rattle.theory.specs.Plan.{held};
 ghost use Rattle.counts.specs.Counts.{rowWidth, countAt, agreesAt};
 ghost use Rattle.counts.specs.Contracts.{differsAt, Recounted, Kept};
 use rules::numbers::one_if;
@@ -91,7 +92,7 @@ pub fn differs(plan: &[u16], list: &[u16], parts: usize) -> bool
 // What a stretch holds, from two or three of p's numbers, for callers that know them to be the plan's.
 pub fn look_up(plan: &[u16], list: &[u16], p: usize, s: usize, n: usize) -> usize
     requires { ⌜ Kept (now plan) (now list) p × (s < length (now plan)) × (n ≤ length (now plan)) ⌝ }
-    ensures { λ r. ⌜ r ≡ held own (now (plan .entry)) p n s ⌝ }
+    ensures { λ r. ⌜ r ≡ held Own (now (plan .entry)) p n s ⌝ }
 {
     let f = plan.len();
     let row = row_at(f, p);

@@ -42,7 +42,7 @@ pub fn good_stretch(f: usize, s: usize, n: usize) -> bool
 pub fn judge_plan(plan: &[u16], parts: &[u16]) -> Finding
     ensures { λ r. ⌜ r ≡ planJudged (now (plan .entry)) (now (parts .entry)) ⌝ }
 {
-    let tables = tables::judge_partitions(rules::usual(), plan.len(), parts);
+    let tables = tables::judge_partitions(rules::filed(1), plan.len(), parts);
     match tables {
         Finding::Refused(r) => Finding::Refused(r),
         Finding::Good => tables::judge_ticks(plan, parts),

@@ -1,5 +1,4 @@
 // The running counts kept beside a plan: filled from it, asked for any stretch, and changed with it.
-use counts::Holding;
 use counts_rows::fill_row;
 use counts_rows::fill_rows;
 use counts_rows::look_up;
@@ -14,6 +13,7 @@ use questions::judge_stretches;
 use questions::questions;
 use rules::Filling;
 use rules::Finding;
+use rules::Holding;
 use rules::Refusal;
 use rules::limits::QUESTION_WIDTH;
 use rules::numbers::wide;

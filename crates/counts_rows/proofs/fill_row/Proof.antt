@@ -2,7 +2,8 @@ use Prim.Native.Nat.{_+_, _-_, _≤_}
 use mathlib.Core.Path.{_≡_, refl}
 use lib.ListN.{length, length-set}
 use Rattle.rules.specs.Contracts.{AsNamed}
-use Rattle.theory.specs.Plan.{own, held}
+use Rattle.rules.specs.declared.Rule.the-variants.{Own}
+use Rattle.theory.specs.Plan.{held}
 use Rattle.plan_service.proofs.Turns.{held-none}
 use Rattle.counts.specs.Counts.{rowOf}
 use Rattle.counts.proofs.Passes.{recounted, count-turn, row-none, row-turn, row-last, row-idle}
@@ -11,7 +12,7 @@ use Rattle.counts_rows.proofs.fill_row.Statement.{statement}
 use Rattle.counts_rows.proofs.fill_row.Tie as tie
 
 abbrev Inv-loop : tie.InvT-loop
-Inv-loop plan list₀ p f row h₀ k₀ list h k = (k ≤ f) × (h ≤ k) × (length list ≡ length list₀) × (h ≡ held own plan p k 0) × AsNamed (recounted plan p list₀) (rowOf plan p + k) list₀ list
+Inv-loop plan list₀ p f row h₀ k₀ list h k = (k ≤ f) × (h ≤ k) × (length list ≡ length list₀) × (h ≡ held Own plan p k 0) × AsNamed (recounted plan p list₀) (rowOf plan p + k) list₀ list
 
 abbrev μ-loop : tie.MeasureT-loop
 μ-loop plan list₀ p f row h₀ k₀ list h k = f - k
@@ -23,7 +24,7 @@ row-at-requires : tie.Need-row-at-requires Inv-loop μ-loop
 row-at-requires c κs = search needs
 
 loop-holds : tie.Need-loop-holds Inv-loop μ-loop
-loop-holds c = (search needs, search needs, refl, held-none _ _ _, row-none (c .before .before .before .before .args .plan .now) _ _)
+loop-holds c = (search needs, search needs, refl, held-none _ _ _ _, row-none (c .before .before .before .before .args .plan .now) _ _)
 
 cast-list : tie.Need-cast-list Inv-loop μ-loop
 cast-list c = search needs

@@ -1,4 +1,5 @@
-use Rattle.theory.specs.Plan.{owner}
+use Rattle.rules.specs.declared.Rule.the-variants.{Own}
+use Rattle.theory.specs.Plan.{service}
 use Rattle.theory.proofs.Plan.{held-le}
 use Prim.Native.Nat.{_+_, _-_}
 use native.Mathlib.Omega.{arith}
@@ -81,7 +82,7 @@ wide-requires-4 : tie.Need-wide-requires-4
 wide-requires-4 c κs = search needs
 
 add-result : tie.Need-add-result
-add-result c = let g = c .before .before .before .before .before .before .before .before .before .before .args in let a = look-at _ _ _ (g .s) _ _ (c .before .before .before .before .before .before .before .before .before .before .pre .0) (search needs) (c .before .before .before .before .before .before .before .row-at .ensures .0) (c .before .before .before .before .before .wide .ensures) in let b = look-at _ _ _ (length (g .plan .now)) _ _ (c .before .before .before .before .before .before .before .before .before .before .pre .0) (search needs) (c .before .before .before .before .before .before .before .row-at .ensures .0) (c .before .before .wide3 .ensures) in let d = look-at _ _ _ (g .s + g .n - length (g .plan .now)) _ _ (c .before .before .before .before .before .before .before .before .before .before .pre .0) (search needs) (c .before .before .before .before .before .before .before .row-at .ensures .0) (c .wide4 .ensures) in omega (arith, held-le (owner (g .plan .now)) (g .p) (length (g .plan .now)) 0, held-le (owner (g .plan .now)) (g .p) (g .s + g .n - length (g .plan .now)) 0, b, d)
+add-result c = let g = c .before .before .before .before .before .before .before .before .before .before .args in let a = look-at _ _ _ (g .s) _ _ (c .before .before .before .before .before .before .before .before .before .before .pre .0) (search needs) (c .before .before .before .before .before .before .before .row-at .ensures .0) (c .before .before .before .before .before .wide .ensures) in let b = look-at _ _ _ (length (g .plan .now)) _ _ (c .before .before .before .before .before .before .before .before .before .before .pre .0) (search needs) (c .before .before .before .before .before .before .before .row-at .ensures .0) (c .before .before .wide3 .ensures) in let d = look-at _ _ _ (g .s + g .n - length (g .plan .now)) _ _ (c .before .before .before .before .before .before .before .before .before .before .pre .0) (search needs) (c .before .before .before .before .before .before .before .row-at .ensures .0) (c .wide4 .ensures) in omega (arith, held-le (service Own (g .plan .now)) (g .p) (length (g .plan .now)) 0, held-le (service Own (g .plan .now)) (g .p) (g .s + g .n - length (g .plan .now)) 0, b, d)
 
 returns-2 : tie.Need-returns-2
 returns-2 c = let g = c .before .before .before .before .before .before .before .before .before .before .args in let a = look-at _ _ _ (g .s) _ _ (c .before .before .before .before .before .before .before .before .before .before .pre .0) (search needs) (c .before .before .before .before .before .before .before .row-at .ensures .0) (c .before .before .before .before .before .wide .ensures) in let b = look-at _ _ _ (length (g .plan .now)) _ _ (c .before .before .before .before .before .before .before .before .before .before .pre .0) (search needs) (c .before .before .before .before .before .before .before .row-at .ensures .0) (c .before .before .wide3 .ensures) in let d = look-at _ _ _ (g .s + g .n - length (g .plan .now)) _ _ (c .before .before .before .before .before .before .before .before .before .before .pre .0) (search needs) (c .before .before .before .before .before .before .before .row-at .ensures .0) (c .wide4 .ensures) in omega (arith, across (g .plan .now) (g .p) (g .s) (g .n) (search needs) (search needs), upto (g .plan .now) (g .p) (g .s) (search needs), a, b, d)

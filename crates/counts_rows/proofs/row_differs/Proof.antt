@@ -2,7 +2,8 @@ use Prim.Native.Nat.{_-_, _≤_}
 use mathlib.Core.Path.{_≡_, sym}
 use Rattle.rules.specs.Walk.{first}
 use Rattle.rules.proofs.First.{first-zero, first-more, some-at}
-use Rattle.theory.specs.Plan.{own, held}
+use Rattle.rules.specs.declared.Rule.the-variants.{Own}
+use Rattle.theory.specs.Plan.{held}
 use Rattle.plan_service.proofs.Turns.{held-none}
 use Rattle.counts.specs.Contracts.{differsAt}
 use Rattle.counts.proofs.Passes.{count-turn}
@@ -12,7 +13,7 @@ use Rattle.counts_rows.proofs.row_differs.Statement.{statement}
 use Rattle.counts_rows.proofs.row_differs.Tie as tie
 
 abbrev Inv-loop : tie.InvT-loop
-Inv-loop plan list p f row h₀ k₀ h k = (k ≤ f) × (h ≤ k) × (h ≡ held own plan p k 0) × (first (differsAt plan list p) k ≡ k)
+Inv-loop plan list p f row h₀ k₀ h k = (k ≤ f) × (h ≤ k) × (h ≡ held Own plan p k 0) × (first (differsAt plan list p) k ≡ k)
 
 abbrev μ-loop : tie.MeasureT-loop
 μ-loop plan list p f row h₀ k₀ h k = f - k
@@ -21,7 +22,7 @@ row-at-requires : tie.Need-row-at-requires Inv-loop μ-loop
 row-at-requires c κs = search needs
 
 loop-holds : tie.Need-loop-holds Inv-loop μ-loop
-loop-holds c = (search needs, search needs, held-none _ _ _, first-zero _)
+loop-holds c = (search needs, search needs, held-none _ _ _ _, first-zero _)
 
 add-wide : tie.Need-add-wide Inv-loop μ-loop
 add-wide c = search needs

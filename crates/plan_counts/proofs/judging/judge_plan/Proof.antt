@@ -4,8 +4,8 @@ use borrow.Author.Needs.{needs}
 use Rattle.plan_counts.proofs.judging.judge_plan.Statement.{statement}
 use Rattle.plan_counts.proofs.judging.judge_plan.Tie as tie
 
-usual-requires : tie.Need-usual-requires
-usual-requires c κs = search needs
+filed-requires : tie.Need-filed-requires
+filed-requires c κs = search needs
 
 judge-partitions-requires : tie.Need-judge-partitions-requires
 judge-partitions-requires c κs = search needs
@@ -20,16 +20,16 @@ judge-ticks-requires : tie.Need-judge-ticks-requires
 judge-ticks-requires c κs = search needs
 
 returns : tie.Need-returns
-returns c = plan-refused _ _ _ (sym (rw (c .before .before .before .before .usual .ensures) at (c .before .before .before .judge-partitions .ensures)) ∙ c .before .tables .given .1)
+returns c = plan-refused _ _ _ (sym (rw (c .before .before .before .before .filed .ensures) at (c .before .before .before .judge-partitions .ensures)) ∙ c .before .tables .given .1)
 
 returns-2 : tie.Need-returns-2
-returns-2 c = plan-next _ _ (sym (rw (c .before .before .before .before .usual .ensures) at (c .before .before .before .judge-partitions .ensures)) ∙ c .before .enum-told .given .1) _ (c .judge-ticks .ensures)
+returns-2 c = plan-next _ _ (sym (rw (c .before .before .before .before .filed .ensures) at (c .before .before .before .judge-partitions .ensures)) ∙ c .before .enum-told .given .1) _ (c .judge-ticks .ensures)
 
 pub judge-plan-spec : {M : Type 1} → statement M
 judge-plan-spec =
     tie.close
     (tie.spec
-    usual-requires
+    filed-requires
     judge-partitions-requires
     enum-known-tables
     enum-told

@@ -1,10 +1,11 @@
+use Rattle.rules.specs.declared.Rule.the-variants.{Own}
 use Prim.Native.Nat.{_-_, _≤_}
 use mathlib.Core.Path.{_≡_, refl}
 use native.Mathlib.Omega.{arith}
 use lib.ListN.{length, length-set}
 use Rattle.rules.specs.Contracts.{AsNamed}
 use Rattle.rules.proofs.Named.{named-none, named-turn, named-end}
-use Rattle.theory.specs.Plan.{owner}
+use Rattle.theory.specs.Plan.{service}
 use Rattle.theory.proofs.Plan.{held-le}
 use Rattle.counts.specs.Counts.{answerAt}
 use Rattle.counts.proofs.Asking.{answer-as}
@@ -34,7 +35,7 @@ look-up-requires : tie.Need-look-up-requires Inv-loop μ-loop
 look-up-requires c κs = let a = c .before .before .before .before .before .before .before .before .before .pre .0 in let k = c .before .before .before .before .loop .k in (rw (c .before .before .asked .ensures) (a .kept k (search needs)), rw (c .before .start .ensures) (a .starts k (search needs)), rw (c .span .ensures) (a .spans k (search needs)))
 
 cast-answers : tie.Need-cast-answers Inv-loop μ-loop
-cast-answers c = let a = c .before .before .before .before .before .before .before .before .before .before .pre .0 in omega (arith, c .look-up .ensures, held-le (owner (c .before .before .before .before .before .before .before .before .before .before .args .plan .now)) (c .before .before .before .asked .result) (c .before .span .result) (c .before .before .start .result), c .before .span .ensures, a .spans (c .before .before .before .before .before .loop .k) (search needs), a .small)
+cast-answers c = let a = c .before .before .before .before .before .before .before .before .before .before .pre .0 in omega (arith, c .look-up .ensures, held-le (service Own (c .before .before .before .before .before .before .before .before .before .before .args .plan .now)) (c .before .before .before .asked .result) (c .before .span .result) (c .before .before .start .result), c .before .span .ensures, a .spans (c .before .before .before .before .before .loop .k) (search needs), a .small)
 
 mul-answers : tie.Need-mul-answers Inv-loop μ-loop
 mul-answers c = search needs
