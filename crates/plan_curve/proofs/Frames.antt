@@ -8,41 +8,41 @@ use lib.Dec.{eqb}
 use lib.ListN.{length, getD, set}
 use Rattle.rules.specs.Walk.{only}
 use Rattle.rules.specs.Contracts.{AsNamed}
+use Rattle.rules.specs.declared.Rule.{Rule}
 use Rattle.rules.proofs.Named.{named-turn}
-use Rattle.theory.specs.Plan.{owner, own, held, least}
+use Rattle.theory.specs.Plan.{service, held, least}
 use Rattle.theory.proofs.Plan.{held-around, least-is-least, least-attained, least-bounds}
 use Rattle.theory.proofs.Need.{owned-split}
-use Rattle.plan_curve.proofs.Worst.{next}
+use Rattle.plan_curve.proofs.Worst.{in-frame, next}
 
 -- a pass that goes further than the one before it
 pub named-over : (o : ℕ → ℕ) (k t : ℕ) (before cur after : List ℕ) → k ≤ t → AsNamed o k before cur → AsNamed o t cur after → AsNamed o t before after
 named-over o k t before cur after l v w = record { as-long = w .as-long ∙ v .as-long; done = w .done; rest = λ i g. w .rest i g ∙ v .rest i (omega arith) }
 
-module _ (plan : List ℕ) (p : ℕ) (pos : 0 < length plan) where
+module _ (rule : Rule) (plan : List ℕ) (p : ℕ) (pos : 0 < length plan) where
   abbrev f : ℕ
   f = length plan
 
-  again : (s : ℕ) → owner plan (s + f) ≡ owner plan s
-  unfolding owner
-  again s = ap (λ (x : ℕ). getD plan x 0) (add-mod-right s f)
+  again : (s : ℕ) → service rule plan (s + f) ≡ service rule plan s
+  again s = sym (in-frame rule plan (s + f)) ∙ ap (service rule plan) (add-mod-right s f) ∙ in-frame rule plan s
 
   -- a frame holds the same from every start
-  frame-same : (s : ℕ) → held own plan p f s ≡ held own plan p f 0
+  frame-same : (s : ℕ) → held rule plan p f s ≡ held rule plan p f 0
   frame-same zero = refl
   frame-same (suc s) =
-      let o : only (eqb (owner plan (s + f)) p) 1 ≡ only (eqb (owner plan s) p) 1 = ap (λ (x : ℕ). only (eqb x p) 1) (again s) in
-      omega (arith, next own plan p f s, o, frame-same s)
+      let o : only (eqb (service rule plan (s + f)) p) 1 ≡ only (eqb (service rule plan s) p) 1 = ap (λ (x : ℕ). only (eqb x p) 1) (again s) in
+      omega (arith, next rule plan p f s, o, frame-same s)
 
-  held-frame : (t s : ℕ) → held own plan p (f + t) s ≡ held own plan p f 0 + held own plan p t s
+  held-frame : (t s : ℕ) → held rule plan p (f + t) s ≡ held rule plan p f 0 + held rule plan p t s
   held-frame t s =
-      let later : held own plan p t (s + f) ≡ held own plan p t s = sym (held-around own plan p t (s + f)) ∙ ap (held own plan p t) (add-mod-right s f) ∙ held-around own plan p t s in
-      omega (arith, owned-split (owner plan) p s f t, later, frame-same s)
+      let later : held rule plan p t (s + f) ≡ held rule plan p t s = sym (held-around rule plan p t (s + f)) ∙ ap (held rule plan p t) (add-mod-right s f) ∙ held-around rule plan p t s in
+      omega (arith, owned-split (service rule plan) p s f t, later, frame-same s)
 
-  least-frame : (t : ℕ) → least own plan p (f + t) ≡ least own plan p f + least own plan p t
+  least-frame : (t : ℕ) → least rule plan p (f + t) ≡ least rule plan p f + least rule plan p t
   least-frame t =
-      let a = least-attained own plan p (f + t) pos in
-      let b = least-attained own plan p t pos in
-      let c = least-attained own plan p f pos in
+      let a = least-attained rule plan p (f + t) pos in
+      let b = least-attained rule plan p t pos in
+      let c = least-attained rule plan p f pos in
       omega (
         arith,
         a .2,
@@ -51,19 +51,19 @@ module _ (plan : List ℕ) (p : ℕ) (pos : 0 < length plan) where
         frame-same (c .0),
         held-frame t (a .0),
         held-frame t (b .0),
-        least-is-least own plan p (f + t) (b .0) pos,
-        least-is-least own plan p t (a .0) pos,
+        least-is-least rule plan p (f + t) (b .0) pos,
+        least-is-least rule plan p t (a .0) pos,
       )
 
   -- one number more: x and y are those a frame before, and of the frame
-  pub frame-turn : (t x y v : ℕ) (before cur after : List ℕ) → AsNamed (least own plan p) t before cur → f < t → t < length before → x ≡ getD cur (t - f) 0 → y ≡ getD cur f 0
-      → v ≡ x + y → after ≡ set cur t v → AsNamed (least own plan p) (t + 1) before after
+  pub frame-turn : (t x y v : ℕ) (before cur after : List ℕ) → AsNamed (least rule plan p) t before cur → f < t → t < length before → x ≡ getD cur (t - f) 0 → y ≡ getD cur f 0
+      → v ≡ x + y → after ≡ set cur t v → AsNamed (least rule plan p) (t + 1) before after
   frame-turn t x y v before cur after w l g ex ey ev ea =
       let z : f + (t - f) ≡ t = omega arith in
-      let e : least own plan p t ≡ least own plan p f + least own plan p (t - f) = rw z at (least-frame (t - f)) in
+      let e : least rule plan p t ≡ least rule plan p f + least rule plan p (t - f) = rw z at (least-frame (t - f)) in
       named-turn _ t v before cur after w g ea (omega (arith, e, w .done (t - f) (omega arith), w .done f l))
 
   -- and no more than its ticks
-  pub frame-small : (t x y : ℕ) (before cur : List ℕ) → AsNamed (least own plan p) t before cur → f < t → x ≡ getD cur (t - f) 0 → y ≡ getD cur f 0 → x + y ≤ t
+  pub frame-small : (t x y : ℕ) (before cur : List ℕ) → AsNamed (least rule plan p) t before cur → f < t → x ≡ getD cur (t - f) 0 → y ≡ getD cur f 0 → x + y ≤ t
   frame-small t x y before cur w l ex ey =
-      omega (arith, w .done (t - f) (omega arith), w .done f l, least-bounds own plan p (t - f), least-bounds own plan p f)
+      omega (arith, w .done (t - f) (omega arith), w .done f l, least-bounds rule plan p (t - f), least-bounds rule plan p f)

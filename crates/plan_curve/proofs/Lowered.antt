@@ -13,9 +13,10 @@ use lib.ListN.{length, getD, set}
 use borrow.Author.Tests.{eq-eqb, ne-eqb}
 use Rattle.rules.specs.Walk.{pick}
 use Rattle.rules.specs.Contracts.{AsNamed}
+use Rattle.rules.specs.declared.Rule.{Rule}
 use Rattle.rules.proofs.Named.{named-turn, named-as, named-then}
 use Rattle.rules.proofs.Least.{smallest-zero}
-use Rattle.theory.specs.Plan.{owner, Rule, own, service, held, least}
+use Rattle.theory.specs.Plan.{service, held, least}
 use Rattle.theory.proofs.Plan.{least-is-least, least-attained, least-bounds}
 use Rattle.plan_service.proofs.Turns.{empty-idle, empty-other}
 use Rattle.plan_curve.specs.Curve.{startTried}
@@ -63,43 +64,34 @@ module _ (rule : Rule) (plan : List ℕ) (p t : ℕ) where
       omega (arith, a .2, w .3, lowered-le (length plan) (w .0) (w .1) (w .2), lowered-ge (length plan) h)
 
 -- of an empty plan there is no start: every tick is idle
-none : (plan : List ℕ) (p t : ℕ) → length plan ≡ 0 → Dec (p ≡ 0) → lowered own plan p (length plan) t ≡ least own plan p t
+none : (rule : Rule) (plan : List ℕ) (p t : ℕ) → length plan ≡ 0 → Dec (p ≡ 0) → lowered rule plan p (length plan) t ≡ least rule plan p t
 unfolding lowered least most
-none plan p t e (yes z) = rw (e, eq-eqb (length plan) 0 e, eq-eqb p 0 z, smallest-zero) (empty-idle plan p 0 t e z)
-none plan p t e (no n) = rw (e, eq-eqb (length plan) 0 e, ne-eqb p 0 n, smallest-zero) (empty-other plan p 0 t e n)
+none rule plan p t e (yes z) = rw (e, eq-eqb (length plan) 0 e, eq-eqb p 0 z, smallest-zero) (empty-idle rule plan p 0 t e z)
+none rule plan p t e (no n) = rw (e, eq-eqb (length plan) 0 e, ne-eqb p 0 n, smallest-zero) (empty-other rule plan p 0 t e n)
 
 -- after all starts the numbers are least service
-lowered-all : (plan : List ℕ) (p t : ℕ) → lowered own plan p (length plan) t ≡ least own plan p t
-lowered-all plan p t = go (ℕ-discrete (length plan) 0)
+lowered-all : (rule : Rule) (plan : List ℕ) (p t : ℕ) → lowered rule plan p (length plan) t ≡ least rule plan p t
+lowered-all rule plan p t = go (ℕ-discrete (length plan) 0)
   where
-    go : Dec (length plan ≡ 0) → lowered own plan p (length plan) t ≡ least own plan p t
-    go (yes e) = none plan p t e (ℕ-discrete p 0)
-    go (no n) = full own plan p t (omega arith)
+    go : Dec (length plan ≡ 0) → lowered rule plan p (length plan) t ≡ least rule plan p t
+    go (yes e) = none rule plan p t e (ℕ-discrete p 0)
+    go (no n) = full rule plan p t (omega arith)
 
 -- ---- the laws that the code's proofs cite
 
-pub tried-first : (plan : List ℕ) (p s : ℕ) → s ≡ 0 → true ≡ startTried own plan p s
-unfolding startTried
-tried-first plan p s e = rw (eq-eqb s 0 e)
-
-module _ (plan : List ℕ) (p s : ℕ) (l : s < length plan) (n : ¬ (s ≡ 0)) where
-  at-tick : service own plan s ≡ getD plan s 0
-  unfolding owner
-  at-tick = ap (λ (x : ℕ). getD plan x 0) (mod-eq-of-lt l)
-
-  tick-before : service own plan (s - 1) ≡ getD plan (s - 1) 0
-  unfolding owner
-  tick-before = ap (λ (x : ℕ). getD plan x 0) (mod-eq-of-lt (omega arith))
-
-  pub within-run : getD plan s 0 ≡ p → false ≡ startTried own plan p s
-  unfolding startTried
-  within-run e = rw (ne-eqb s 0 n, at-tick, eq-eqb (getD plan s 0) p e)
-
-  pub tried-behind : ¬ (getD plan s 0 ≡ p) → eqb (getD plan (s - 1) 0) p ≡ startTried own plan p s
-  unfolding startTried
-  tried-behind h = rw (ne-eqb s 0 n, at-tick, ne-eqb (getD plan s 0) p h, tick-before)
-
 module _ (rule : Rule) (plan : List ℕ) (p s : ℕ) where
+  pub tried-first : s ≡ 0 → true ≡ startTried rule plan p s
+  unfolding startTried
+  tried-first e = rw (eq-eqb s 0 e)
+
+  pub within-run : ¬ (s ≡ 0) → service rule plan s ≡ p → false ≡ startTried rule plan p s
+  unfolding startTried
+  within-run n e = rw (ne-eqb s 0 n, eq-eqb (service rule plan s) p e)
+
+  pub tried-behind : ¬ (s ≡ 0) → ¬ (service rule plan s ≡ p) → eqb (service rule plan (s - 1)) p ≡ startTried rule plan p s
+  unfolding startTried
+  tried-behind n h = rw (ne-eqb s 0 n, ne-eqb (service rule plan s) p h)
+
   -- one number more
   lower-turn : (t h v : ℕ) (before cur after : List ℕ) → AsNamed (lowerFrom rule plan p s before) t before cur → t < length before → h ≡ held rule plan p t s
       → v ≡ min (getD cur t 0) h → after ≡ set cur t v → AsNamed (lowerFrom rule plan p s before) (t + 1) before after
@@ -131,14 +123,14 @@ module _ (rule : Rule) (plan : List ℕ) (p s : ℕ) where
   unfolding lowered lowerAt lowerFrom
   lowered-turn n before cur after w v = rw add-one (named-then _ _ n before cur after w (named-as _ _ n cur after (λ t l. rw (w .done t l)) v))
 
-pub lowered-none : (plan : List ℕ) (p f n : ℕ) (before after : List ℕ) → f ≡ length plan → AsNamed (most f p) n before after → AsNamed (lowered own plan p 0) n before after
+pub lowered-none : (rule : Rule) (plan : List ℕ) (p f n : ℕ) (before after : List ℕ) → f ≡ length plan → AsNamed (most f p) n before after → AsNamed (lowered rule plan p 0) n before after
 unfolding lowered
-lowered-none plan p f n before after e w = named-as _ _ n before after (λ t l. rw e) w
+lowered-none rule plan p f n before after e w = named-as _ _ n before after (λ t l. rw e) w
 
-pub lowered-done : (plan : List ℕ) (p s n : ℕ) (before after : List ℕ) → s ≤ length plan → length plan ≤ s → AsNamed (lowered own plan p s) n before after → AsNamed (least own plan p) n before after
-lowered-done plan p s n before after l g w =
+pub lowered-done : (rule : Rule) (plan : List ℕ) (p s n : ℕ) (before after : List ℕ) → s ≤ length plan → length plan ≤ s → AsNamed (lowered rule plan p s) n before after → AsNamed (least rule plan p) n before after
+lowered-done rule plan p s n before after l g w =
     let e : s ≡ length plan = omega arith in
-    named-as _ _ n before after (λ t h. lowered-all plan p t) (rw e at w)
+    named-as _ _ n before after (λ t h. lowered-all rule plan p t) (rw e at w)
 
 -- where the frame ends its start follows
 pub row-second : (f s e : ℕ) → s < f → e ≡ f - s → 0 ≡ (s + e) % f

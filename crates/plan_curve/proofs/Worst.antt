@@ -11,13 +11,18 @@ use lib.Dec.{eqb}
 use lib.ListN.{length}
 use borrow.Author.Tests.{eq-eqb, ne-eqb}
 use Rattle.rules.specs.Walk.{only}
+use Rattle.rules.specs.declared.Rule.{Rule}
 use Rattle.rules.proofs.Sum.{only-eq, only-ne, only-self}
 use Rattle.rules.proofs.Tests.{and-intro, or-left, or-right}
-use Rattle.theory.specs.Plan.{Rule, service, held}
+use Rattle.theory.specs.Plan.{service, held}
 use Rattle.theory.proofs.Plan.{held-zero, held-more, service-around, held-around}
 use Rattle.theory.proofs.Need.{owned-split}
 use Rattle.plan_curve.specs.Curve.{startTried}
 use Rattle.plan_curve.specs.Theorems.{WorstBehindRun, WorstStart}
+
+-- a tick's place in the frame is enough
+pub in-frame : (rule : Rule) (plan : List ℕ) (t : ℕ) → service rule plan (t % length plan) ≡ service rule plan t
+in-frame rule plan t = ap (service rule plan) (sym (add-zero (t % length plan))) ∙ service-around rule plan t 0 ∙ ap (service rule plan) (add-zero t)
 
 module _ (rule : Rule) (plan : List ℕ) (p : ℕ) where
   abbrev who : ℕ → ℕ
@@ -31,11 +36,11 @@ module _ (rule : Rule) (plan : List ℕ) (p : ℕ) where
       let e : 1 + t ≡ t + 1 = omega arith in
       omega (arith, one, held-more who p t s, rw (e, add-one s) at (owned-split who p s 1 t))
 
-  -- behind p's own tick a stretch holds no more
+  -- behind a tick that serves p a stretch holds no more
   later : (t s : ℕ) → who s ≡ p → held rule plan p t (suc s) ≤ held rule plan p t s
   later t s e = omega (arith, next t s, only-eq (who s) p 1 e, only-self (eqb (who (s + t)) p) 1)
 
-  -- before another's tick a stretch holds no more
+  -- before another tick a stretch holds no more
   earlier : (t s : ℕ) → ¬ (who s ≡ p) → held rule plan p t s ≤ held rule plan p t (suc s)
   earlier t s h = omega (arith, next t s, only-ne (who s) p 1 h)
 
@@ -91,11 +96,8 @@ module _ (rule : Rule) (plan : List ℕ) (p t : ℕ) where
   runs = service rule plan
 
   -- so many frames later all is the same
-  in-frame : (z : ℕ) → runs (z % f) ≡ runs z
-  in-frame z = ap runs (sym (add-zero (z % f))) ∙ service-around rule plan z 0 ∙ ap runs (add-zero z)
-
   service-later : (k s : ℕ) → runs (s + k * f) ≡ runs s
-  service-later k s = sym (in-frame (s + k * f)) ∙ ap runs (add-mul-mod-self-right s k f) ∙ in-frame s
+  service-later k s = sym (in-frame rule plan (s + k * f)) ∙ ap runs (add-mul-mod-self-right s k f) ∙ in-frame rule plan s
 
   held-later : (k s : ℕ) → held rule plan p t (s + k * f) ≡ held rule plan p t s
   held-later k s = sym (held-around rule plan p t (s + k * f)) ∙ ap (held rule plan p t) (add-mul-mod-self-right s k f) ∙ held-around rule plan p t s

@@ -4,13 +4,14 @@ use mathlib.Core.Path.{_≡_}
 use mathlib.Core.Bool.{_&&_, not}
 use mathlib.Core.List.{List}
 use lib.Dec.{eqb}
-use lib.ListN.{length, getD}
+use lib.ListN.{length, getD, take}
 use Rattle.rules.specs.Walk.{pick}
 use Rattle.rules.specs.Contracts.{AsNamed}
-use Rattle.theory.specs.Plan.{Rule, service, held}
+use Rattle.rules.specs.declared.Rule.{Rule}
+use Rattle.theory.specs.Plan.{service, held}
 use Rattle.plan_curve.specs.Curve.{startTried}
 
--- what t ticks of a plan with f can hold of p's at most; of an empty one every tick is idle
+-- how many of t ticks of a plan with f can serve p at most; of an empty one every tick is idle
 unfoldable pub most : ℕ → ℕ → ℕ → ℕ
 most f p t = pick (eqb f 0 && not (eqb p 0)) 0 t
 
@@ -30,8 +31,10 @@ lowerAt rule plan p s list t = pick (startTried rule plan p s) (lowerFrom rule p
 abbrev pub Framed : ℕ → ℕ → Type 0
 Framed f n = 0 < f → n ≤ f + 1
 
--- as far as p is concerned the frame is some rounds of m ticks (none but the empty frame is rounds of 0)
+-- as far as p is concerned the frame is some rounds of m ticks (none but the empty frame is rounds of 0); a round by itself has its own last tick before
+-- its first, which has to serve p all the same
 pub record Repeats (rule : Rule) (plan : List ℕ) (p m : ℕ) : Type 0 where
   pub whole : length plan % m ≡ 0
   pub some : 0 < length plan → 0 < m
+  pub first : eqb (service rule (take m plan) 0) p ≡ eqb (service rule plan 0) p
   pub again : (k : ℕ) → k + m < length plan → eqb (service rule plan (k + m)) p ≡ eqb (service rule plan k) p

@@ -1,38 +1,40 @@
 // The curve of least service: least(0) .. least(n) of one partition, worked out together. A worst stretch can be taken to
-// start at the frame's first tick or right behind one of the partition's runs, so each of these starts is walked once, for
-// all lengths.
+// start at the frame's first tick or right behind a run of ticks that serve the partition, so each of these starts is walked
+// once, for all lengths.
 ghost use mathlib.Core.Path.{_≡_};
 ghost use mathlib.Core.Bool.{true};
 ghost use Prim.Native.Nat.{_+_, _-_, _%_, _^_, _≤_, _<_};
 ghost use lib.ListN.{length};
 ghost use Rattle.rules.specs.Contracts.{AsNamed};
-ghost use Rattle.theory.specs.Plan.{own, held, least};
+ghost use Rattle.theory.specs.Plan.{held, least};
 ghost use Rattle.plan_curve.specs.Curve.{DrawsCurve, startTried};
 ghost use Rattle.plan_curve.specs.Contracts.{most, lowerAt, lowerFrom, LoweredOn, Framed, Repeats};
-use plan_service::own_at;
+use plan_service::serves_at;
+use plan_service::service_at;
 use rules::Filling;
 use rules::Refusal;
+use rules::Rule;
 use rules::numbers::smaller;
 use rules::numbers::wide;
 use rules::numbers::wide32;
 
 const FEW: usize = 64; // numbers; a frame within the limits has fewer divisors
 
-// Whether stretches from tick s on are tried: it is the frame's first tick, or stands right behind one of p's runs.
-fn start_tried(plan: &[u16], p: usize, s: usize) -> bool
+// Whether stretches from tick s on are tried: it is the frame's first tick, or stands right behind ticks that serve p.
+fn start_tried(rule: Rule, plan: &[u16], p: usize, s: usize) -> bool
     requires { ⌜ s < length (now plan) ⌝ }
-    ensures { λ r. ⌜ r ≡ startTried own (now (plan .entry)) p s ⌝ }
+    ensures { λ r. ⌜ r ≡ startTried rule (now (plan .entry)) p s ⌝ }
 {
     if s == 0 {
         return true;
     }
-    if wide(plan[s]) == p {
+    if service_at(rule, plan, s) == p {
         return false;
     }
-    wide(plan[s - 1]) == p
+    service_at(rule, plan, s - 1) == p
 }
 
-// What t ticks of a plan with f can hold of p's at most; of an empty one every tick is idle.
+// How many of t ticks of a plan with f can serve p at most; of an empty one every tick is idle.
 fn most(f: usize, p: usize, t: usize) -> usize
     ensures { λ r. ⌜ (r ≤ t) × (r ≡ most f p t) ⌝ }
 {
@@ -57,6 +59,7 @@ fn begin(f: usize, p: usize, list: &mut [u32], n: usize)
 // Numbers b to e - 1 lowered to what as many ticks from tick s on hold: those that enter stand in a row in the frame, from
 // place `at` on. h is what b ticks hold, the answer what e hold.
 fn lower_row(
+    rule: Rule,
     plan: &[u16],
     p: usize,
     s: usize,
@@ -67,15 +70,15 @@ fn lower_row(
     h: usize,
 ) -> usize
     requires { ⌜ (at ≡ (s + b) % length (now plan)) × (b ≤ e) × (e ≤ 2 ^ 32) × (e ≤ length (now list))
-        × (at + (e - b) ≤ length (now plan)) × (h ≡ held own (now plan) p b s) ⌝ }
-    ensures { λ r. ⌜ (r ≡ held own (now (plan .entry)) p e s)
-        × LoweredOn own (now (plan .entry)) p s b e (now (list .entry)) (now (list .exit)) ⌝ }
+        × (at + (e - b) ≤ length (now plan)) × (h ≡ held rule (now plan) p b s) ⌝ }
+    ensures { λ r. ⌜ (r ≡ held rule (now (plan .entry)) p e s)
+        × LoweredOn rule (now (plan .entry)) p s b e (now (list .entry)) (now (list .exit)) ⌝ }
 {
     let mut all = h;
     let mut t = b;
     while t < e {
         list[t] = smaller(wide32(list[t]), all) as u32;
-        all = all + own_at(plan, p, at + (t - b));
+        all = all + serves_at(rule, plan, p, at + (t - b));
         t += 1;
     }
     all
@@ -83,39 +86,39 @@ fn lower_row(
 
 // Each of the first n numbers, no more than the frame has ticks and one, lowered to what as many ticks from tick s on hold:
 // up to the frame's end, and on from its start.
-fn lower_from(plan: &[u16], p: usize, s: usize, list: &mut [u32], n: usize)
+fn lower_from(rule: Rule, plan: &[u16], p: usize, s: usize, list: &mut [u32], n: usize)
     requires { ⌜ (s < length (now plan)) × (n ≤ length (now plan) + 1) × (n ≤ 2 ^ 32) × (n ≤ length (now list)) ⌝ }
-    ensures { λ _. ⌜ AsNamed (lowerFrom own (now (plan .entry)) p s (now (list .entry))) n
+    ensures { λ _. ⌜ AsNamed (lowerFrom rule (now (plan .entry)) p s (now (list .entry))) n
         (now (list .entry)) (now (list .exit)) ⌝ }
 {
     let e = smaller(n, plan.len() - s);
-    let h = lower_row(plan, p, s, s, list, 0, e, 0);
+    let h = lower_row(rule, plan, p, s, s, list, 0, e, 0);
     if e < n {
-        lower_row(plan, p, s, 0, list, e, n, h);
+        lower_row(rule, plan, p, s, 0, list, e, n, h);
     }
 }
 
 // The same, where a worst stretch may start at s.
-fn lower_at(plan: &[u16], p: usize, s: usize, list: &mut [u32], n: usize)
+fn lower_at(rule: Rule, plan: &[u16], p: usize, s: usize, list: &mut [u32], n: usize)
     requires { ⌜ (s < length (now plan)) × (n ≤ length (now plan) + 1) × (n ≤ 2 ^ 32) × (n ≤ length (now list)) ⌝ }
-    ensures { λ _. ⌜ AsNamed (lowerAt own (now (plan .entry)) p s (now (list .entry))) n
+    ensures { λ _. ⌜ AsNamed (lowerAt rule (now (plan .entry)) p s (now (list .entry))) n
         (now (list .entry)) (now (list .exit)) ⌝ }
 {
-    if start_tried(plan, p, s) {
-        lower_from(plan, p, s, list, n);
+    if start_tried(rule, plan, p, s) {
+        lower_from(rule, plan, p, s, list, n);
     }
 }
 
 // Within a frame and one tick: least(0) .. least(n - 1), into the first n numbers of the list.
-fn draw_frame(plan: &[u16], p: usize, list: &mut [u32], n: usize)
+fn draw_frame(rule: Rule, plan: &[u16], p: usize, list: &mut [u32], n: usize)
     requires { ⌜ Framed (length (now plan)) n × (n ≤ 2 ^ 32) × (n ≤ length (now list)) ⌝ }
-    ensures { λ _. ⌜ AsNamed (least own (now (plan .entry)) p) n (now (list .entry)) (now (list .exit)) ⌝ }
+    ensures { λ _. ⌜ AsNamed (least rule (now (plan .entry)) p) n (now (list .entry)) (now (list .exit)) ⌝ }
 {
     let f = plan.len();
     begin(f, p, list, n);
     let mut s = 0;
     while s < f {
-        lower_at(plan, p, s, list, n);
+        lower_at(rule, plan, p, s, list, n);
         s += 1;
     }
 }
@@ -132,13 +135,13 @@ fn within_frame(f: usize, n: usize) -> usize
 }
 
 // least(0) .. least(n - 1): a frame more holds as much more as a frame holds, whatever its start.
-fn draw_frames(plan: &[u16], p: usize, list: &mut [u32], n: usize)
+fn draw_frames(rule: Rule, plan: &[u16], p: usize, list: &mut [u32], n: usize)
     requires { ⌜ (n ≤ 2 ^ 32) × (n ≤ length (now list)) ⌝ }
-    ensures { λ _. ⌜ AsNamed (least own (now (plan .entry)) p) n (now (list .entry)) (now (list .exit)) ⌝ }
+    ensures { λ _. ⌜ AsNamed (least rule (now (plan .entry)) p) n (now (list .entry)) (now (list .exit)) ⌝ }
 {
     let f = plan.len();
     let k = within_frame(f, n);
-    draw_frame(plan, p, list, k);
+    draw_frame(rule, plan, p, list, k);
     let mut t = k;
     while t < n {
         list[t] = (wide32(list[t - f]) + wide32(list[f])) as u32;
@@ -146,18 +149,22 @@ fn draw_frames(plan: &[u16], p: usize, list: &mut [u32], n: usize)
     }
 }
 
-// Whether p's ticks repeat after m ticks, as often as these go into the frame. Only a yes promises something.
-fn repeats(plan: &[u16], p: usize, m: usize) -> bool
+// Whether the ticks that serve p repeat after m ticks, as often as these go into the frame, and do so in the first m by
+// themselves: their first tick has their last before it there. Only a yes promises something.
+fn repeats(rule: Rule, plan: &[u16], p: usize, m: usize) -> bool
     requires { ⌜ (0 < m) × (m ≤ length (now plan)) ⌝ }
-    ensures { λ r. ⌜ (r ≡ true → Repeats own (now (plan .entry)) p m) ⌝ }
+    ensures { λ r. ⌜ (r ≡ true → Repeats rule (now (plan .entry)) p m) ⌝ }
 {
     if plan.len() % m != 0 {
+        return false;
+    }
+    if serves_at(rule, &plan[..m], p, 0) != serves_at(rule, plan, p, 0) {
         return false;
     }
     let end = plan.len() - m;
     let mut k = 0;
     while k < end {
-        if own_at(plan, p, k + m) != own_at(plan, p, k) {
+        if serves_at(rule, plan, p, k + m) != serves_at(rule, plan, p, k) {
             return false;
         }
         k += 1;
@@ -165,15 +172,15 @@ fn repeats(plan: &[u16], p: usize, m: usize) -> bool
     true
 }
 
-// The fewest ticks after which p's repeat, the frame itself at most; promised is that they do.
-fn shortest(plan: &[u16], p: usize) -> usize
-    ensures { λ r. ⌜ (r ≤ length (now (plan .entry))) × Repeats own (now (plan .entry)) p r ⌝ }
+// The fewest ticks after which those that serve p repeat, the frame itself at most; promised is that they do.
+fn shortest(rule: Rule, plan: &[u16], p: usize) -> usize
+    ensures { λ r. ⌜ (r ≤ length (now (plan .entry))) × Repeats rule (now (plan .entry)) p r ⌝ }
 {
     let f = plan.len();
     let half = f / 2;
     let mut m = 1;
     while m <= half {
-        if repeats(plan, p, m) {
+        if repeats(rule, plan, p, m) {
             return m;
         }
         m += 1;
@@ -182,33 +189,37 @@ fn shortest(plan: &[u16], p: usize) -> usize
 }
 
 // The ticks to take for the frame: a few numbers are drawn sooner than a shorter frame is found.
-fn frame_for(plan: &[u16], p: usize, n: usize) -> usize
-    ensures { λ r. ⌜ (r ≤ length (now (plan .entry))) × Repeats own (now (plan .entry)) p r ⌝ }
+fn frame_for(rule: Rule, plan: &[u16], p: usize, n: usize) -> usize
+    ensures { λ r. ⌜ (r ≤ length (now (plan .entry))) × Repeats rule (now (plan .entry)) p r ⌝ }
 {
     if n < FEW {
         return plan.len();
     }
-    shortest(plan, p)
+    shortest(rule, plan, p)
 }
 
-// least(0) .. least(n - 1), into the first n numbers of the list. p's ticks repeat after m, so the plan's first m ticks have
-// the same curve.
-pub fn draw(plan: &[u16], p: usize, list: &mut [u32], n: usize)
+// least(0) .. least(n - 1), into the first n numbers of the list. The ticks that serve p repeat after m, so the plan's first
+// m ticks have the same curve.
+pub fn draw(rule: Rule, plan: &[u16], p: usize, list: &mut [u32], n: usize)
     requires { ⌜ (n ≤ 2 ^ 32) × (n ≤ length (now list)) ⌝ }
-    ensures { λ _. ⌜ AsNamed (least own (now (plan .entry)) p) n (now (list .entry)) (now (list .exit)) ⌝ }
+    ensures { λ _. ⌜ AsNamed (least rule (now (plan .entry)) p) n (now (list .entry)) (now (list .exit)) ⌝ }
 {
-    let m = frame_for(plan, p, n);
-    draw_frames(&plan[..m], p, list, n);
+    let m = frame_for(rule, plan, p, n);
+    draw_frames(rule, &plan[..m], p, list, n);
 }
 
-// least(0) .. least(n) of partition p, at the start of the list.
-pub fn curve(plan: &[u16], p: u16, n: u32, list: &mut [u32]) -> Filling
-    ensures { λ r. ⌜ DrawsCurve (now (plan .entry)) p n (now (list .entry)) (now (list .exit)) r ⌝ }
+// least(0) .. least(n) of partition p by an edition, at the start of the list.
+pub fn curve(edition: usize, plan: &[u16], p: u16, n: u32, list: &mut [u32]) -> Filling
+    ensures { λ r. ⌜ DrawsCurve edition (now (plan .entry)) p n (now (list .entry)) (now (list .exit)) r ⌝ }
 {
+    if !rules::good_edition(edition) {
+        return Filling::Refused(Refusal::Edition);
+    }
     let needed = (n as usize) + 1;
     if list.len() < needed {
         return Filling::Refused(Refusal::Output);
     }
-    draw(plan, wide(p), list, needed);
+    let rule = rules::rule_of(edition);
+    draw(rule, plan, wide(p), list, needed);
     Filling::Fills(needed)
 }

@@ -19,7 +19,7 @@ same-length : tie.Need-same-length
 same-length c = c .before .before .draw-frames .ensures .as-long
 
 returns : tie.Need-returns
-returns c = let e = c .before .before .before .before .before .frame-for .ensures in named-as _ _ _ _ _ (λ t l. rounds-least _ _ _ t (e .1) (e .0)) (c .before .before .draw-frames .ensures)
+returns c = let e = c .before .before .before .before .before .frame-for .ensures in named-as _ _ _ _ _ (λ t l. rounds-least _ _ _ _ t (e .1) (e .0)) (c .before .before .draw-frames .ensures)
 
 pub draw-spec : {M : Type 1} → statement M
 draw-spec =

@@ -5,7 +5,7 @@ use Rattle.plan_curve.proofs.frame_for.Statement.{statement}
 use Rattle.plan_curve.proofs.frame_for.Tie as tie
 
 returns : tie.Need-returns
-returns c = (search needs, whole-frame _ _ _ refl)
+returns c = (search needs, whole-frame _ _ _ _ refl)
 
 shortest-requires : tie.Need-shortest-requires
 shortest-requires c κs = search needs

@@ -15,7 +15,7 @@ smaller-requires : tie.Need-smaller-requires
 smaller-requires c κs = search needs
 
 lower-row-requires : tie.Need-lower-row-requires
-lower-row-requires c κs = (rw add-zero (sym (mod-eq-of-lt (c .before .before .before .before .pre .0))), search needs, omega (arith, c .before .smaller .ensures), omega (arith, c .before .smaller .ensures), omega (arith, c .before .smaller .ensures), held-none _ _ _)
+lower-row-requires c κs = (rw add-zero (sym (mod-eq-of-lt (c .before .before .before .before .pre .0))), search needs, omega (arith, c .before .smaller .ensures), omega (arith, c .before .smaller .ensures), omega (arith, c .before .smaller .ensures), held-none _ _ _ _)
 
 lower-row-requires-2 : tie.Need-lower-row-requires-2
 lower-row-requires-2 c κs =

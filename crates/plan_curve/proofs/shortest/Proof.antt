@@ -7,10 +7,10 @@ use Rattle.plan_curve.proofs.shortest.Statement.{statement}
 use Rattle.plan_curve.proofs.shortest.Tie as tie
 
 abbrev Inv-loop : tie.InvT-loop
-Inv-loop plan p f half m₀ m = (1 ≤ m) × (half ≤ f) × (m ≤ half + 1)
+Inv-loop rule plan p f half m₀ m = (1 ≤ m) × (half ≤ f) × (m ≤ half + 1)
 
 abbrev μ-loop : tie.MeasureT-loop
-μ-loop plan p f half m₀ m = half + 1 - m
+μ-loop rule plan p f half m₀ m = half + 1 - m
 
 loop-holds : tie.Need-loop-holds Inv-loop μ-loop
 loop-holds c = (search needs, omega arith, omega arith)
@@ -31,7 +31,7 @@ loop-again : tie.Need-loop-again Inv-loop μ-loop
 loop-again c = (search needs, search needs, search needs)
 
 returns-2 : tie.Need-returns-2 Inv-loop μ-loop
-returns-2 c = (search needs, whole-frame _ _ _ refl)
+returns-2 c = (search needs, whole-frame _ _ _ _ refl)
 
 pub shortest-spec : {M : Type 1} → statement M
 shortest-spec =
