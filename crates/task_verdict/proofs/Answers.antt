@@ -10,7 +10,8 @@ use lib.ListN.{length}
 use borrow.Author.Tests.{le-leb, leb-true, leb-false}
 use Rattle.rules.specs.Walk.{pick, Every}
 use Rattle.rules.specs.Table.{partitions, tasks, deadline, goodTask}
-use Rattle.rules.specs.Terms.{wanted}
+use Rattle.rules.specs.Terms.{granules, ruleIn, wanted}
+use Rattle.rules.specs.declared.Rule.{Rule}
 use Rattle.rules.specs.declared.Terms.{Terms}
 use Rattle.tables.specs.Tables.{unless, GoodTables}
 use Rattle.rules.specs.declared.Refusal.{Refusal}
@@ -18,21 +19,21 @@ use Rattle.rules.specs.declared.Refusal.the-variants.{Task, Tick, Shortfall}
 use Rattle.rules.specs.declared.Told.{Told}
 use Rattle.rules.specs.Refusals.{placed, telling, toldFinding}
 use Rattle.rules.proofs.Known.{named, by-told}
-use Rattle.tables.proofs.Chain.{unless-given, unless-good}
+use Rattle.tables.proofs.Chain.{unless-given, unless-good, in-edition-1}
 use Rattle.rules.proofs.Tests.{pick-first, pick-second}
-use Rattle.theory.specs.Plan.{own}
 use Rattle.theory.specs.Task.{TaskPasses}
+use Rattle.theory.proofs.Switch.{passes-within}
 use Rattle.theory.proofs.Tasks.{run-theorem, endless-theorem}
 use Rattle.rules.specs.declared.Finding.{Finding}
 use Rattle.rules.specs.declared.Finding.the-variants as found
 use Rattle.plan_check.specs.Check.{scanOf, planCheckOf}
-use Rattle.plan_check.proofs.Answers.{frame-some, short-from-0}
+use Rattle.plan_check.proofs.Answers.{frame-some, short-from-0, accepted-before}
 use Rattle.plan_check.proofs.Orders.{shortPart}
 use Rattle.tables.specs.Contracts.{firstBadTick}
 use Rattle.task_verdict.specs.declared.Judged.{Judged}
 use Rattle.task_verdict.specs.declared.Judged.the-variants.{Pass, Fail, Refused}
 use Rattle.task_verdict.specs.Verdict.{placeOf, answerableOf, passAt, verdictBy, toldJudged}
-use Rattle.task_verdict.specs.Theorems.{Answered, AnsweredExactly, OutsideTable, VerdictPastCycle, PassExactly, FailExactly, EndsInTime, EndsInTimeForEver, Engine}
+use Rattle.task_verdict.specs.Theorems.{Answered, AnsweredExactly, OutsideTable, VerdictPastCycle, PassExactly, FailExactly, PassedBefore, EndsInTime, EndsInTimeForEver, Engine}
 use Rattle.task_verdict.proofs.Orders.{is-pass, is-fail, answerable, plan-found, judged-refused, answer}
 
 -- ---- a pass at t, unless that is past d
@@ -87,37 +88,38 @@ no-seven true d t p s h w e = let z : _≡_ {A = ℕ} 0 1 = cc in absurd (omega 
 no-seven false true t p s h w e = let z : _≡_ {A = ℕ} 0 1 = cc in absurd (omega arith)
 no-seven false false t p s h w e = let z : _≡_ {A = ℕ} 0 1 = cc in absurd (omega arith)
 
-plan-no-seven : (q : ℕ → ℕ) (plan ps : List ℕ) → ¬ (planCheckOf q plan ps ≡ found.Refused (Task 0))
+plan-no-seven : (rule : Rule) (q : ℕ → ℕ) (plan ps : List ℕ) → ¬ (planCheckOf rule q plan ps ≡ found.Refused (Task 0))
 unfolding planCheckOf scanOf
-plan-no-seven q plan ps = no-seven (ltb (firstBadTick (partitions ps) plan) (length plan)) (ltb (shortPart q plan ps) (partitions ps)) _ _ _ _ _
+plan-no-seven rule q plan ps = no-seven (ltb (firstBadTick (partitions ps) plan) (length plan)) (ltb (shortPart rule q plan ps) (partitions ps)) _ _ _ _ _
 
 module _ (terms : Terms) (plan ps ts : List ℕ) (place : ℕ) where
   outside : answerableOf terms plan ps ts place ≡ found.Refused (Task 0) → GoodTables terms (length plan) ps ts × (leb 1 place && leb place (tasks ts) ≡ false)
   unfolding answerableOf placeOf
   outside e =
-      let a = unless-given terms (length plan) ps ts found.Refused (placeOf (wanted terms ps) plan ps ts place) (found.Refused (Task 0))
+      let a = unless-given terms (length plan) ps ts found.Refused (placeOf (ruleIn terms) (wanted terms ps) plan ps ts place) (found.Refused (Task 0))
+      (λ i q. let z : _≡_ {A = ℕ} 0 1 = cc in absurd (omega arith))
       (λ q. let z : _≡_ {A = ℕ} 0 1 = cc in absurd (omega arith))
       (λ g q. let z : _≡_ {A = ℕ} 0 1 = cc in absurd (omega arith))
       (λ k q. let z : _≡_ {A = ℕ} 0 1 = cc in absurd (omega arith))
       (λ j q. let z : j + 1 ≡ 0 = cc in absurd (omega arith))
       e in
-      (a .0, pick-second (leb 1 place && leb place (tasks ts)) (planCheckOf (wanted terms ps) plan ps) _ (found.Refused (Task 0)) (plan-no-seven (wanted terms ps) plan ps) (a .1) .0)
+      (a .0, pick-second (leb 1 place && leb place (tasks ts)) (planCheckOf (ruleIn terms) (wanted terms ps) plan ps) _ (found.Refused (Task 0)) (plan-no-seven (ruleIn terms) (wanted terms ps) plan ps) (a .1) .0)
 
   is-outside : GoodTables terms (length plan) ps ts → leb 1 place && leb place (tasks ts) ≡ false → answerableOf terms plan ps ts place ≡ found.Refused (Task 0)
   unfolding answerableOf placeOf
-  is-outside g e = unless-good terms (length plan) ps ts found.Refused (placeOf (wanted terms ps) plan ps ts place) g ∙ rw e
+  is-outside g e = unless-good terms (length plan) ps ts found.Refused (placeOf (ruleIn terms) (wanted terms ps) plan ps ts place) g ∙ rw e
 
   within : Answered terms plan ps ts place → place - 1 < tasks ts
   within a = omega (arith, a .from-1, a .listed)
 
 -- ---- of an engine whose t is at most D exactly where the task passes
 
-abbrev pub Enough : (List ℕ → List ℕ → ℕ → ℕ) → Type 0
+abbrev pub Enough : (Rule → List ℕ → List ℕ → ℕ → ℕ) → Type 0
 Enough engine =
-    (plan ts : List ℕ) (parts : ℕ) → Every (goodTask parts ts) (tasks ts) → (i : ℕ) → i < tasks ts
-    → TaskPasses own plan ts i ↔ (engine plan ts i ≤ deadline ts i)
+    (rule : Rule) (plan ts : List ℕ) (parts : ℕ) → Every (goodTask parts ts) (tasks ts) → (i : ℕ) → i < tasks ts
+    → TaskPasses rule plan ts i ↔ (engine rule plan ts i ≤ deadline ts i)
 
-module _ (engine : List ℕ → List ℕ → ℕ → ℕ) (enough : Enough engine) where
+module _ (engine : Rule → List ℕ → List ℕ → ℕ → ℕ) (enough : Enough engine) where
   abbrev judge : Terms → List ℕ → List ℕ → List ℕ → ℕ → Judged
   judge = verdictBy engine
 
@@ -126,7 +128,7 @@ module _ (engine : List ℕ → List ℕ → ℕ → ℕ) (enough : Enough engin
     d = deadline ts (place - 1)
 
     abbrev t : ℕ
-    t = engine plan ts (place - 1)
+    t = engine (ruleIn terms) plan ts (place - 1)
 
     -- what a verdict that is given says of the input
     pub given : (z : Judged) → Given z → judge terms plan ps ts place ≡ z → Answered terms plan ps ts place × (passAt d t ≡ z)
@@ -141,21 +143,21 @@ module _ (engine : List ℕ → List ℕ → ℕ → ℕ) (enough : Enough engin
         at found.Good e = absurd (not-refused d t r e)
         at (found.Refused q) e = let f : q ≡ r = cc e in ap found.Refused f
 
-    pub reached : Answered terms plan ps ts place → TaskPasses own plan ts (place - 1) ↔ (t ≤ d)
-    reached a = enough plan ts (partitions ps) (a .good .tasks) (place - 1) (within terms plan ps ts place a)
+    pub reached : Answered terms plan ps ts place → TaskPasses (ruleIn terms) plan ts (place - 1) ↔ (t ≤ d)
+    reached a = enough (ruleIn terms) plan ts (partitions ps) (a .good .tasks) (place - 1) (within terms plan ps ts place a)
 
-    passed : (u : ℕ) → judge terms plan ps ts place ≡ Pass u → Answered terms plan ps ts place × TaskPasses own plan ts (place - 1)
+    passed : (u : ℕ) → judge terms plan ps ts place ≡ Pass u → Answered terms plan ps ts place × TaskPasses (ruleIn terms) plan ts (place - 1)
     passed u e = let w = given (Pass u) (pass-given u) e in (w .0, reached (w .0) .1 (pass-at d t u (w .1) .1))
 
-    pub passes : Answered terms plan ps ts place × TaskPasses own plan ts (place - 1) → (u : ℕ) × (judge terms plan ps ts place ≡ Pass u)
+    pub passes : Answered terms plan ps ts place × TaskPasses (ruleIn terms) plan ts (place - 1) → (u : ℕ) × (judge terms plan ps ts place ≡ Pass u)
     passes (a, p) = (t, answer terms plan ps ts place engine a ∙ is-pass d t (reached a .0 p))
 
-    failed : judge terms plan ps ts place ≡ Fail → Answered terms plan ps ts place × ¬ TaskPasses own plan ts (place - 1)
+    failed : judge terms plan ps ts place ≡ Fail → Answered terms plan ps ts place × ¬ TaskPasses (ruleIn terms) plan ts (place - 1)
     failed e =
         let w = given Fail fail-given e in
         (w .0, λ p. absurd (omega (arith, reached (w .0) .0 p, fail-at d t (w .1))))
 
-    fails : Answered terms plan ps ts place × ¬ TaskPasses own plan ts (place - 1) → judge terms plan ps ts place ≡ Fail
+    fails : Answered terms plan ps ts place × ¬ TaskPasses (ruleIn terms) plan ts (place - 1) → judge terms plan ps ts place ≡ Fail
     fails (a, n) = answer terms plan ps ts place engine a ∙ at (leb t d) refl
       where
         at : (b : Bool) → leb t d ≡ b → passAt d t ≡ Fail
@@ -184,11 +186,11 @@ module _ (engine : List ℕ → List ℕ → ℕ → ℕ) (enough : Enough engin
   verdict-past-cycle : VerdictPastCycle judge
   unfolding verdictBy
   verdict-past-cycle terms plan ps ts place good inside owned k l h =
-      let a = short-from-0 (wanted terms ps) plan ps (frame-some ps ts good) owned k l h in
-      let e : answerableOf terms plan ps ts place ≡ planCheckOf (wanted terms ps) plan ps = plan-found terms plan ps ts place good inside in
-      (a .0, a .1, a .2, a .3, nine (planCheckOf (wanted terms ps) plan ps) (answerableOf terms plan ps ts place) (a .0) (a .1) (a .2) (a .3) e (a .4), a .5, a .6)
+      let a = short-from-0 (ruleIn terms) (wanted terms ps) plan ps (frame-some ps ts good) owned k l h in
+      let e : answerableOf terms plan ps ts place ≡ planCheckOf (ruleIn terms) (wanted terms ps) plan ps = plan-found terms plan ps ts place good inside in
+      (a .0, a .1, a .2, a .3, nine (planCheckOf (ruleIn terms) (wanted terms ps) plan ps) (answerableOf terms plan ps ts place) (a .0) (a .1) (a .2) (a .3) e (a .4), a .5, a .6)
     where
-      nine : (f c : Finding) (p s h w : ℕ) → c ≡ f → toldFinding f ≡ telling 9 p s h w → toldJudged (unless Refused c (passAt (deadline ts (place - 1)) (engine plan ts (place - 1)))) ≡ telling 9 p s h w
+      nine : (f c : Finding) (p s h w : ℕ) → c ≡ f → toldFinding f ≡ telling 9 p s h w → toldJudged (unless Refused c (passAt (deadline ts (place - 1)) (engine (ruleIn terms) plan ts (place - 1)))) ≡ telling 9 p s h w
       nine found.Good c p s h w e g = let z : _≡_ {A = ℕ} 0 9 = ap (λ (u : Told). u .number) g in absurd (omega arith)
       nine (found.Refused r) c p s h w e g = rw e g
 
@@ -198,15 +200,24 @@ module _ (engine : List ℕ → List ℕ → ℕ → ℕ) (enough : Enough engin
   fail-exactly : FailExactly judge
   fail-exactly terms plan ps ts place = (failed terms plan ps ts place, fails terms plan ps ts place)
 
+  passed-before : PassedBefore judge
+  passed-before terms plan ps ts place t e =
+      let w = passed terms plan ps ts place t e in
+      let a = w .0 in
+      passes (granules (terms .granule)) plan ps ts place (
+        record { accepted = accepted-before terms plan ps (a .accepted); good = in-edition-1 (a .good); from-1 = a .from-1; listed = a .listed },
+        passes-within (ruleIn terms) plan ts (partitions ps) (a .good .tasks) (place - 1) (within terms plan ps ts place a) (w .1),
+      )
+
   ends-in-time : EndsInTime judge
   ends-in-time terms plan ps ts place u c v N start work ran legal r h =
       let w = passed terms plan ps ts place u v in
-      run-theorem own plan ts (partitions ps) (frame-some ps ts (w .0 .good)) (w .0 .good .tasks) (place - 1) (within terms plan ps ts place (w .0)) (w .1) N start work ran legal r h
+      run-theorem (ruleIn terms) plan ts (partitions ps) (frame-some ps ts (w .0 .good)) (w .0 .good .tasks) (place - 1) (within terms plan ps ts place (w .0)) (w .1) N start work ran legal r h
 
   ends-in-time-for-ever : EndsInTimeForEver judge
   ends-in-time-for-ever terms plan ps ts place u c v start work ran legal r =
       let w = passed terms plan ps ts place u v in
-      endless-theorem own plan ts (partitions ps) (frame-some ps ts (w .0 .good)) (w .0 .good .tasks) (place - 1) (within terms plan ps ts place (w .0)) (w .1) start work ran legal r
+      endless-theorem (ruleIn terms) plan ts (partitions ps) (frame-some ps ts (w .0 .good)) (w .0 .good .tasks) (place - 1) (within terms plan ps ts place (w .0)) (w .1) start work ran legal r
 
   pub engine-proved : Engine judge
   engine-proved = record {
@@ -215,6 +226,7 @@ module _ (engine : List ℕ → List ℕ → ℕ → ℕ) (enough : Enough engin
     verdict-past-cycle = verdict-past-cycle;
     pass-exactly = pass-exactly;
     fail-exactly = fail-exactly;
+    passed-before = passed-before;
     ends-in-time = ends-in-time;
     ends-in-time-for-ever = ends-in-time-for-ever;
   }

@@ -7,10 +7,11 @@ use mathlib.Core.List.{List}
 use lib.ListN.{length}
 use Rattle.rules.specs.Walk.{Every}
 use Rattle.rules.specs.Table.{partitions, partition, tasks, deadline, goodTick}
-use Rattle.rules.specs.Terms.{wanted}
+use Rattle.rules.specs.Terms.{granules, ruleIn, wanted}
 use Rattle.rules.specs.declared.Terms.{Terms}
 use Rattle.tables.specs.Tables.{GoodTables}
-use Rattle.theory.specs.Plan.{own, least}
+use Rattle.rules.specs.declared.Rule.{Rule}
+use Rattle.theory.specs.Plan.{least}
 use Rattle.theory.specs.Run.{Ran, done, LegalTo, Legal}
 use Rattle.theory.specs.Load.{demand, point}
 use Rattle.theory.specs.Task.{taskLoad, TaskPasses}
@@ -46,25 +47,26 @@ module _ (judge : Terms → List ℕ → List ℕ → List ℕ → ℕ → Judge
   abbrev pub PassExactly : Type 0
   PassExactly =
       (terms : Terms) (plan ps ts : List ℕ) (place : ℕ)
-      → ((t : ℕ) × (judge terms plan ps ts place ≡ Pass t)) ↔ (Answered terms plan ps ts place × TaskPasses own plan ts (place - 1))
+      → ((t : ℕ) × (judge terms plan ps ts place ≡ Pass t)) ↔ (Answered terms plan ps ts place × TaskPasses (ruleIn terms) plan ts (place - 1))
 
   abbrev pub FailExactly : Type 0
   FailExactly =
       (terms : Terms) (plan ps ts : List ℕ) (place : ℕ)
-      → (judge terms plan ps ts place ≡ Fail) ↔ (Answered terms plan ps ts place × ¬ TaskPasses own plan ts (place - 1))
+      → (judge terms plan ps ts place ≡ Fail) ↔ (Answered terms plan ps ts place × ¬ TaskPasses (ruleIn terms) plan ts (place - 1))
 
-  -- Demand 3, first half: "Plan accepted and task passes ⇒ every job of that task ends within D in every legal run, even if other tasks fail."
+  -- Demand 3, first half: "Plan accepted and task passes ⇒ every job of that task ends within D in every legal run, even if other tasks fail." By ask 6 it "holds for both editions,
+  -- jobs running in service ticks only": a run is legal by the call's edition
   abbrev pub EndsInTime : Type 0
   EndsInTime =
       (terms : Terms) (plan ps ts : List ℕ) (place t : ℕ) → checkOf terms plan ps ≡ found.Good → judge terms plan ps ts place ≡ Pass t
-      → (N start : ℕ) (work : ℕ → ℕ → ℕ) (ran : ℕ → Ran) → LegalTo N own plan start ts work ran
+      → (N start : ℕ) (work : ℕ → ℕ → ℕ) (ran : ℕ → Ran) → LegalTo N (ruleIn terms) plan start ts work ran
       → (r : ℕ) → r + deadline ts (place - 1) ≤ N → done ran (place - 1) r (r + deadline ts (place - 1)) ≡ work (place - 1) r
 
   -- the same of runs without end
   abbrev pub EndsInTimeForEver : Type 0
   EndsInTimeForEver =
       (terms : Terms) (plan ps ts : List ℕ) (place t : ℕ) → checkOf terms plan ps ≡ found.Good → judge terms plan ps ts place ≡ Pass t
-      → (start : ℕ) (work : ℕ → ℕ → ℕ) (ran : ℕ → Ran) → Legal own plan start ts work ran
+      → (start : ℕ) (work : ℕ → ℕ → ℕ) (ran : ℕ → Ran) → Legal (ruleIn terms) plan start ts work ran
       → (r : ℕ) → done ran (place - 1) r (r + deadline ts (place - 1)) ≡ work (place - 1) r
 
   -- document 02, ask 5: where a place of the partitions wants more than its cycle has, 9 as the checker tells it
@@ -72,7 +74,13 @@ module _ (judge : Terms → List ℕ → List ℕ → List ℕ → ℕ → Judge
   VerdictPastCycle =
       (terms : Terms) (plan ps ts : List ℕ) (place : ℕ) → GoodTables terms (length plan) ps ts → (1 ≤ place) × (place ≤ tasks ts)
       → Every (goodTick (partitions ps) plan) (length plan)
-      → ShortFrom0 (wanted terms ps) plan ps (toldJudged (judge terms plan ps ts place))
+      → ShortFrom0 (ruleIn terms) (wanted terms ps) plan ps (toldJudged (judge terms plan ps ts place))
+
+  -- document 02, ask 6: what passes in edition 2 passes in edition 1
+  abbrev pub PassedBefore : Type 0
+  PassedBefore =
+      (terms : Terms) (plan ps ts : List ℕ) (place t : ℕ) → judge terms plan ps ts place ≡ Pass t
+      → (u : ℕ) × (judge (granules (terms .granule)) plan ps ts place ≡ Pass u)
 
   pub record Engine : Type 0 where
     pub answered-exactly : AnsweredExactly
@@ -80,6 +88,7 @@ module _ (judge : Terms → List ℕ → List ℕ → List ℕ → ℕ → Judge
     pub verdict-past-cycle : VerdictPastCycle
     pub pass-exactly : PassExactly
     pub fail-exactly : FailExactly
+    pub passed-before : PassedBefore
     pub ends-in-time : EndsInTime
     pub ends-in-time-for-ever : EndsInTimeForEver
 
@@ -89,20 +98,20 @@ module _ (judge : Terms → List ℕ → List ℕ → List ℕ → ℕ → Judge
 abbrev pub PassPoint : Type 0
 PassPoint =
     (terms : Terms) (plan ps ts : List ℕ) (place t : ℕ) → verdictOf terms plan ps ts place ≡ Pass t
-    → (point (taskLoad ts) (place - 1) t ≡ true) × (demand (taskLoad ts) (place - 1) t ≤ least own plan (partition ts (place - 1)) t)
-    × ((u : ℕ) → point (taskLoad ts) (place - 1) u ≡ true → demand (taskLoad ts) (place - 1) u ≤ least own plan (partition ts (place - 1)) u → t ≤ u)
+    → (point (taskLoad ts) (place - 1) t ≡ true) × (demand (taskLoad ts) (place - 1) t ≤ least (ruleIn terms) plan (partition ts (place - 1)) t)
+    × ((u : ℕ) → point (taskLoad ts) (place - 1) u ≡ true → demand (taskLoad ts) (place - 1) u ≤ least (ruleIn terms) plan (partition ts (place - 1)) u → t ≤ u)
 
 -- document 02, ask 4: "every tick t from 1 to D .. It reports the smallest tick that holds"
-pub record EarliestTick (plan ts : List ℕ) (i t : ℕ) : Type 0 where
+pub record EarliestTick (rule : Rule) (plan ts : List ℕ) (i t : ℕ) : Type 0 where
   pub from-1 : 1 ≤ t
   pub to-deadline : t ≤ deadline ts i
-  pub holds : demand (taskLoad ts) i t ≤ least own plan (partition ts i) t
-  pub smallest : (u : ℕ) → 1 ≤ u → demand (taskLoad ts) i u ≤ least own plan (partition ts i) u → t ≤ u
+  pub holds : demand (taskLoad ts) i t ≤ least rule plan (partition ts i) t
+  pub smallest : (u : ℕ) → 1 ≤ u → demand (taskLoad ts) i u ≤ least rule plan (partition ts i) u → t ≤ u
 
 abbrev pub PassTick : Type 0
 PassTick =
     (terms : Terms) (plan ps ts : List ℕ) (place t : ℕ)
-    → (plainOf terms plan ps ts place ≡ Pass t) ↔ (Answered terms plan ps ts place × EarliestTick plan ts (place - 1) t)
+    → (plainOf terms plan ps ts place ≡ Pass t) ↔ (Answered terms plan ps ts place × EarliestTick (ruleIn terms) plan ts (place - 1) t)
 
 -- ==== of both
 

@@ -3,7 +3,7 @@ use rules::Finding;
 use rules::Refusal;
 use rules::Terms;
 ghost use mathlib.Core.Path.{_≡_};
-ghost use Rattle.rules.specs.Terms.{wanted};
+ghost use Rattle.rules.specs.Terms.{ruleIn, wanted};
 ghost use Rattle.task_verdict.specs.Verdict.{placeOf, answerableOf, passAt, Judges, JudgesPlainly};
 
 // What is said of a task: it passes at a point or a tick, fails, or why a verdict is refused.
@@ -15,7 +15,7 @@ pub enum Judged {
 
 // What is found for a place counted from 1, in tables whose records are good.
 fn at_place(terms: Terms, plan: &[u16], parts: &[u16], table: &[u16], place: usize) -> Finding
-    ensures { λ r. ⌜ r ≡ placeOf (wanted terms (now (parts .entry))) (now (plan .entry)) (now (parts .entry))
+    ensures { λ r. ⌜ r ≡ placeOf (ruleIn terms) (wanted terms (now (parts .entry))) (now (plan .entry)) (now (parts .entry))
         (now (table .entry)) place ⌝ }
 {
     if place < 1 {
@@ -56,7 +56,8 @@ pub fn verdict(terms: Terms, plan: &[u16], parts: &[u16], table: &[u16], place: 
     match given {
         Finding::Refused(r) => Judged::Refused(r),
         Finding::Good => {
-            let point = task_points::first_point(plan, table, place - 1);
+            let rule = rules::rule_of(terms.edition);
+            let point = task_points::first_point(rule, plan, table, place - 1);
             pass_at(rules::records::deadline(table, place - 1), point)
         }
     }
@@ -70,7 +71,8 @@ pub fn plain(terms: Terms, plan: &[u16], parts: &[u16], table: &[u16], place: us
     match given {
         Finding::Refused(r) => Judged::Refused(r),
         Finding::Good => {
-            let tick = task_plain::first_tick(plan, table, place - 1);
+            let rule = rules::rule_of(terms.edition);
+            let tick = task_plain::first_tick(rule, plan, table, place - 1);
             pass_at(rules::records::deadline(table, place - 1), tick)
         }
     }
