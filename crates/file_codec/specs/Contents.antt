@@ -13,6 +13,6 @@ runsAt p t = tasksAt p + numberBytes * t
 abbrev pub sizeOf : ℕ → ℕ → ℕ → ℕ
 sizeOf p t r = runsAt p t + numberBytes * r
 
--- "Contents first: edition 1, frame, then offset and count for partitions, tasks, runs."
-abbrev pub contents : ℕ → ℕ → ℕ → ℕ → List ℕ
-contents frame p t r = 1 ∷ frame ∷ headBytes ∷ p / partWidth ∷ tasksAt p ∷ t / taskWidth ∷ runsAt p t ∷ r / runWidth ∷ []
+-- "Contents first: edition 1, frame, then offset and count for partitions, tasks, runs"; edition e, as "we must read and write both"
+abbrev pub contents : ℕ → ℕ → ℕ → ℕ → ℕ → List ℕ
+contents e frame p t r = e ∷ frame ∷ headBytes ∷ p / partWidth ∷ tasksAt p ∷ t / taskWidth ∷ runsAt p t ∷ r / runWidth ∷ []

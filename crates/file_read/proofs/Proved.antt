@@ -10,10 +10,11 @@ use Rattle.rules.specs.Limits.{partWidth, taskWidth, runWidth, headBytes}
 use Rattle.rules.proofs.Sum.{le-or-lt}
 use Rattle.file_codec.specs.Bytes.{part}
 use Rattle.file_codec.specs.Contents.{tasksAt, runsAt, sizeOf}
+use Rattle.file_tables.proofs.Chain.{sizes}
 use Rattle.file_read.specs.declared.Reading.{Reading}
 use Rattle.file_read.specs.declared.Reading.the-variants.{Contents, Refused}
 use Rattle.file_read.specs.Reader.{contentsOf, judgedBy, readOf, sectionOf}
-use Rattle.file_read.specs.Theorems.{SectionExact, SectionNone, ReadFirst, Proved}
+use Rattle.file_read.specs.Theorems.{ReadEdition, SectionExact, SectionNone, ReadFirst, Proved}
 use Rattle.file_read.proofs.Reader.{contained, accepted, part-length, contents-short, contents-first}
 
 -- a part behind what stands before it
@@ -26,10 +27,16 @@ pub parts-all : (b : List ℕ) (p t r : ℕ) → length b ≡ sizeOf p t r
 parts-all b p t r l =
     rw (part-add b headBytes (tasksAt p) (omega arith), part-add b (tasksAt p) (runsAt p t) (omega arith), part-add b (runsAt p t) (sizeOf p t r) (omega arith)) (take-all (sizeOf p t r) b (omega arith))
 
+read-edition : ReadEdition
+read-edition b ed f np nt nr e =
+    let a = accepted b ed f np nt nr e in
+    let s = sizes ed f _ _ _ (a .good) in
+    (sym (contained b ed f np nt nr (a .contents) .edition), s .edition-low, s .edition-high)
+
 section-exact : SectionExact
 unfolding sectionOf
-section-exact b f np nt nr e =
-    let l = contained b f np nt nr (accepted b f np nt nr e .contents) .long in
+section-exact b ed f np nt nr e =
+    let l = contained b ed f np nt nr (accepted b ed f np nt nr e .contents) .long in
     let p : ℕ = partWidth * np in
     let t : ℕ = taskWidth * nt in
     let r : ℕ = runWidth * nr in
@@ -50,7 +57,7 @@ read-first b n h = by-length (le-or-lt (length b) n)
   where
     long : n < length b → (c : Reading) → contentsOf b ≡ c → judgedBy c (take n b) ≡ judgedBy c b
     long l (Refused x) e = refl
-    long l (Contents f p t r) e = absurd (omega (arith, contents-short b f p t r e))
+    long l (Contents ed f p t r) e = absurd (omega (arith, contents-short b ed f p t r e))
 
     by-length : (length b ≤ n) ⊎ (n < length b) → judgedBy (contentsOf (take n b)) (take n b) ≡ judgedBy (contentsOf b) b
     by-length (inl l) = rw (take-all n b l)
@@ -58,6 +65,7 @@ read-first b n h = by-length (le-or-lt (length b) n)
 
 pub proved : Proved
 proved = record {
+  read-edition = read-edition;
   section-exact = section-exact;
   section-none = section-none;
   read-first = read-first;

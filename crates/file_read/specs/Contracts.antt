@@ -17,7 +17,7 @@ use Rattle.file_read.specs.Reader.{bodyAt}
 
 -- contents whose counts are few
 abbrev pub Few : Reading → Type 0
-Few (Contents frame np nt nr) = (frame ≤ longest) × (np ≤ mostPartitions) × (nt ≤ mostTasks) × (nr ≤ longest)
+Few (Contents e frame np nt nr) = (frame ≤ longest) × (np ≤ mostPartitions) × (nt ≤ mostTasks) × (nr ≤ longest)
 Few (Refused x) = Unit {0}
 
 -- limits kept, by the counts that the contents give
@@ -46,6 +46,6 @@ front s d = over s (min (length d) (length s)) d
 
 -- 6 to 8 of tables at the start of longer ones
 abbrev pub loadedBy : Reading → List ℕ → List ℕ → List ℕ → Reading
-loadedBy (Contents frame np nt nr) ps ts rs =
-    unless Refused (fileTablesOf frame (take (partWidth * np) ps) (take (taskWidth * nt) ts) (take (runWidth * nr) rs)) (Contents frame np nt nr)
+loadedBy (Contents e frame np nt nr) ps ts rs =
+    unless Refused (fileTablesOf e frame (take (partWidth * np) ps) (take (taskWidth * nt) ts) (take (runWidth * nr) rs)) (Contents e frame np nt nr)
 loadedBy (Refused x) ps ts rs = Refused x

@@ -41,8 +41,9 @@ fn offsets_right(po: usize, to: usize, ro: usize, np: usize, nt: usize) -> bool
     ro == tasks + NUMBER_BYTES * (TASK_WIDTH * nt)
 }
 
-// 3 to 5, of a file of so many bytes.
+// 3 to 5, of a file of this edition and so many bytes.
 fn counts(
+    edition: usize,
     long: usize,
     frame: usize,
     po: usize,
@@ -53,7 +54,7 @@ fn counts(
     nr: usize,
 ) -> Reading
     requires { ⌜ (np < 2 ^ 16) × (nt < 2 ^ 16) × (nr < 2 ^ 16) ⌝ }
-    ensures { λ r. ⌜ r ≡ countsOf long frame po np to nt ro nr ⌝ }
+    ensures { λ r. ⌜ r ≡ countsOf edition long frame po np to nt ro nr ⌝ }
 {
     if !counts_right(frame, np, nt, nr) {
         return Reading::Refused(Refusal::Limits);
@@ -66,6 +67,7 @@ fn counts(
         return Reading::Refused(Refusal::Length);
     }
     Reading::Contents {
+        edition,
         frame,
         partitions: np,
         tasks: nt,
@@ -80,10 +82,11 @@ pub fn contents(file: &[u8]) -> Reading
         return Reading::Refused(Refusal::Short);
     }
     let edition = head_number(file, 0);
-    if edition != 1 {
+    if !rules::good_edition(edition) {
         return Reading::Refused(Refusal::Edition);
     }
     counts(
+        edition,
         file.len(),
         head_number(file, 1),
         head_number(file, 2),

@@ -12,6 +12,7 @@ pub mod load; // load.rt: the bodies as tables, judged
 
 pub enum Reading {
     Contents {
+        edition: usize,
         frame: usize,
         partitions: usize,
         tasks: usize,

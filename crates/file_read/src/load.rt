@@ -24,6 +24,7 @@ pub fn body_at(c: Reading, which: Body) -> Stretch
     match c {
         Reading::Refused(_) => Stretch { offset: 0, end: 0 },
         Reading::Contents {
+            edition: _,
             frame: _,
             partitions,
             tasks,
@@ -73,6 +74,7 @@ fn judge_loaded(c: Reading, parts: &[u16], tasks: &[u16], runs: &[u16]) -> Readi
     match c {
         Reading::Refused(r) => Reading::Refused(r),
         Reading::Contents {
+            edition: e,
             frame,
             partitions: np,
             tasks: nt,
@@ -81,10 +83,11 @@ fn judge_loaded(c: Reading, parts: &[u16], tasks: &[u16], runs: &[u16]) -> Readi
             let p = PART_WIDTH * np;
             let t = TASK_WIDTH * nt;
             let r = RUN_WIDTH * nr;
-            let judged = file_tables::judge_file(frame, &parts[..p], &tasks[..t], &runs[..r]);
+            let judged = file_tables::judge_file(e, frame, &parts[..p], &tasks[..t], &runs[..r]);
             match judged {
                 Finding::Refused(x) => Reading::Refused(x),
                 Finding::Good => Reading::Contents {
+                    edition: e,
                     frame,
                     partitions: np,
                     tasks: nt,

@@ -27,14 +27,14 @@ record FileRuns (b : List ℕ) (frame np : ℕ) : Type 0 where
   short : length (tableOf b Runs) ≤ runWidth * longest
   kept : good.Accepted np frame (tableOf b Runs)
 
-file-runs : (b : List ℕ) (frame np nt nr : ℕ) → readOf b ≡ Contents frame np nt nr → FileRuns b frame np
-file-runs b frame np nt nr e =
-    let a = accepted b frame np nt nr e in
-    let l = contained b frame np nt nr (a .contents) .long in
-    let c : Reading = Contents frame np nt nr in
-    let s = sizes frame (tableBy c b Partitions) (tableBy c b Tasks) (tableBy c b Runs) (a .good) in
-    let n = runs-are b frame np nt nr l in
-    let p : partitions (tableBy c b Partitions) ≡ np = omega (arith, parts-are b frame np nt nr l) in
+file-runs : (b : List ℕ) (ed frame np nt nr : ℕ) → readOf b ≡ Contents ed frame np nt nr → FileRuns b frame np
+file-runs b ed frame np nt nr e =
+    let a = accepted b ed frame np nt nr e in
+    let l = contained b ed frame np nt nr (a .contents) .long in
+    let c : Reading = Contents ed frame np nt nr in
+    let s = sizes ed frame (tableBy c b Partitions) (tableBy c b Tasks) (tableBy c b Runs) (a .good) in
+    let n = runs-are b ed frame np nt nr l in
+    let p : partitions (tableBy c b Partitions) ≡ np = omega (arith, parts-are b ed frame np nt nr l) in
     let g : Every (goodRun np frame (tableBy c b Runs)) (runs (tableBy c b Runs)) = rw p at (a .good .runs) in
     record {
       short = rw e (omega (arith, s .runs-whole, s .runs-high));
@@ -42,16 +42,16 @@ file-runs b frame np nt nr e =
     }
 
 runs-back : RunsBack
-runs-back b frame np nt nr e = good.runs-back np (tableOf b Runs) (file-runs b frame np nt nr e .kept .chain)
+runs-back b ed frame np nt nr e = good.runs-back np (tableOf b Runs) (file-runs b ed frame np nt nr e .kept .chain)
 
 file-ticks : FileTicks
-file-ticks b frame np nt nr e =
-    let k = file-runs b frame np nt nr e .kept in
+file-ticks b ed frame np nt nr e =
+    let k = file-runs b ed frame np nt nr e .kept in
     (k .fills, good.ticks-good np (tableOf b Runs) (k .chain) frame)
 
 ticks-left : TicksLeft
-ticks-left b frame np nt nr out o r e h p =
-    let f = file-runs b frame np nt nr e in
+ticks-left b ed frame np nt nr out o r e h p =
+    let f = file-runs b ed frame np nt nr e in
     let q : Put out 0 (ticksOf (tableOf b Runs)) r o = rw (ticks-some (tableOf b Runs) (f .short)) at p in
     (omega (arith, q .place, f .kept .fills), rw (f .kept .fills) at (put-front q (omega (arith, f .kept .fills))))
 

@@ -22,18 +22,18 @@ TicksBack = (plan : List ℕ) → ticksOf (runsOf plan) ≡ plan
 
 -- the runs of the ticks of an accepted file are its runs
 abbrev pub RunsBack : Type 0
-RunsBack = (b : List ℕ) (frame np nt nr : ℕ) → readOf b ≡ Contents frame np nt nr → runsOf (ticksOf (tableOf b Runs)) ≡ tableOf b Runs
+RunsBack = (b : List ℕ) (e frame np nt nr : ℕ) → readOf b ≡ Contents e frame np nt nr → runsOf (ticksOf (tableOf b Runs)) ≡ tableOf b Runs
 
 -- "lengths add up to the frame": an accepted file has as many ticks, and "an owner is 0 or a partition of the table" at each
 abbrev pub FileTicks : Type 0
 FileTicks =
-    (b : List ℕ) (frame np nt nr : ℕ) → readOf b ≡ Contents frame np nt nr
+    (b : List ℕ) (e frame np nt nr : ℕ) → readOf b ≡ Contents e frame np nt nr
     → (length (ticksOf (tableOf b Runs)) ≡ frame) × Every (goodTick np (ticksOf (tableOf b Runs))) frame
 
 -- what `ticks_of` leaves in an output long enough: the ticks, and the rest as it was
 abbrev pub TicksLeft : Type 0
 TicksLeft =
-    (b : List ℕ) (frame np nt nr : ℕ) (out o : List ℕ) (r : ℕ) → readOf b ≡ Contents frame np nt nr → frame ≤ length out
+    (b : List ℕ) (e frame np nt nr : ℕ) (out o : List ℕ) (r : ℕ) → readOf b ≡ Contents e frame np nt nr → frame ≤ length out
     → Put out 0 (ticksPut (tableOf b Runs)) r o
     → (r ≡ frame) × (o ≡ ticksOf (tableOf b Runs) ++ drop frame out)
 

@@ -7,8 +7,8 @@ use lib.Dec.{ltb, leb, eqb}
 use Rattle.rules.specs.Limits.{longest, runWidth}
 use Rattle.rules.specs.Walk.{pick, sum}
 use Rattle.rules.specs.Table.{fieldAt, partitions}
-use Rattle.rules.specs.Terms.{usual}
-use Rattle.tables.specs.Tables.{countedIn, lowest, unless, tablesOf}
+use Rattle.rules.specs.Terms.{filed}
+use Rattle.tables.specs.Tables.{countedIn, lowest, unless, editionJudged, inEdition}
 use Rattle.rules.specs.declared.Refusal.the-variants.{Limits, Tick}
 use Rattle.rules.specs.declared.Finding.{Finding}
 use Rattle.rules.specs.declared.Finding.the-variants.{Refused}
@@ -42,7 +42,8 @@ goodRun parts frame rs k =
 unfoldable pub runsJudged : ℕ → ℕ → List ℕ → Finding
 runsJudged parts frame rs = lowest Tick (goodRun parts frame rs) (runs rs)
 
--- 3, with "runs 1 to 4,096", then 6, 7 and 8 of a frame and three tables
-unfoldable pub fileTablesOf : ℕ → List ℕ → List ℕ → List ℕ → Finding
-fileTablesOf frame ps ts rs =
-    pick (countedIn 1 longest runWidth (length rs)) (unless Refused (tablesOf usual frame ps ts) (runsJudged (partitions ps) frame rs)) (Refused Limits)
+-- "2 now means neither 1 nor 2", first of all; then 3, with "runs 1 to 4,096", 6, 7 and 8 of a frame and three tables
+unfoldable pub fileTablesOf : ℕ → ℕ → List ℕ → List ℕ → List ℕ → Finding
+fileTablesOf e frame ps ts rs =
+    unless Refused (editionJudged e)
+    (pick (countedIn 1 longest runWidth (length rs)) (unless Refused (inEdition (filed e) frame ps ts) (runsJudged (partitions ps) frame rs)) (Refused Limits))

@@ -96,14 +96,23 @@ pub fn runs_counted(numbers: usize) -> bool
     tables::counted_in(1, LONGEST, RUN_WIDTH, numbers)
 }
 
-// What tells against a frame and three tables: 3, 6, 7 and 8.
-pub fn judge_file(frame: usize, parts: &[u16], tasks: &[u16], runs: &[u16]) -> Finding
-    ensures { λ r. ⌜ r ≡ fileTablesOf frame (now (parts .entry)) (now (tasks .entry)) (now (runs .entry)) ⌝ }
+// What tells against an edition, a frame and three tables: 2, 3, 6, 7 and 8.
+pub fn judge_file(
+    edition: usize,
+    frame: usize,
+    parts: &[u16],
+    tasks: &[u16],
+    runs: &[u16],
+) -> Finding
+    ensures { λ r. ⌜ r ≡ fileTablesOf edition frame (now (parts .entry)) (now (tasks .entry)) (now (runs .entry)) ⌝ }
 {
+    if !rules::good_edition(edition) {
+        return Finding::Refused(Refusal::Edition);
+    }
     if !runs_counted(runs.len()) {
         return Finding::Refused(Refusal::Limits);
     }
-    let tables = tables::judge_tables(rules::usual(), frame, parts, tasks);
+    let tables = tables::judge_in_edition(rules::filed(edition), frame, parts, tasks);
     match tables {
         Finding::Refused(r) => Finding::Refused(r),
         Finding::Good => judge_runs(runs, rules::records::partitions(parts), frame),

@@ -15,34 +15,34 @@ use Rattle.rules.specs.declared.Filling.{Filling}
 use Rattle.rules.specs.declared.Filling.the-variants as filling
 use Rattle.file_write.specs.Writer.{writeOf, writtenLeft, Writes}
 
--- "The writer puts each body into its own stretch of the lent output": reading what was written gives back frame, counts and tables
+-- "The writer puts each body into its own stretch of the lent output": reading what was written gives back edition, frame, counts and tables
 abbrev pub ReadWrite : Type 0
 ReadWrite =
-    (frame : ℕ) (ps ts rs out : List ℕ) (n : ℕ) → writeOf frame ps ts rs (length out) ≡ filling.Fills n
-    → (readOf (take n (writtenLeft frame ps ts rs out)) ≡ Contents frame (partitions ps) (tasks ts) (runs rs))
-    × (tableOf (take n (writtenLeft frame ps ts rs out)) Partitions ≡ ps)
-    × (tableOf (take n (writtenLeft frame ps ts rs out)) Tasks ≡ ts)
-    × (tableOf (take n (writtenLeft frame ps ts rs out)) Runs ≡ rs)
+    (e frame : ℕ) (ps ts rs out : List ℕ) (n : ℕ) → writeOf e frame ps ts rs (length out) ≡ filling.Fills n
+    → (readOf (take n (writtenLeft e frame ps ts rs out)) ≡ Contents e frame (partitions ps) (tasks ts) (runs rs))
+    × (tableOf (take n (writtenLeft e frame ps ts rs out)) Partitions ≡ ps)
+    × (tableOf (take n (writtenLeft e frame ps ts rs out)) Tasks ≡ ts)
+    × (tableOf (take n (writtenLeft e frame ps ts rs out)) Runs ≡ rs)
 
 -- writing what was read, into room enough, gives back the bytes
 abbrev pub WriteRead : Type 0
 WriteRead =
-    (b : List ℕ) (frame np nt nr : ℕ) (out : List ℕ) → Bytes b → readOf b ≡ Contents frame np nt nr → length b ≤ length out
-    → (writeOf frame (tableOf b Partitions) (tableOf b Tasks) (tableOf b Runs) (length out) ≡ filling.Fills (length b))
-    × (writtenLeft frame (tableOf b Partitions) (tableOf b Tasks) (tableOf b Runs) out ≡ b ++ drop (length b) out)
+    (b : List ℕ) (e frame np nt nr : ℕ) (out : List ℕ) → Bytes b → readOf b ≡ Contents e frame np nt nr → length b ≤ length out
+    → (writeOf e frame (tableOf b Partitions) (tableOf b Tasks) (tableOf b Runs) (length out) ≡ filling.Fills (length b))
+    × (writtenLeft e frame (tableOf b Partitions) (tableOf b Tasks) (tableOf b Runs) out ≡ b ++ drop (length b) out)
 
 -- "Success changes only the bytes it needs; refusals 1 to 12 change no output byte."
 abbrev pub Untouched : Type 0
 Untouched =
-    (frame : ℕ) (ps ts rs out : List ℕ)
-    → ((n : ℕ) → writeOf frame ps ts rs (length out) ≡ filling.Fills n → (n ≤ length out) × (drop n (writtenLeft frame ps ts rs out) ≡ drop n out))
-    × ((x : Refusal) → writeOf frame ps ts rs (length out) ≡ filling.Refused x → writtenLeft frame ps ts rs out ≡ out)
-    × (length (writtenLeft frame ps ts rs out) ≡ length out)
+    (e frame : ℕ) (ps ts rs out : List ℕ)
+    → ((n : ℕ) → writeOf e frame ps ts rs (length out) ≡ filling.Fills n → (n ≤ length out) × (drop n (writtenLeft e frame ps ts rs out) ≡ drop n out))
+    × ((x : Refusal) → writeOf e frame ps ts rs (length out) ≡ filling.Refused x → writtenLeft e frame ps ts rs out ≡ out)
+    × (length (writtenLeft e frame ps ts rs out) ≡ length out)
 
 -- "any two outcomes it permits are equal"
 abbrev pub OneWrite : Type 0
 OneWrite =
-    (frame : ℕ) (ps ts rs out o o′ : List ℕ) (r r′ : Filling) → Writes frame ps ts rs out o r → Writes frame ps ts rs out o′ r′
+    (e frame : ℕ) (ps ts rs out o o′ : List ℕ) (r r′ : Filling) → Writes e frame ps ts rs out o r → Writes e frame ps ts rs out o′ r′
     → (r ≡ r′) × (o ≡ o′)
 
 pub record Proved : Type 0 where

@@ -1,4 +1,4 @@
-// The writer: a frame and three tables as the bytes of a plan file.
+// The writer: an edition, a frame and three tables as the bytes of a plan file.
 use put::put_file;
 use rules::Filling;
 use rules::Finding;
@@ -11,10 +11,17 @@ ghost use Rattle.file_write.specs.Writer.{writeOf, Writes};
 mod put; // put.rt: the contents and the bodies, put into the output
 
 // The answer, for an output of so many bytes.
-fn write_answer(frame: usize, parts: &[u16], tasks: &[u16], runs: &[u16], room: usize) -> Filling
-    ensures { λ r. ⌜ r ≡ writeOf frame (now (parts .entry)) (now (tasks .entry)) (now (runs .entry)) room ⌝ }
+fn write_answer(
+    edition: usize,
+    frame: usize,
+    parts: &[u16],
+    tasks: &[u16],
+    runs: &[u16],
+    room: usize,
+) -> Filling
+    ensures { λ r. ⌜ r ≡ writeOf edition frame (now (parts .entry)) (now (tasks .entry)) (now (runs .entry)) room ⌝ }
 {
-    let judged = file_tables::judge_file(frame, parts, tasks, runs);
+    let judged = file_tables::judge_file(edition, frame, parts, tasks, runs);
     match judged {
         Finding::Refused(r) => Filling::Refused(r),
         Finding::Good => {
@@ -27,15 +34,22 @@ fn write_answer(frame: usize, parts: &[u16], tasks: &[u16], runs: &[u16], room: 
     }
 }
 
-pub fn write(frame: usize, parts: &[u16], tasks: &[u16], runs: &[u16], out: &mut [u8]) -> Filling
-    ensures { λ r. ⌜ Writes frame (now (parts .entry)) (now (tasks .entry)) (now (runs .entry))
+pub fn write(
+    edition: usize,
+    frame: usize,
+    parts: &[u16],
+    tasks: &[u16],
+    runs: &[u16],
+    out: &mut [u8],
+) -> Filling
+    ensures { λ r. ⌜ Writes edition frame (now (parts .entry)) (now (tasks .entry)) (now (runs .entry))
         (now (out .entry)) (now (out .exit)) r ⌝ }
 {
-    let w = write_answer(frame, parts, tasks, runs, out.len());
+    let w = write_answer(edition, frame, parts, tasks, runs, out.len());
     match w {
         Filling::Refused(r) => Filling::Refused(r),
         Filling::Fills(n) => {
-            put_file(frame, parts, tasks, runs, out);
+            put_file(edition, frame, parts, tasks, runs, out);
             Filling::Fills(n)
         }
     }

@@ -15,14 +15,14 @@ use rules::limits::RUN_WIDTH;
 use rules::limits::TASK_WIDTH;
 
 // The contents, the first 16 bytes, of tables of so many numbers.
-fn put_head(frame: usize, p: usize, t: usize, r: usize, out: &mut [u8])
-    requires { ⌜ Small frame p t r × (headBytes ≤ length (now out)) ⌝ }
-    ensures { λ _. ⌜ now (out .exit) ≡ bytesOf (contents frame p t r) ++ drop headBytes (now (out .entry)) ⌝ }
+fn put_head(edition: usize, frame: usize, p: usize, t: usize, r: usize, out: &mut [u8])
+    requires { ⌜ Small edition frame p t r × (headBytes ≤ length (now out)) ⌝ }
+    ensures { λ _. ⌜ now (out .exit) ≡ bytesOf (contents edition frame p t r) ++ drop headBytes (now (out .entry)) ⌝ }
 {
     let tasks = HEAD_BYTES + NUMBER_BYTES * p;
     let runs = tasks + NUMBER_BYTES * t;
     let head = [
-        1,
+        edition as u16,
         frame as u16,
         HEAD_BYTES as u16,
         (p / PART_WIDTH) as u16,
@@ -44,16 +44,23 @@ fn put_body(table: &[u16], out: &mut [u8], offset: usize)
     file_codec::put_all(table, &mut out[offset..]);
 }
 
-pub fn put_file(frame: usize, parts: &[u16], tasks: &[u16], runs: &[u16], out: &mut [u8])
-    requires { ⌜ Small frame (length (now parts)) (length (now tasks)) (length (now runs)) ⌝ }
+pub fn put_file(
+    edition: usize,
+    frame: usize,
+    parts: &[u16],
+    tasks: &[u16],
+    runs: &[u16],
+    out: &mut [u8],
+)
+    requires { ⌜ Small edition frame (length (now parts)) (length (now tasks)) (length (now runs)) ⌝ }
     requires { ⌜ sizeFor (now parts) (now tasks) (now runs) ≤ length (now out) ⌝ }
     ensures { λ _. ⌜ now (out .exit)
-        ≡ fileOf frame (now (parts .entry)) (now (tasks .entry)) (now (runs .entry))
+        ≡ fileOf edition frame (now (parts .entry)) (now (tasks .entry)) (now (runs .entry))
         ++ drop (sizeFor (now (parts .entry)) (now (tasks .entry)) (now (runs .entry))) (now (out .entry)) ⌝ }
 {
     let tasks_at = HEAD_BYTES + NUMBER_BYTES * parts.len();
     let runs_at = tasks_at + NUMBER_BYTES * tasks.len();
-    put_head(frame, parts.len(), tasks.len(), runs.len(), out);
+    put_head(edition, frame, parts.len(), tasks.len(), runs.len(), out);
     put_body(parts, out, HEAD_BYTES);
     put_body(tasks, out, tasks_at);
     put_body(runs, out, runs_at);

@@ -21,19 +21,19 @@ add-size-2 : tie.Need-add-size-2
 add-size-2 c = search needs
 
 mul-size : tie.Need-mul-size
-mul-size c = let s = good-small _ _ _ _ (sym (c .before .before .judge-file .ensures) ∙ c .enum-told .given .1) in search needs
+mul-size c = let s = good-small _ _ _ _ _ (sym (c .before .before .judge-file .ensures) ∙ c .enum-told .given .1) in search needs
 
 add-size-3 : tie.Need-add-size-3
-add-size-3 c = let s = good-small _ _ _ _ (sym (c .before .before .judge-file .ensures) ∙ c .enum-told .given .1) in search needs
+add-size-3 c = let s = good-small _ _ _ _ _ (sym (c .before .before .judge-file .ensures) ∙ c .enum-told .given .1) in search needs
 
 returns : tie.Need-returns
-returns c = write-12 _ _ _ _ _ (sym (c .before .before .before .judge-file .ensures) ∙ c .before .enum-told .given .1) _ (omega arith) (c .if1 .taken)
+returns c = write-12 _ _ _ _ _ _ (sym (c .before .before .before .judge-file .ensures) ∙ c .before .enum-told .given .1) _ (omega arith) (c .if1 .taken)
 
 returns-2 : tie.Need-returns-2
-returns-2 c = write-tables _ _ _ _ _ _ (sym (c .before .before .before .judge-file .ensures) ∙ c .before .judged .given .1)
+returns-2 c = write-tables _ _ _ _ _ _ _ (sym (c .before .before .before .judge-file .ensures) ∙ c .before .judged .given .1)
 
 returns-3 : tie.Need-returns-3
-returns-3 c = write-all _ _ _ _ _ (sym (c .before .before .before .judge-file .ensures) ∙ c .before .enum-told .given .1) _ (omega arith) (c .if1 .left)
+returns-3 c = write-all _ _ _ _ _ _ (sym (c .before .before .before .judge-file .ensures) ∙ c .before .enum-told .given .1) _ (omega arith) (c .if1 .left)
 
 pub write-answer-spec : {M : Type 1} → statement M
 write-answer-spec =

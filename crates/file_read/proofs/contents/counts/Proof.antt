@@ -10,13 +10,13 @@ counts-right-requires : tie.Need-counts-right-requires
 counts-right-requires c κs = search needs
 
 returns : tie.Need-returns
-returns c = counts-3 _ _ _ _ _ _ _ _ (sym (c .before .counts-right .ensures) ∙ not-true _ (c .if1 .taken))
+returns c = counts-3 _ _ _ _ _ _ _ _ _ (sym (c .before .counts-right .ensures) ∙ not-true _ (c .if1 .taken))
 
 offsets-right-requires : tie.Need-offsets-right-requires
 offsets-right-requires c κs = search needs
 
 returns-2 : tie.Need-returns-2
-returns-2 c = counts-4 _ _ _ _ _ _ _ _ (sym (c .before .before .before .counts-right .ensures) ∙ not-false _ (c .before .before .if1 .left)) (sym (c .before .offsets-right .ensures) ∙ not-true _ (c .if2 .taken))
+returns-2 c = counts-4 _ _ _ _ _ _ _ _ _ (sym (c .before .before .before .counts-right .ensures) ∙ not-false _ (c .before .before .if1 .left)) (sym (c .before .offsets-right .ensures) ∙ not-true _ (c .if2 .taken))
 
 mul-numbers : tie.Need-mul-numbers
 mul-numbers c = search needs
@@ -40,10 +40,10 @@ add-if3 : tie.Need-add-if3
 add-if3 c = search needs
 
 returns-3 : tie.Need-returns-3
-returns-3 c = counts-5 _ _ _ _ _ _ _ _ (sym (c .before .before .before .before .counts-right .ensures) ∙ not-false _ (c .before .before .before .if1 .left)) (sym (c .before .before .offsets-right .ensures) ∙ not-false _ (c .before .if2 .left)) _ (omega arith) (c .if3 .taken)
+returns-3 c = counts-5 _ _ _ _ _ _ _ _ _ (sym (c .before .before .before .before .counts-right .ensures) ∙ not-false _ (c .before .before .before .if1 .left)) (sym (c .before .before .offsets-right .ensures) ∙ not-false _ (c .before .if2 .left)) _ (omega arith) (c .if3 .taken)
 
 returns-4 : tie.Need-returns-4
-returns-4 c = counts-good _ _ _ _ _ _ _ _ (sym (c .before .before .before .before .counts-right .ensures) ∙ not-false _ (c .before .before .before .if1 .left)) (sym (c .before .before .offsets-right .ensures) ∙ not-false _ (c .before .if2 .left)) _ (omega arith) (c .if3 .left)
+returns-4 c = counts-good _ _ _ _ _ _ _ _ _ (sym (c .before .before .before .before .counts-right .ensures) ∙ not-false _ (c .before .before .before .if1 .left)) (sym (c .before .before .offsets-right .ensures) ∙ not-false _ (c .before .if2 .left)) _ (omega arith) (c .if3 .left)
 
 pub counts-spec : {M : Type 1} → statement M
 counts-spec =

@@ -23,13 +23,13 @@ mul-r : tie.Need-mul-r
 mul-r c = let h = rw (c .before .c2 .given .1) at (c .before .before .before .before .before .before .pre .0) in let l = c .before .before .before .before .before .before .pre .1 in search needs
 
 slice-aggregate-judge-file : tie.Need-slice-aggregate-judge-file
-slice-aggregate-judge-file c = let h = rw (c .before .before .c2 .given .1) at (c .before .before .before .before .before .before .before .pre .0) in let l = c .before .before .before .before .before .before .before .pre .1 in let m : 3 * c .before .before .c2 .given .0 .1 .0 ≤ length (c .before .before .before .before .before .before .before .args .parts .now) = omega arith in sym (length-take-le (3 * c .before .before .c2 .given .0 .1 .0) (c .before .before .before .before .before .before .before .args .parts .now) m)
+slice-aggregate-judge-file c = let h = rw (c .before .before .c2 .given .1) at (c .before .before .before .before .before .before .before .pre .0) in let l = c .before .before .before .before .before .before .before .pre .1 in let m : 3 * c .before .before .c2 .given .0 .1 .1 .0 ≤ length (c .before .before .before .before .before .before .before .args .parts .now) = omega arith in sym (length-take-le (3 * c .before .before .c2 .given .0 .1 .1 .0) (c .before .before .before .before .before .before .before .args .parts .now) m)
 
 slice-aggregate-judge-file-2 : tie.Need-slice-aggregate-judge-file-2
-slice-aggregate-judge-file-2 c = let h = rw (c .before .before .before .c2 .given .1) at (c .before .before .before .before .before .before .before .before .pre .0) in let l = c .before .before .before .before .before .before .before .before .pre .1 in let m : 4 * c .before .before .before .c2 .given .0 .1 .1 .0 ≤ length (c .before .before .before .before .before .before .before .before .args .tasks .now) = omega arith in sym (length-take-le (4 * c .before .before .before .c2 .given .0 .1 .1 .0) (c .before .before .before .before .before .before .before .before .args .tasks .now) m)
+slice-aggregate-judge-file-2 c = let h = rw (c .before .before .before .c2 .given .1) at (c .before .before .before .before .before .before .before .before .pre .0) in let l = c .before .before .before .before .before .before .before .before .pre .1 in let m : 4 * c .before .before .before .c2 .given .0 .1 .1 .1 .0 ≤ length (c .before .before .before .before .before .before .before .before .args .tasks .now) = omega arith in sym (length-take-le (4 * c .before .before .before .c2 .given .0 .1 .1 .1 .0) (c .before .before .before .before .before .before .before .before .args .tasks .now) m)
 
 slice-aggregate-judge-file-3 : tie.Need-slice-aggregate-judge-file-3
-slice-aggregate-judge-file-3 c = let h = rw (c .before .before .before .before .c2 .given .1) at (c .before .before .before .before .before .before .before .before .before .pre .0) in let l = c .before .before .before .before .before .before .before .before .before .pre .1 in let m : 2 * c .before .before .before .before .c2 .given .0 .1 .1 .1 .0 ≤ length (c .before .before .before .before .before .before .before .before .before .args .runs .now) = omega arith in sym (length-take-le (2 * c .before .before .before .before .c2 .given .0 .1 .1 .1 .0) (c .before .before .before .before .before .before .before .before .before .args .runs .now) m)
+slice-aggregate-judge-file-3 c = let h = rw (c .before .before .before .before .c2 .given .1) at (c .before .before .before .before .before .before .before .before .before .pre .0) in let l = c .before .before .before .before .before .before .before .before .before .pre .1 in let m : 2 * c .before .before .before .before .c2 .given .0 .1 .1 .1 .1 .0 ≤ length (c .before .before .before .before .before .before .before .before .before .args .runs .now) = omega arith in sym (length-take-le (2 * c .before .before .before .before .c2 .given .0 .1 .1 .1 .1 .0) (c .before .before .before .before .before .before .before .before .before .args .runs .now) m)
 
 judge-file-requires : tie.Need-judge-file-requires
 judge-file-requires c κs = search needs
