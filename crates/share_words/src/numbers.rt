@@ -46,7 +46,7 @@ fn value_of(w: &[u8]) -> u32
     v
 }
 
-fn numeral(w: &[u8]) -> u32
+pub fn numeral(w: &[u8]) -> u32
     ensures { λ r. ⌜ r ≡ numeral (now (w .entry)) ⌝ }
 {
     if w.len() < 1 {

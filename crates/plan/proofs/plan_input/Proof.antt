@@ -26,8 +26,8 @@ returns c =
     let a = c .before .before .before .before .before .before .before .args in
     let s = put-taken (c .before .before .plan .ensures .0) (search needs) in (
       λ t e.
-          s .1 ∙ proved .answer-room (take (a .n) (a .text .now)) (length (a .out .now)) (p .2)
-          ∙ ap (λ (x : List ℕ). answerOf x longestFile) e ∙ proved .answer-first t (length (a .text .now)) longestFile (p .1),
+          s .1 ∙ proved .answer-room (a .edition) (take (a .n) (a .text .now)) (length (a .out .now)) (p .2)
+          ∙ ap (λ (x : List ℕ). answerOf (a .edition) x longestFile) e ∙ proved .answer-first (a .edition) t (length (a .text .now)) longestFile (p .1),
       s .0,
     )
 

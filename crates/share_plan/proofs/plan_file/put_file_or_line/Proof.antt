@@ -12,8 +12,8 @@ enum-known-w c = search needs
 enum-known-w-2 : tie.Need-enum-known-w-2
 enum-known-w-2 c = search needs
 
-put-refusal-requires : tie.Need-put-refusal-requires
-put-refusal-requires c κs = search needs
+put-why-requires : tie.Need-put-why-requires
+put-why-requires c κs = search needs
 
 same-length : tie.Need-same-length
 same-length c = search needs
@@ -25,7 +25,7 @@ same-length-2 : tie.Need-same-length-2
 same-length-2 c = search needs
 
 returns-2 : tie.Need-returns-2
-returns-2 c = (line-put _ _ _ _ _ _ _ (c .before .before .before .before .before .before .before .before .before .write-plan .ensures .0) (c .before .before .before .before .before .before .before .before .before .write-plan .ensures .1) (c .before .before .before .before .before .w2 .given .1) (c .before .before .put-refusal .ensures .0), search needs)
+returns-2 c = (line-put _ _ _ _ _ _ _ (c .before .before .before .before .before .before .before .before .before .write-plan .ensures .0) (c .before .before .before .before .before .before .before .before .before .write-plan .ensures .1) (c .before .before .before .before .before .w2 .given .1) (c .before .before .put-why .ensures .0), search needs)
 
 pub put-file-or-line-spec : {M : Type 1} → statement M
 put-file-or-line-spec =
@@ -34,7 +34,7 @@ put-file-or-line-spec =
     write-plan-requires
     enum-known-w
     enum-known-w-2
-    put-refusal-requires
+    put-why-requires
     same-length
     returns
     same-length-2

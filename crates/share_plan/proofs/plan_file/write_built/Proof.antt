@@ -17,11 +17,11 @@ enum-known-built c = search needs
 array-share-prefix-plan : tie.Need-array-share-prefix-plan
 array-share-prefix-plan c = built-front _ _ _ _ _ _ refl (c .before .before .before .before .build .ensures .0) (c .before .before .before .before .build .ensures .1) (c .before .built .given .1) .inside
 
-slice-aggregate-write-ticks : tie.Need-slice-aggregate-write-ticks
-slice-aggregate-write-ticks c = sym (length-take-le _ _ (built-front _ _ _ _ _ _ refl (c .before .before .before .before .before .build .ensures .0) (c .before .before .before .before .before .build .ensures .1) (c .before .before .built .given .1) .inside))
+slice-aggregate-write-checked : tie.Need-slice-aggregate-write-checked
+slice-aggregate-write-checked c = sym (length-take-le _ _ (built-front _ _ _ _ _ _ refl (c .before .before .before .before .before .build .ensures .0) (c .before .before .before .before .before .build .ensures .1) (c .before .before .built .given .1) .inside))
 
-write-ticks-requires : tie.Need-write-ticks-requires
-write-ticks-requires c κs = let f = built-front _ _ _ _ _ _ refl (c .before .before .before .before .before .before .build .ensures .0) (c .before .before .before .before .before .before .build .ensures .1) (c .before .before .before .built .given .1) in rw (length-take-le _ _ (f .inside)) (f .low)
+write-checked-requires : tie.Need-write-checked-requires
+write-checked-requires c κs = let f = built-front _ _ _ _ _ _ refl (c .before .before .before .before .before .before .build .ensures .0) (c .before .before .before .before .before .before .build .ensures .1) (c .before .before .before .built .given .1) in rw (length-take-le _ _ (f .inside)) (f .low)
 
 enum-known-built-2 : tie.Need-enum-known-built-2
 enum-known-built-2 c = search needs
@@ -30,7 +30,7 @@ same-length : tie.Need-same-length
 same-length c = search needs
 
 returns : tie.Need-returns
-returns c = laid-out _ _ _ _ (built-front _ _ _ _ _ _ refl (c .before .before .before .before .before .before .before .before .before .build .ensures .0) (c .before .before .before .before .before .before .before .before .before .build .ensures .1) (c .before .before .before .before .before .before .built .given .1)) (c .before .before .write-ticks .ensures .0) (c .before .before .write-ticks .ensures .1)
+returns c = laid-out _ _ _ _ (built-front _ _ _ _ _ _ refl (c .before .before .before .before .before .before .before .before .before .build .ensures .0) (c .before .before .before .before .before .before .before .before .before .build .ensures .1) (c .before .before .before .before .before .before .built .given .1)) (c .before .before .write-checked .ensures .0) (c .before .before .write-checked .ensures .1)
 
 returns-2 : tie.Need-returns-2
 returns-2 c = (not-laid _ _ _ _ _ (sym (c .before .before .before .before .build .ensures .0) ∙ c .before .built2 .given .1), refl)
@@ -43,8 +43,8 @@ write-built-spec =
     build-requires
     enum-known-built
     array-share-prefix-plan
-    slice-aggregate-write-ticks
-    write-ticks-requires
+    slice-aggregate-write-checked
+    write-checked-requires
     enum-known-built-2
     same-length
     returns

@@ -24,7 +24,7 @@ same-length : tie.Need-same-length
 same-length c = search needs
 
 returns : tie.Need-returns
-returns c = let f = runs-put _ _ _ _ (c .before .before .before .before .before .before .before .before .before .before .before .before .pre) refl (c .before .before .before .before .before .before .runs-of .ensures) in rw (← f .1) (c .before .before .write .ensures)
+returns c = let f = runs-put _ _ _ _ (c .before .before .before .before .before .before .before .before .before .before .before .before .pre) refl (c .before .before .before .before .before .before .runs-of .ensures) in let w = c .before .before .write .ensures in rw (← f .1) (w .0, rw (w .0) (w .1))
 
 pub write-ticks-spec : {M : Type 1} → statement M
 write-ticks-spec =
