@@ -13,11 +13,12 @@ use Rattle.rules.specs.Limits.{longest, mostTasks}
 use Rattle.rules.specs.Contracts.{AsNamed}
 use Rattle.rules.specs.Walk.{pick, largest, Every}
 use Rattle.rules.specs.Table.{partition, budget, deadline, period, tasks, goodTask}
+use Rattle.rules.specs.declared.Rule.{Rule}
 use Rattle.rules.proofs.Named.{named-turn, named-as, named-then}
 use Rattle.rules.proofs.Least.{largest-zero, largest-le, largest-is}
 use Rattle.rules.proofs.Sum.{le-or-lt, only-eq, only-ne, only-self}
 use Rattle.rules.proofs.Tests.{good-times}
-use Rattle.theory.specs.Plan.{own, least}
+use Rattle.theory.specs.Plan.{least}
 use Rattle.task_demand.specs.Contracts.{allAsked, Judgeable, Drawn}
 use Rattle.task_demand.proofs.Lists.{in-order}
 use Rattle.task_all.specs.Contracts.{deadlineIn, marked, judgedIn, JudgedIn, JudgeableAll}
@@ -95,9 +96,9 @@ module _ (ts : List ℕ) (g : JudgeableAll ts) where
           omega (arith, a .2, only-self (eqb (partition ts (a .0)) p) (deadline ts (a .0)), deadline-short (a .0) (a .1))
 
   -- a partition without tasks
-  pub none-of : (plan : List ℕ) (p d : ℕ) (points ticks : List ℕ) → d ≡ largest (deadlineIn ts p) (tasks ts) → d ≡ 0 → JudgedIn plan ts p points points ticks ticks
+  pub none-of : (rule : Rule) (plan : List ℕ) (p d : ℕ) (points ticks : List ℕ) → d ≡ largest (deadlineIn ts p) (tasks ts) → d ≡ 0 → JudgedIn rule plan ts p points points ticks ticks
   unfolding judgedIn
-  none-of plan p d points ticks ed z = record {
+  none-of rule plan p d points ticks ed z = record {
     points-in = record { as-long = refl; done = λ j l. rw (ne-eqb (partition ts j) p (other j l)); rest = λ j l. refl };
     ticks-in = record { as-long = refl; done = λ j l. rw (ne-eqb (partition ts j) p (other j l)); rest = λ j l. refl };
   }
@@ -106,14 +107,14 @@ module _ (ts : List ℕ) (g : JudgeableAll ts) where
       other j l e = let o = g .in-order j l in absurd (omega (arith, in-longest p j d l e ed, o .some, o .in-time))
 
   -- the lists are those of each of p's tasks
-  pub drawn-in : (plan : List ℕ) (p j d w : ℕ) (c₀ curve a₀ asks : List ℕ) → j < tasks ts → d ≡ largest (deadlineIn ts p) (tasks ts) → w ≡ p → d < length c₀ → d < length a₀
-      → AsNamed (least own plan w) (d + 1) c₀ curve → AsNamed (allAsked ts p j) (d + 1) a₀ asks → partition ts j ≡ p → Drawn plan ts j curve asks
-  drawn-in plan p j d w c₀ curve a₀ asks l ed ew lc la v u e =
+  pub drawn-in : (rule : Rule) (plan : List ℕ) (p j d : ℕ) (curve a₀ asks : List ℕ) → j < tasks ts → d ≡ largest (deadlineIn ts p) (tasks ts) → d < length curve → d < length a₀
+      → AsNamed (least rule plan p) (d + 1) curve curve → AsNamed (allAsked ts p j) (d + 1) a₀ asks → partition ts j ≡ p → Drawn rule plan ts j curve asks
+  drawn-in rule plan p j d curve a₀ asks l ed lc la v u e =
       let h : deadline ts j ≤ d = in-longest p j d l e ed in
       record {
-        long = omega (arith, v .as-long);
+        long = omega arith;
         asks-long = omega (arith, u .as-long);
-        least-is = λ t k. v .done t (omega arith) ∙ ap (λ (x : ℕ). least own plan x t) (ew ∙ sym e);
+        least-is = λ t k. v .done t (omega arith) ∙ ap (λ (x : ℕ). least rule plan x t) (sym e);
         asked-is = λ t k. u .done t (omega arith) ∙ ap (λ (x : ℕ). allAsked ts x j t) (sym e);
       }
 

@@ -7,7 +7,7 @@ use Rattle.rules.specs.Limits.{mostTasks}
 use Rattle.rules.specs.Contracts.{AsNamed}
 use Rattle.rules.specs.Walk.{pick, only, first}
 use Rattle.rules.specs.Table.{partition, budget, deadline, tasks}
-use Rattle.theory.specs.Plan.{own}
+use Rattle.rules.specs.declared.Rule.{Rule}
 use Rattle.theory.specs.Task.{taskPoint, taskTick}
 use Rattle.task_demand.specs.Contracts.{InOrder}
 use Rattle.task_points.specs.Contracts.{pointFits}
@@ -34,9 +34,9 @@ unfoldable pub judgedIn : List ℕ → ℕ → (ℕ → ℕ) → List ℕ → �
 judgedIn ts p found list j = pick (eqb (partition ts j) p) (found j) (getD list j 0)
 
 -- the points and the ticks of p's tasks are put at their places
-pub record JudgedIn (plan ts : List ℕ) (p : ℕ) (points points′ ticks ticks′ : List ℕ) : Type 0 where
-  pub points-in : AsNamed (judgedIn ts p (taskPoint own plan ts) points) (tasks ts) points points′
-  pub ticks-in : AsNamed (judgedIn ts p (taskTick own plan ts) ticks) (tasks ts) ticks ticks′
+pub record JudgedIn (rule : Rule) (plan ts : List ℕ) (p : ℕ) (points points′ ticks ticks′ : List ℕ) : Type 0 where
+  pub points-in : AsNamed (judgedIn ts p (taskPoint rule plan ts) points) (tasks ts) points points′
+  pub ticks-in : AsNamed (judgedIn ts p (taskTick rule plan ts) ticks) (tasks ts) ticks ticks′
 
 -- few tasks, each with its times in order
 pub record JudgeableAll (ts : List ℕ) : Type 0 where

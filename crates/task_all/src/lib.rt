@@ -1,6 +1,7 @@
 // The point and the tick of every task of a table, partition by partition: one curve for each partition that has tasks, and
 // what its tasks ask, kept up from task to task.
 use plan_curve::draw;
+use rules::Rule;
 use rules::numbers::larger;
 use rules::numbers::wide;
 use task_demand::TICKS;
@@ -14,7 +15,6 @@ ghost use Rattle.rules.specs.Limits.{longest, mostTasks};
 ghost use Rattle.rules.specs.Contracts.{AsNamed};
 ghost use Rattle.rules.specs.Walk.{largest, Every};
 ghost use Rattle.rules.specs.Table.{deadline, tasks, goodTask};
-ghost use Rattle.theory.specs.Plan.{own};
 ghost use Rattle.theory.specs.Task.{taskPoint, taskTick};
 ghost use Rattle.task_demand.specs.Contracts.{Zeros};
 ghost use Rattle.task_all.specs.Contracts.{deadlineIn, pointBy, tickBy, marked, JudgedIn, JudgeableAll};
@@ -70,6 +70,7 @@ fn judge_task(
 
 // All of p's tasks, with lists that are lent: the asks are zeros.
 fn judge_with(
+    rule: Rule,
     plan: &[u16],
     table: &[u16],
     p: u16,
@@ -81,14 +82,14 @@ fn judge_with(
     requires { ⌜ JudgeableAll (now table) × Zeros (now asks)
         × (longest < length (now curve)) × (longest < length (now asks))
         × (tasks (now table) ≤ length (now points)) × (tasks (now table) ≤ length (now ticks)) ⌝ }
-    ensures { λ _. ⌜ JudgedIn (now (plan .entry)) (now (table .entry)) p
+    ensures { λ _. ⌜ JudgedIn rule (now (plan .entry)) (now (table .entry)) p
         (now (points .entry)) (now (points .exit)) (now (ticks .entry)) (now (ticks .exit)) ⌝ }
 {
     let d = longest_deadline(table, p);
     if d == 0 {
         return;
     }
-    draw(plan, wide(p), curve, d + 1);
+    draw(rule, plan, wide(p), curve, d + 1);
     let n = rules::records::tasks(table);
     let mut j = 0;
     while j < n {
@@ -99,29 +100,43 @@ fn judge_with(
 }
 
 // The same, with lists of its own.
-fn judge_partition(plan: &[u16], table: &[u16], p: u16, points: &mut [usize], ticks: &mut [usize])
+fn judge_partition(
+    rule: Rule,
+    plan: &[u16],
+    table: &[u16],
+    p: u16,
+    points: &mut [usize],
+    ticks: &mut [usize],
+)
     requires { ⌜ JudgeableAll (now table)
         × (tasks (now table) ≤ length (now points)) × (tasks (now table) ≤ length (now ticks)) ⌝ }
-    ensures { λ _. ⌜ JudgedIn (now (plan .entry)) (now (table .entry)) p
+    ensures { λ _. ⌜ JudgedIn rule (now (plan .entry)) (now (table .entry)) p
         (now (points .entry)) (now (points .exit)) (now (ticks .entry)) (now (ticks .exit)) ⌝ }
 {
     let mut curve = [0u32; TICKS];
     let mut asks = [0u32; TICKS];
-    judge_with(plan, table, p, &mut curve, &mut asks, points, ticks);
+    judge_with(rule, plan, table, p, &mut curve, &mut asks, points, ticks);
 }
 
 // The point and the tick of every task, each at the task's place, one past the deadline where the task fails.
-pub fn judge_all(plan: &[u16], table: &[u16], parts: u16, points: &mut [usize], ticks: &mut [usize])
+pub fn judge_all(
+    rule: Rule,
+    plan: &[u16],
+    table: &[u16],
+    parts: u16,
+    points: &mut [usize],
+    ticks: &mut [usize],
+)
     requires { ⌜ (tasks (now table) ≤ mostTasks) × Every (goodTask parts (now table)) (tasks (now table))
         × (tasks (now table) ≤ length (now points)) × (tasks (now table) ≤ length (now ticks)) ⌝ }
-    ensures { λ _. ⌜ AsNamed (taskPoint own (now (plan .entry)) (now (table .entry))) (tasks (now (table .entry)))
+    ensures { λ _. ⌜ AsNamed (taskPoint rule (now (plan .entry)) (now (table .entry))) (tasks (now (table .entry)))
         (now (points .entry)) (now (points .exit))
-        × AsNamed (taskTick own (now (plan .entry)) (now (table .entry))) (tasks (now (table .entry)))
+        × AsNamed (taskTick rule (now (plan .entry)) (now (table .entry))) (tasks (now (table .entry)))
         (now (ticks .entry)) (now (ticks .exit)) ⌝ }
 {
     let mut p = 0;
     while p < parts {
         p += 1;
-        judge_partition(plan, table, p, points, ticks);
+        judge_partition(rule, plan, table, p, points, ticks);
     }
 }

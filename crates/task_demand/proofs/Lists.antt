@@ -13,9 +13,10 @@ use Rattle.rules.specs.Limits.{longest, mostTasks}
 use Rattle.rules.specs.Contracts.{AsNamed}
 use Rattle.rules.specs.Walk.{some, Every}
 use Rattle.rules.specs.Table.{partition, budget, deadline, period, tasks, goodTask}
+use Rattle.rules.specs.declared.Rule.{Rule}
 use Rattle.rules.proofs.Tests.{good-times}
 use Rattle.rules.proofs.Sum.{le-or-lt, sum-eq}
-use Rattle.theory.specs.Plan.{own, least}
+use Rattle.theory.specs.Plan.{least}
 use Rattle.theory.specs.Load.{demand, multiple}
 use Rattle.theory.specs.Task.{rival, taskLoad}
 use Rattle.theory.specs.Contracts.{leastFor}
@@ -34,13 +35,13 @@ pub judgeable : (ts : List ℕ) (parts i : ℕ) → tasks ts ≤ mostTasks → E
 judgeable ts parts i few good l = record { few = omega arith; in-order = λ j h. in-order ts parts j (good j (omega arith)) }
 
 -- both lists, from what each pass leaves
-pub drawn : (plan ts : List ℕ) (i p n : ℕ) (c₀ curve a₀ asks : List ℕ) → p ≡ partition ts i → n ≡ deadline ts i + 1 → n ≤ length c₀ → n ≤ length a₀
-    → AsNamed (least own plan p) n c₀ curve → AsNamed (allAsked ts (partition ts i) i) n a₀ asks → Drawn plan ts i curve asks
-drawn plan ts i p n c₀ curve a₀ asks ep en lc la w v =
+pub drawn : (rule : Rule) (plan ts : List ℕ) (i p n : ℕ) (c₀ curve a₀ asks : List ℕ) → p ≡ partition ts i → n ≡ deadline ts i + 1 → n ≤ length c₀ → n ≤ length a₀
+    → AsNamed (least rule plan p) n c₀ curve → AsNamed (allAsked ts (partition ts i) i) n a₀ asks → Drawn rule plan ts i curve asks
+drawn rule plan ts i p n c₀ curve a₀ asks ep en lc la w v =
     record {
       long = omega (arith, w .as-long);
       asks-long = omega (arith, v .as-long);
-      least-is = λ t l. w .done t (omega arith) ∙ ap (λ (x : ℕ). least own plan x t) ep;
+      least-is = λ t l. w .done t (omega arith) ∙ ap (λ (x : ℕ). least rule plan x t) ep;
       asked-is = λ t l. v .done t (omega arith);
     }
 
@@ -68,7 +69,7 @@ module _ (ts : List ℕ) (i : ℕ) where
       let rise = demand-rises (taskLoad ts) i (λ j l b. omega (arith, (g .in-order j (omega arith)) .some, (g .in-order j (omega arith)) .in-time, (g .in-order j (omega arith)) .in-period)) (λ j l. (g .in-order j (omega arith)) .some) t in
       rise ∙ rw (demand-is t, ← add-one t, demand-is (t + 1)) (ltb-add (budget ts i) (allAsked ts (partition ts i) i t) (allAsked ts (partition ts i) i (t + 1)))
 
-  module _ (plan curve asks : List ℕ) (w : Drawn plan ts i curve asks) where
-    pub fits-is : (c t : ℕ) → c ≡ budget ts i → t ≤ deadline ts i → fitsAt curve asks c t ≡ leb (demand (taskLoad ts) i t) (leastFor own plan ts i t)
+  module _ (rule : Rule) (plan curve asks : List ℕ) (w : Drawn rule plan ts i curve asks) where
+    pub fits-is : (c t : ℕ) → c ≡ budget ts i → t ≤ deadline ts i → fitsAt curve asks c t ≡ leb (demand (taskLoad ts) i t) (leastFor rule plan ts i t)
     unfolding fitsAt
     fits-is c t e l = rw (e, w .least-is t l, w .asked-is t l, demand-is t)

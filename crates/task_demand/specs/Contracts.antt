@@ -8,7 +8,7 @@ use lib.ListN.{length, getD}
 use Rattle.rules.specs.Limits.{longest, mostTasks}
 use Rattle.rules.specs.Walk.{only, sum, roundUp}
 use Rattle.rules.specs.Table.{partition, budget, deadline, period}
-use Rattle.theory.specs.Plan.{own}
+use Rattle.rules.specs.declared.Rule.{Rule}
 use Rattle.theory.specs.Contracts.{leastFor}
 
 -- "C of j times t/T of j rounded up", for a task j of partition p
@@ -63,8 +63,8 @@ unfoldable pub fitsAt : List ℕ → List ℕ → ℕ → ℕ → Bool
 fitsAt curve asks c t = leb (c + getD asks t 0) (getD curve t 0)
 
 -- up to the deadline of task i one list is its partition's curve, the other what the higher tasks ask
-pub record Drawn (plan ts : List ℕ) (i : ℕ) (curve asks : List ℕ) : Type 0 where
+pub record Drawn (rule : Rule) (plan ts : List ℕ) (i : ℕ) (curve asks : List ℕ) : Type 0 where
   pub long : deadline ts i < length curve
   pub asks-long : deadline ts i < length asks
-  pub least-is : (t : ℕ) → t ≤ deadline ts i → getD curve t 0 ≡ leastFor own plan ts i t
+  pub least-is : (t : ℕ) → t ≤ deadline ts i → getD curve t 0 ≡ leastFor rule plan ts i t
   pub asked-is : (t : ℕ) → t ≤ deadline ts i → getD asks t 0 ≡ allAsked ts (partition ts i) i t

@@ -1,5 +1,6 @@
-// What tasks ask of their partition's ticks, in lists by the number of ticks: number t of the curve is least(t), number t of
-// the asks is what the higher tasks of the partition ask of t ticks. With the task's own budget that is its demand.
+// What tasks ask of the ticks that serve their partition, in lists by the number of ticks: number t of the curve is least(t),
+// number t of the asks is what the higher tasks of the partition ask of t ticks. With the task's own budget that is its
+// demand.
 ghost use mathlib.Core.Path.{_≡_};
 ghost use Prim.Native.Nat.{_+_, _^_, _≤_, _<_};
 ghost use lib.ListN.{length};
@@ -7,6 +8,7 @@ ghost use Rattle.rules.specs.Contracts.{AsNamed};
 ghost use Rattle.rules.specs.Limits.{longest};
 ghost use Rattle.rules.specs.Table.{partition};
 ghost use Rattle.task_demand.specs.Contracts.{Added, withTask, withAsked, allAsked, Small, SmallFrom, Zeros, InOrder, Judgeable, fitsAt, Drawn};
+use rules::Rule;
 use rules::limits::LONGEST;
 use rules::numbers::smaller;
 use rules::numbers::wide;
@@ -71,13 +73,21 @@ fn ask_rivals(tasks: &[u16], i: usize, asks: &mut [u32], n: usize)
 }
 
 // The lists for task i, up to its deadline: its partition's curve, and what the higher tasks ask.
-pub fn draw_task(plan: &[u16], tasks: &[u16], i: usize, curve: &mut [u32], asks: &mut [u32])
+pub fn draw_task(
+    rule: Rule,
+    plan: &[u16],
+    tasks: &[u16],
+    i: usize,
+    curve: &mut [u32],
+    asks: &mut [u32],
+)
     requires { ⌜ Judgeable (now tasks) i × Zeros (now asks)
         × (longest < length (now curve)) × (longest < length (now asks)) ⌝ }
-    ensures { λ _. ⌜ Drawn (now (plan .entry)) (now (tasks .entry)) i (now (curve .exit)) (now (asks .exit)) ⌝ }
+    ensures { λ _. ⌜ Drawn rule (now (plan .entry)) (now (tasks .entry)) i (now (curve .exit)) (now (asks .exit)) ⌝ }
 {
     let n = wide(rules::records::deadline(tasks, i)) + 1;
-    plan_curve::draw(plan, wide(rules::records::partition(tasks, i)), curve, n);
+    let p = wide(rules::records::partition(tasks, i));
+    plan_curve::draw(rule, plan, p, curve, n);
     ask_rivals(tasks, i, asks, n);
 }
 

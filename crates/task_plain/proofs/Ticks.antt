@@ -9,8 +9,8 @@ use lib.Dec.{leb}
 use borrow.Author.Tests.{le-leb, lt-leb}
 use Rattle.rules.specs.Walk.{first}
 use Rattle.rules.specs.Table.{budget, deadline}
+use Rattle.rules.specs.declared.Rule.{Rule}
 use Rattle.rules.proofs.First.{first-zero, first-more, first-ext}
-use Rattle.theory.specs.Plan.{own}
 use Rattle.theory.specs.Load.{holds}
 use Rattle.theory.specs.Task.{taskTick}
 use Rattle.theory.specs.Contracts.{leastFor}
@@ -31,9 +31,9 @@ module _ (curve asks : List ℕ) (c : ℕ) where
   pub from-1 : first (tickFits curve asks c) 1 ≡ 1
   from-1 = first-more _ 0 (first-zero _) no-tick-0
 
-pub tick-is : (plan ts : List ℕ) (i c d : ℕ) (curve asks : List ℕ) → Drawn plan ts i curve asks → c ≡ budget ts i → d ≡ deadline ts i
-    → first (tickFits curve asks c) (d + 1) ≡ taskTick own plan ts i
+pub tick-is : (rule : Rule) (plan ts : List ℕ) (i c d : ℕ) (curve asks : List ℕ) → Drawn rule plan ts i curve asks → c ≡ budget ts i → d ≡ deadline ts i
+    → first (tickFits curve asks c) (d + 1) ≡ taskTick rule plan ts i
 unfolding tickFits holds
-tick-is plan ts i c d curve asks w ec ed =
-    rw (task-earliest ts i (leb 1) (leastFor own plan ts i), ed, add-one (deadline ts i))
-    (first-ext (suc (deadline ts i)) _ _ (λ t l. ap (λ (b : Bool). leb 1 t && b) (fits-is ts i plan curve asks w c t ec (omega arith))))
+tick-is rule plan ts i c d curve asks w ec ed =
+    rw (task-earliest ts i (leb 1) (leastFor rule plan ts i), ed, add-one (deadline ts i))
+    (first-ext (suc (deadline ts i)) _ _ (λ t l. ap (λ (b : Bool). leb 1 t && b) (fits-is ts i rule plan curve asks w c t ec (omega arith))))

@@ -11,9 +11,9 @@ use lib.ListN.{getD}
 use borrow.Author.Tests.{le-leb, lt-leb, eq-eqb, ne-eqb}
 use Rattle.rules.specs.Walk.{first, some}
 use Rattle.rules.specs.Table.{budget, deadline}
+use Rattle.rules.specs.declared.Rule.{Rule}
 use Rattle.rules.proofs.First.{first-zero, first-more, first-ext}
 use Rattle.rules.proofs.Tests.{and-none}
-use Rattle.theory.specs.Plan.{own}
 use Rattle.theory.specs.Load.{multiple, point, holds}
 use Rattle.theory.specs.Task.{taskLoad, taskPoint}
 use Rattle.theory.specs.Contracts.{leastFor}
@@ -58,7 +58,7 @@ and-between : (a b : Bool) → (a && b) ≡ (a && true && b)
 and-between true b = refl
 and-between false b = refl
 
-module _ (plan ts : List ℕ) (i : ℕ) (curve asks : List ℕ) (g : Judgeable ts i) (w : Drawn plan ts i curve asks) where
+module _ (rule : Rule) (plan ts : List ℕ) (i : ℕ) (curve asks : List ℕ) (g : Judgeable ts i) (w : Drawn rule plan ts i curve asks) where
   points-are : (t : ℕ) → t ≤ deadline ts i → (leb 1 t && pointAt asks (deadline ts i) t) ≡ point (taskLoad ts) i t
   unfolding pointAt
   points-are t l = rw (task-point ts i t, le-leb t (deadline ts i) l) (ap (λ (b : Bool). leb 1 t && b) (go (ℕ-discrete t (deadline ts i))) ∙ and-between (leb 1 t) (eqb t (deadline ts i) || some (multiple (taskLoad ts) i t) i))
@@ -67,8 +67,8 @@ module _ (plan ts : List ℕ) (i : ℕ) (curve asks : List ℕ) (g : Judgeable t
       go (yes e) = rw (eq-eqb t (deadline ts i) e)
       go (no n) = rw (ne-eqb t (deadline ts i) n, w .asked-is t l, w .asked-is (t + 1) (omega arith)) (sym (asked-rises ts i t g))
 
-  pub point-is : (c d : ℕ) → c ≡ budget ts i → d ≡ deadline ts i → first (pointFits curve asks c d) (d + 1) ≡ taskPoint own plan ts i
+  pub point-is : (c d : ℕ) → c ≡ budget ts i → d ≡ deadline ts i → first (pointFits curve asks c d) (d + 1) ≡ taskPoint rule plan ts i
   unfolding pointFits holds
   point-is c d ec ed =
-      rw (task-earliest ts i (point (taskLoad ts) i) (leastFor own plan ts i), ed, add-one (deadline ts i))
-      (first-ext (suc (deadline ts i)) _ _ (λ t l. ap₂ _&&_ (points-are t (omega arith)) (fits-is ts i plan curve asks w c t ec (omega arith))))
+      rw (task-earliest ts i (point (taskLoad ts) i) (leastFor rule plan ts i), ed, add-one (deadline ts i))
+      (first-ext (suc (deadline ts i)) _ _ (λ t l. ap₂ _&&_ (points-are t (omega arith)) (fits-is ts i rule plan curve asks w c t ec (omega arith))))

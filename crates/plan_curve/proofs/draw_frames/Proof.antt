@@ -11,6 +11,7 @@ use borrow.Author.Needs.{needs}
 use Rattle.plan_curve.proofs.draw_frames.Statement.{statement}
 use Rattle.plan_curve.proofs.draw_frames.Tie as tie
 
+-- the rule is handed on before the loop, which has none: so much is drawn by every rule by which the first k numbers are
 abbrev Inv-loop : tie.InvT-loop
 Inv-loop plan p list₀ n f k t₀ list t =
     (k ≤ t)

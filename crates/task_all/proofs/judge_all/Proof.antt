@@ -4,7 +4,6 @@ use native.Mathlib.Omega.{arith}
 use lib.ListN.{length}
 use Rattle.rules.specs.Contracts.{AsNamed}
 use Rattle.rules.specs.Table.{tasks}
-use Rattle.theory.specs.Plan.{own}
 use Rattle.theory.specs.Task.{taskPoint, taskTick}
 use Rattle.task_all.proofs.Marks.{judgedUpto, upto-turn, upto-none, upto-all, all-judgeable}
 use borrow.Author.Needs.{needs}
@@ -12,15 +11,15 @@ use Rattle.task_all.proofs.judge_all.Statement.{statement}
 use Rattle.task_all.proofs.judge_all.Tie as tie
 
 abbrev Inv-loop : tie.InvT-loop
-Inv-loop plan table parts points₀ ticks₀ p₀ points ticks p =
+Inv-loop rule plan table parts points₀ ticks₀ p₀ points ticks p =
     (p ≤ parts)
     × (length points ≡ length points₀)
     × (length ticks ≡ length ticks₀)
-    × AsNamed (judgedUpto table p (taskPoint own plan table) points₀) (tasks table) points₀ points
-    × AsNamed (judgedUpto table p (taskTick own plan table) ticks₀) (tasks table) ticks₀ ticks
+    × AsNamed (judgedUpto table p (taskPoint rule plan table) points₀) (tasks table) points₀ points
+    × AsNamed (judgedUpto table p (taskTick rule plan table) ticks₀) (tasks table) ticks₀ ticks
 
 abbrev μ-loop : tie.MeasureT-loop
-μ-loop plan table parts points₀ ticks₀ p₀ points ticks p = parts - p
+μ-loop rule plan table parts points₀ ticks₀ p₀ points ticks p = parts - p
 
 loop-holds : tie.Need-loop-holds Inv-loop μ-loop
 loop-holds c = (search needs, refl, refl, upto-none _ _ _ (c .before .before .before .before .pre .1) _, upto-none _ _ _ (c .before .before .before .before .pre .1) _)

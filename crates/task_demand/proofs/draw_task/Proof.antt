@@ -37,7 +37,7 @@ returns : tie.Need-returns
 returns c =
     let l = in-list _ _ _ _ (c .before .before .before .before .before .before .before .before .before .before .before .before .before .before .before .before .pre .0) (c .before .before .before .before .before .before .before .before .before .before .before .deadline .ensures) (c .before .before .before .before .before .before .before .before .before .before .wide .ensures) in
     let own : c .before .before .before .before .before .before .before .before .wide2 .result ≡ partition (c .before .before .before .before .before .before .before .before .before .before .before .before .before .before .before .before .args .tasks .now) (c .before .before .before .before .before .before .before .before .before .before .before .before .before .before .before .before .args .i) = c .before .before .before .before .before .before .before .before .wide2 .ensures ∙ c .before .before .before .before .before .before .before .before .before .partition .ensures in
-    drawn _ _ _ _ _ _ _ _ _ own (omega (arith, c .before .before .before .before .before .before .before .before .before .before .wide .ensures, c .before .before .before .before .before .before .before .before .before .before .before .deadline .ensures)) (omega (arith, l, c .before .before .before .before .before .before .before .before .before .before .before .before .before .before .before .before .pre .2)) (omega (arith, l, c .before .before .before .before .before .before .before .before .before .before .before .before .before .before .before .before .pre .3)) (c .before .before .before .before .before .before .draw .ensures) (c .before .before .ask-rivals .ensures)
+    drawn _ _ _ _ _ _ _ _ _ _ own (omega (arith, c .before .before .before .before .before .before .before .before .before .before .wide .ensures, c .before .before .before .before .before .before .before .before .before .before .before .deadline .ensures)) (omega (arith, l, c .before .before .before .before .before .before .before .before .before .before .before .before .before .before .before .before .pre .2)) (omega (arith, l, c .before .before .before .before .before .before .before .before .before .before .before .before .before .before .before .before .pre .3)) (c .before .before .before .before .before .before .draw .ensures) (c .before .before .ask-rivals .ensures)
 
 pub draw-task-spec : {M : Type 1} → statement M
 draw-task-spec =

@@ -32,7 +32,7 @@ tick-in-requires : tie.Need-tick-in-requires
 tick-in-requires c κs = search needs
 
 returns : tie.Need-returns
-returns c = c .tick-in .ensures ∙ tick-is _ _ _ _ _ _ _ (c .before .before .before .before .before .before .before .draw-task .ensures) (c .before .before .before .before .budget .ensures) (c .before .before .before .deadline .ensures)
+returns c = c .tick-in .ensures ∙ tick-is _ _ _ _ _ _ _ _ (c .before .before .before .before .before .before .before .draw-task .ensures) (c .before .before .before .before .budget .ensures) (c .before .before .before .deadline .ensures)
 
 pub first-tick-spec : {M : Type 1} → statement M
 first-tick-spec =

@@ -32,7 +32,7 @@ point-in-requires : tie.Need-point-in-requires
 point-in-requires c κs = search needs
 
 returns : tie.Need-returns
-returns c = c .point-in .ensures ∙ point-is _ _ _ _ _ (c .before .before .before .before .before .before .before .before .before .before .before .before .pre) (c .before .before .before .before .before .before .before .draw-task .ensures) _ _ (c .before .before .before .before .budget .ensures) (c .before .before .before .deadline .ensures)
+returns c = c .point-in .ensures ∙ point-is _ _ _ _ _ _ (c .before .before .before .before .before .before .before .before .before .before .before .before .pre) (c .before .before .before .before .before .before .before .draw-task .ensures) _ _ (c .before .before .before .before .budget .ensures) (c .before .before .before .deadline .ensures)
 
 pub first-point-spec : {M : Type 1} → statement M
 first-point-spec =
