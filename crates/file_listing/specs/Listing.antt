@@ -8,7 +8,7 @@ use Rattle.rules.specs.Walk.{pick}
 use Rattle.tables.specs.Tables.{unless}
 use Rattle.rules.specs.Filling.{leftBy}
 use Rattle.rules.specs.declared.Refusal.the-variants.{Output}
-use Rattle.rules.specs.Terms.{usual}
+use Rattle.rules.specs.Terms.{filed, ruleOf}
 use Rattle.plan_check.specs.Check.{checkOf}
 use Rattle.file_read.specs.declared.Reading.{Reading}
 use Rattle.file_read.specs.declared.Reading.the-variants as reading
@@ -20,12 +20,12 @@ use Rattle.file_page.specs.Page.{pageOf}
 use Rattle.rules.specs.declared.Filling.{Filling}
 use Rattle.rules.specs.declared.Filling.the-variants.{Fills, Refused}
 
--- of the tables of an accepted file; "the listing program keeps g = 1"
-unfoldable pub tablesLines : ℕ → List ℕ → List ℕ → List ℕ → List ℕ
-tablesLines frame plan ps ts = unless refusedLine (checkOf usual plan ps) (pageOf frame plan ps ts)
+-- of the tables of an accepted file, by its edition; "the listing program keeps g = 1"
+unfoldable pub tablesLines : ℕ → ℕ → List ℕ → List ℕ → List ℕ → List ℕ
+tablesLines e frame plan ps ts = unless refusedLine (checkOf (filed e) plan ps) (pageOf (ruleOf e) frame plan ps ts)
 
 abbrev pub readLines : Reading → List ℕ → List ℕ
-readLines (reading.Contents frame np nt nr) b = tablesLines frame (ticksOf (tableOf b Runs)) (tableOf b Partitions) (tableOf b Tasks)
+readLines (reading.Contents e frame np nt nr) b = tablesLines e frame (ticksOf (tableOf b Runs)) (tableOf b Partitions) (tableOf b Tasks)
 readLines (reading.Refused r) b = refusedLine r
 
 -- the listing of a file's bytes

@@ -10,7 +10,7 @@ use Rattle.rules.specs.Table.{partitions, partition, tasks}
 use Rattle.rules.specs.Refusals.{told}
 use Rattle.rules.specs.declared.Refusal.{Refusal}
 use Rattle.rules.specs.declared.Finding.the-variants as found
-use Rattle.rules.specs.Terms.{usual}
+use Rattle.rules.specs.Terms.{filed, ruleOf}
 use Rattle.plan_check.specs.Check.{checkOf}
 use Rattle.task_verdict.specs.declared.Judged.the-variants as judged
 use Rattle.task_verdict.specs.Verdict.{verdictOf, plainOf}
@@ -30,26 +30,26 @@ planIn b = ticksOf (tableOf b Runs)
 -- a line for the frame's ticks, each partition and each task that the contents give
 abbrev pub ListingCounts : Type 0
 ListingCounts =
-    (b : List ℕ) (frame np nt nr : ℕ) → readOf b ≡ Contents frame np nt nr
+    (b : List ℕ) (e frame np nt nr : ℕ) → readOf b ≡ Contents e frame np nt nr
     → (length (planIn b) ≡ frame) × (partitions (tableOf b Partitions) ≡ np) × (tasks (tableOf b Tasks) ≡ nt)
 
--- the line of the task at place j from 0 is that of both engines' answers: they pass at the point and the tick that it says, or both fail
-abbrev pub LineOfBoth : List ℕ → List ℕ → List ℕ → ℕ → Type 0
-LineOfBoth plan ps ts j =
-    ((t : ℕ) × (u : ℕ) × (verdictOf usual plan ps ts (j + 1) ≡ judged.Pass t) × (plainOf usual plan ps ts (j + 1) ≡ judged.Pass u)
-    × (taskLine plan ts j ≡ passLine (j + 1) (partition ts j) t u))
-    ⊎ ((verdictOf usual plan ps ts (j + 1) ≡ judged.Fail) × (plainOf usual plan ps ts (j + 1) ≡ judged.Fail) × (taskLine plan ts j ≡ failLine (j + 1) (partition ts j)))
+-- in edition e the line of the task at place j from 0 is that of both engines' answers: they pass at the point and the tick that it says, or both fail
+abbrev pub LineOfBoth : ℕ → List ℕ → List ℕ → List ℕ → ℕ → Type 0
+LineOfBoth e plan ps ts j =
+    ((t : ℕ) × (u : ℕ) × (verdictOf (filed e) plan ps ts (j + 1) ≡ judged.Pass t) × (plainOf (filed e) plan ps ts (j + 1) ≡ judged.Pass u)
+    × (taskLine (ruleOf e) plan ts j ≡ passLine (j + 1) (partition ts j) t u))
+    ⊎ ((verdictOf (filed e) plan ps ts (j + 1) ≡ judged.Fail) × (plainOf (filed e) plan ps ts (j + 1) ≡ judged.Fail) × (taskLine (ruleOf e) plan ts j ≡ failLine (j + 1) (partition ts j)))
 
 -- in a file whose plan serves every task's line is so
 abbrev pub ListingVerdicts : Type 0
 ListingVerdicts =
-    (b : List ℕ) (frame np nt nr j : ℕ) → readOf b ≡ Contents frame np nt nr → checkOf usual (planIn b) (tableOf b Partitions) ≡ found.Good → j < nt
-    → LineOfBoth (planIn b) (tableOf b Partitions) (tableOf b Tasks) j
+    (b : List ℕ) (e frame np nt nr j : ℕ) → readOf b ≡ Contents e frame np nt nr → checkOf (filed e) (planIn b) (tableOf b Partitions) ≡ found.Good → j < nt
+    → LineOfBoth e (planIn b) (tableOf b Partitions) (tableOf b Tasks) j
 
 -- after a good read only 9 can follow
 abbrev pub OnlyNine : Type 0
 OnlyNine =
-    (b : List ℕ) (frame np nt nr : ℕ) (r : Refusal) → readOf b ≡ Contents frame np nt nr → checkOf usual (planIn b) (tableOf b Partitions) ≡ found.Refused r
+    (b : List ℕ) (e frame np nt nr : ℕ) (r : Refusal) → readOf b ≡ Contents e frame np nt nr → checkOf (filed e) (planIn b) (tableOf b Partitions) ≡ found.Refused r
     → told r .number ≡ 9
 
 -- the listing of a file is that of its first bytes, where these are more than any plan file has: a program that reads one byte more than the longest

@@ -16,7 +16,7 @@ ghost use mathlib.Core.Path.{_≡_};
 ghost use Prim.Native.Nat.{_≤_};
 ghost use lib.ListN.{length};
 ghost use Rattle.rules.specs.Limits.{longestListing};
-ghost use Rattle.rules.specs.Terms.{usual, wanted};
+ghost use Rattle.rules.specs.Terms.{filed, ruleOf, wanted};
 ghost use Rattle.plan_check.specs.Check.{scanOf, checkOf};
 ghost use Rattle.file_runs.specs.Ticks.{ticksOf};
 ghost use Rattle.output.specs.Put.{Put};
@@ -25,32 +25,47 @@ ghost use Rattle.file_page.specs.Contracts.{GoodRecords};
 ghost use Rattle.file_listing.specs.Contracts.{Listable};
 
 // The file's tables are judged already: of the plan only 9 is left.
-fn put_checked(frame: usize, plan: &[u16], parts: &[u16], table: &[u16], out: &mut [u8]) -> usize
+fn put_checked(
+    edition: usize,
+    frame: usize,
+    plan: &[u16],
+    parts: &[u16],
+    table: &[u16],
+    out: &mut [u8],
+) -> usize
     requires { ⌜ GoodRecords (now parts) (now table) ⌝ }
-    requires { ⌜ checkOf usual (now plan) (now parts)
-        ≡ scanOf (wanted usual (now parts)) (now plan) (now parts) ⌝ }
+    requires { ⌜ checkOf (filed edition) (now plan) (now parts)
+        ≡ scanOf (ruleOf edition) (wanted (filed edition) (now parts)) (now plan) (now parts) ⌝ }
     ensures { λ r. ⌜ Put (now (out .entry)) 0
-        (tablesLines frame (now (plan .entry)) (now (parts .entry)) (now (table .entry))) r (now (out .exit))
+        (tablesLines edition frame (now (plan .entry)) (now (parts .entry)) (now (table .entry))) r (now (out .exit))
         × (r ≤ longestListing) ⌝ }
 {
-    let checked = plan_check::scan(rules::usual(), plan, parts);
+    let rule = rules::rule_of(edition);
+    let checked = plan_check::scan(rule, rules::filed(edition), plan, parts);
     match checked {
         Finding::Refused(r) => output::put_refusal(out, r),
-        Finding::Good => file_page::put_page(frame, plan, parts, table, out),
+        Finding::Good => file_page::put_page(rule, frame, plan, parts, table, out),
     }
 }
 
 // The tables of an accepted file: its runs as ticks.
-fn put_tables(frame: usize, parts: &[u16], table: &[u16], runs: &[u16], out: &mut [u8]) -> usize
-    requires { ⌜ Listable frame (now parts) (now table) (now runs) ⌝ }
+fn put_tables(
+    edition: usize,
+    frame: usize,
+    parts: &[u16],
+    table: &[u16],
+    runs: &[u16],
+    out: &mut [u8],
+) -> usize
+    requires { ⌜ Listable edition frame (now parts) (now table) (now runs) ⌝ }
     ensures { λ r. ⌜ Put (now (out .entry)) 0
-        (tablesLines frame (ticksOf (now (runs .entry))) (now (parts .entry)) (now (table .entry)))
+        (tablesLines edition frame (ticksOf (now (runs .entry))) (now (parts .entry)) (now (table .entry)))
         r (now (out .exit))
         × (r ≤ longestListing) ⌝ }
 {
     let mut plan = [0u16; LONGEST];
     file_runs::ticks_of(runs, &mut plan);
-    put_checked(frame, &plan[..frame], parts, table, out)
+    put_checked(edition, frame, &plan[..frame], parts, table, out)
 }
 
 // Puts the listing of a file's bytes at the start of the output, as far as there is room. The answer is its length.
@@ -65,6 +80,7 @@ pub fn compose(file: &[u8], out: &mut [u8]) -> usize
     match c {
         Reading::Refused(r) => output::put_refusal(out, r),
         Reading::Contents {
+            edition,
             frame,
             partitions: np,
             tasks: nt,
@@ -73,7 +89,7 @@ pub fn compose(file: &[u8], out: &mut [u8]) -> usize
             let p = PART_WIDTH * np;
             let t = TASK_WIDTH * nt;
             let r = RUN_WIDTH * nr;
-            put_tables(frame, &parts[..p], &tasks[..t], &runs[..r], out)
+            put_tables(edition, frame, &parts[..p], &tasks[..t], &runs[..r], out)
         }
     }
 }

@@ -8,7 +8,8 @@ use Rattle.output.specs.Put.{Put}
 use Rattle.output.proofs.Put.{put-none, and-then}
 use Rattle.rules.specs.Table.{cycle, partition, deadline, tasks}
 use Rattle.rules.specs.Terms.{usual, wanted}
-use Rattle.theory.specs.Plan.{own, least}
+use Rattle.rules.specs.declared.Rule.{Rule}
+use Rattle.theory.specs.Plan.{least}
 use Rattle.theory.specs.Task.{taskPoint, taskTick}
 use Rattle.file_lines.specs.Lines.{partitionLine, passLine, failLine}
 use Rattle.rules.specs.Walk.{gathered}
@@ -24,9 +25,9 @@ pub lines-more : {l m o : List ℕ} {i j r : ℕ} (f : ℕ → List ℕ) (k : �
 lines-more f k p q = rw (gathered-more f k) (and-then p q)
 
 -- a partition's line, at the numbers that the code holds
-pub part-line : (plan ps : List ℕ) (k q m w l : ℕ) → q ≡ wanted usual ps k → m ≡ cycle ps k → w ≡ m → l ≡ least own plan (k + 1) m → partitionLine (k + 1) q w l ≡ partLine plan ps k
+pub part-line : (rule : Rule) (plan ps : List ℕ) (k q m w l : ℕ) → q ≡ wanted usual ps k → m ≡ cycle ps k → w ≡ m → l ≡ least rule plan (k + 1) m → partitionLine (k + 1) q w l ≡ partLine rule plan ps k
 unfolding partLine
-part-line plan ps k q m w l eq em ew el = rw (ew, el, eq, em)
+part-line rule plan ps k q m w l eq em ew el = rw (ew, el, eq, em)
 
 -- a task's line, p and d being its partition and deadline, w and e the same widened, t its number in the list of points
 module _ (ts points ticks : List ℕ) (j p w d e t : ℕ) (ep : p ≡ partition ts j) (ew : w ≡ p) (ed : d ≡ deadline ts j) (ee : e ≡ d) (et : t ≡ getD points j 0) where
@@ -39,7 +40,7 @@ module _ (ts points ticks : List ℕ) (j p w d e t : ℕ) (ep : p ≡ partition 
   pass-line h = rw (← et, ← ed, ← ee, le-leb t e h, ← ep, ew)
 
 -- the lines by what was found for each task are the rules'
-pub lines-are : (plan ts p₀ points t₀ ticks : List ℕ) → AsNamed (taskPoint own plan ts) (tasks ts) p₀ points → AsNamed (taskTick own plan ts) (tasks ts) t₀ ticks
-    → gathered (lineBy ts points ticks) (tasks ts) ≡ gathered (taskLine plan ts) (tasks ts)
+pub lines-are : (rule : Rule) (plan ts p₀ points t₀ ticks : List ℕ) → AsNamed (taskPoint rule plan ts) (tasks ts) p₀ points → AsNamed (taskTick rule plan ts) (tasks ts) t₀ ticks
+    → gathered (lineBy ts points ticks) (tasks ts) ≡ gathered (taskLine rule plan ts) (tasks ts)
 unfolding lineBy taskLine
-lines-are plan ts p₀ points t₀ ticks v w = gathered-ext (tasks ts) _ _ (λ j l. rw (v .done j l, w .done j l))
+lines-are rule plan ts p₀ points t₀ ticks v w = gathered-ext (tasks ts) _ _ (λ j l. rw (v .done j l, w .done j l))

@@ -12,24 +12,25 @@ use file_lines::put_fail;
 use file_lines::put_frame;
 use file_lines::put_partition;
 use file_lines::put_pass;
+use rules::Rule;
 use rules::limits::MOST_TASKS;
 
-fn put_part(plan: &[u16], parts: &[u16], k: usize, out: &mut [u8], at: usize) -> usize
+fn put_part(rule: Rule, plan: &[u16], parts: &[u16], k: usize, out: &mut [u8], at: usize) -> usize
     requires { ⌜ (k < mostPartitions) × (at < 2 ^ 40) ⌝ }
     ensures { λ r. ⌜ Put (now (out .entry)) at
-        (partLine (now (plan .entry)) (now (parts .entry)) k) r (now (out .exit))
+        (partLine rule (now (plan .entry)) (now (parts .entry)) k) r (now (out .exit))
         × (r ≤ at + longestLine) ⌝ }
 {
     let m = rules::records::cycle(parts, k);
-    let wanted = rules::records::wanted(rules::usual(), parts, k);
-    let least = plan_service::least(plan, (k + 1) as u16, m as u32);
+    let wanted = rules::records::wanted(rules::filed(1), parts, k);
+    let least = plan_service::least_by(rule, plan, (k + 1) as u16, m as u32);
     put_partition(out, at, k + 1, wanted, rules::numbers::wide(m), least)
 }
 
-fn put_parts(plan: &[u16], parts: &[u16], out: &mut [u8], start: usize) -> usize
+fn put_parts(rule: Rule, plan: &[u16], parts: &[u16], out: &mut [u8], start: usize) -> usize
     requires { ⌜ (partitions (now parts) ≤ mostPartitions) × (start < 2 ^ 32) ⌝ }
     ensures { λ r. ⌜ Put (now (out .entry)) start
-        (gathered (partLine (now (plan .entry)) (now (parts .entry))) (partitions (now (parts .entry))))
+        (gathered (partLine rule (now (plan .entry)) (now (parts .entry))) (partitions (now (parts .entry))))
         r (now (out .exit))
         × (r ≤ start + mostPartitions * longestLine) ⌝ }
 {
@@ -37,7 +38,7 @@ fn put_parts(plan: &[u16], parts: &[u16], out: &mut [u8], start: usize) -> usize
     let mut at = start;
     let mut k = 0;
     while k < n {
-        at = put_part(plan, parts, k, out, at);
+        at = put_part(rule, plan, parts, k, out, at);
         k += 1;
     }
     at
@@ -91,28 +92,42 @@ fn put_lines(
 }
 
 // The tasks' lines, in the table's order: all are judged first, partition by partition.
-fn put_tasks(plan: &[u16], parts: &[u16], table: &[u16], out: &mut [u8], start: usize) -> usize
+fn put_tasks(
+    rule: Rule,
+    plan: &[u16],
+    parts: &[u16],
+    table: &[u16],
+    out: &mut [u8],
+    start: usize,
+) -> usize
     requires { ⌜ GoodRecords (now parts) (now table) × (start < 2 ^ 32) ⌝ }
     ensures { λ r. ⌜ Put (now (out .entry)) start
-        (gathered (taskLine (now (plan .entry)) (now (table .entry))) (tasks (now (table .entry))))
+        (gathered (taskLine rule (now (plan .entry)) (now (table .entry))) (tasks (now (table .entry))))
         r (now (out .exit))
         × (r ≤ start + mostTasks * longestLine) ⌝ }
 {
     let mut points = [0usize; MOST_TASKS];
     let mut ticks = [0usize; MOST_TASKS];
     let n = rules::records::partitions(parts);
-    task_all::judge_all(plan, table, n as u16, &mut points, &mut ticks);
+    task_all::judge_all(rule, plan, table, n as u16, &mut points, &mut ticks);
     put_lines(table, &points, &ticks, out, start)
 }
 
 // The listing of a plan that serves: at most 1 + 16 + 128 lines.
-pub fn put_page(frame: usize, plan: &[u16], parts: &[u16], table: &[u16], out: &mut [u8]) -> usize
+pub fn put_page(
+    rule: Rule,
+    frame: usize,
+    plan: &[u16],
+    parts: &[u16],
+    table: &[u16],
+    out: &mut [u8],
+) -> usize
     requires { ⌜ GoodRecords (now parts) (now table) ⌝ }
     ensures { λ r. ⌜ Put (now (out .entry)) 0
-        (pageOf frame (now (plan .entry)) (now (parts .entry)) (now (table .entry))) r (now (out .exit))
+        (pageOf rule frame (now (plan .entry)) (now (parts .entry)) (now (table .entry))) r (now (out .exit))
         × (r ≤ longestListing) ⌝ }
 {
     let a = put_frame(out, 0, frame);
-    let b = put_parts(plan, parts, out, a);
-    put_tasks(plan, parts, table, out, b)
+    let b = put_parts(rule, plan, parts, out, a);
+    put_tasks(rule, plan, parts, table, out, b)
 }

@@ -42,22 +42,22 @@ array-share-prefix-parts : tie.Need-array-share-prefix-parts
 array-share-prefix-parts c = let h = rw (c .before .c2 .given .1) at (c .before .before .before .before .before .before .load-file .ensures .1 .0) in search needs
 
 slice-aggregate-put-tables : tie.Need-slice-aggregate-put-tables
-slice-aggregate-put-tables c = let h = rw (c .before .before .c2 .given .1) at (c .before .before .before .before .before .before .before .load-file .ensures .1 .0) in let m : 3 * c .before .before .c2 .given .0 .1 .0 ≤ length (c .before .before .before .before .before .before .before .load-file .last .1 .0) = search needs in sym (length-take-le (3 * c .before .before .c2 .given .0 .1 .0) (c .before .before .before .before .before .before .before .load-file .last .1 .0) m)
+slice-aggregate-put-tables c = let h = rw (c .before .before .c2 .given .1) at (c .before .before .before .before .before .before .before .load-file .ensures .1 .0) in let m : 3 * c .before .before .c2 .given .0 .1 .1 .0 ≤ length (c .before .before .before .before .before .before .before .load-file .last .1 .0) = search needs in sym (length-take-le (3 * c .before .before .c2 .given .0 .1 .1 .0) (c .before .before .before .before .before .before .before .load-file .last .1 .0) m)
 
 array-share-prefix-tasks : tie.Need-array-share-prefix-tasks
 array-share-prefix-tasks c = let h = rw (c .before .before .c2 .given .1) at (c .before .before .before .before .before .before .before .load-file .ensures .1 .0) in search needs
 
 slice-aggregate-put-tables-2 : tie.Need-slice-aggregate-put-tables-2
-slice-aggregate-put-tables-2 c = let h = rw (c .before .before .before .c2 .given .1) at (c .before .before .before .before .before .before .before .before .load-file .ensures .1 .0) in let m : 4 * c .before .before .before .c2 .given .0 .1 .1 .0 ≤ length (c .before .before .before .before .before .before .before .before .load-file .last .1 .1 .0) = search needs in sym (length-take-le (4 * c .before .before .before .c2 .given .0 .1 .1 .0) (c .before .before .before .before .before .before .before .before .load-file .last .1 .1 .0) m)
+slice-aggregate-put-tables-2 c = let h = rw (c .before .before .before .c2 .given .1) at (c .before .before .before .before .before .before .before .before .load-file .ensures .1 .0) in let m : 4 * c .before .before .before .c2 .given .0 .1 .1 .1 .0 ≤ length (c .before .before .before .before .before .before .before .before .load-file .last .1 .1 .0) = search needs in sym (length-take-le (4 * c .before .before .before .c2 .given .0 .1 .1 .1 .0) (c .before .before .before .before .before .before .before .before .load-file .last .1 .1 .0) m)
 
 array-share-prefix-runs : tie.Need-array-share-prefix-runs
 array-share-prefix-runs c = let h = rw (c .before .before .before .c2 .given .1) at (c .before .before .before .before .before .before .before .before .load-file .ensures .1 .0) in search needs
 
 slice-aggregate-put-tables-3 : tie.Need-slice-aggregate-put-tables-3
-slice-aggregate-put-tables-3 c = let h = rw (c .before .before .before .before .c2 .given .1) at (c .before .before .before .before .before .before .before .before .before .load-file .ensures .1 .0) in let m : 2 * c .before .before .before .before .c2 .given .0 .1 .1 .1 .0 ≤ length (c .before .before .before .before .before .before .before .before .before .load-file .last .1 .1 .1 .0) = search needs in sym (length-take-le (2 * c .before .before .before .before .c2 .given .0 .1 .1 .1 .0) (c .before .before .before .before .before .before .before .before .before .load-file .last .1 .1 .1 .0) m)
+slice-aggregate-put-tables-3 c = let h = rw (c .before .before .before .before .c2 .given .1) at (c .before .before .before .before .before .before .before .before .before .load-file .ensures .1 .0) in let m : 2 * c .before .before .before .before .c2 .given .0 .1 .1 .1 .1 .0 ≤ length (c .before .before .before .before .before .before .before .before .before .load-file .last .1 .1 .1 .0) = search needs in sym (length-take-le (2 * c .before .before .before .before .c2 .given .0 .1 .1 .1 .1 .0) (c .before .before .before .before .before .before .before .before .before .load-file .last .1 .1 .1 .0) m)
 
 put-tables-requires : tie.Need-put-tables-requires
-put-tables-requires c κs = rw (parts-held (c .before .before .before .before .before .before .before .before .before .before .before .before .before .before .before .before .args .file .now) (c .before .before .before .before .before .c2 .given .0 .0) (c .before .before .before .before .before .c2 .given .0 .1 .0) (c .before .before .before .before .before .c2 .given .0 .1 .1 .0) (c .before .before .before .before .before .c2 .given .0 .1 .1 .1 .0) (sym (c .before .before .before .before .before .before .before .before .before .before .load-file .ensures .0) ∙ c .before .before .before .before .before .c2 .given .1) _ (c .before .before .before .before .before .before .before .before .before .before .load-file .ensures .1 .1 .0), tasks-held (c .before .before .before .before .before .before .before .before .before .before .before .before .before .before .before .before .args .file .now) (c .before .before .before .before .before .c2 .given .0 .0) (c .before .before .before .before .before .c2 .given .0 .1 .0) (c .before .before .before .before .before .c2 .given .0 .1 .1 .0) (c .before .before .before .before .before .c2 .given .0 .1 .1 .1 .0) (sym (c .before .before .before .before .before .before .before .before .before .before .load-file .ensures .0) ∙ c .before .before .before .before .before .c2 .given .1) _ (c .before .before .before .before .before .before .before .before .before .before .load-file .ensures .1 .1 .1 .0), runs-held (c .before .before .before .before .before .before .before .before .before .before .before .before .before .before .before .before .args .file .now) (c .before .before .before .before .before .c2 .given .0 .0) (c .before .before .before .before .before .c2 .given .0 .1 .0) (c .before .before .before .before .before .c2 .given .0 .1 .1 .0) (c .before .before .before .before .before .c2 .given .0 .1 .1 .1 .0) (sym (c .before .before .before .before .before .before .before .before .before .before .load-file .ensures .0) ∙ c .before .before .before .before .before .c2 .given .1) _ (c .before .before .before .before .before .before .before .before .before .before .load-file .ensures .1 .1 .1 .1)) (listable (c .before .before .before .before .before .before .before .before .before .before .before .before .before .before .before .before .args .file .now) (c .before .before .before .before .before .c2 .given .0 .0) (c .before .before .before .before .before .c2 .given .0 .1 .0) (c .before .before .before .before .before .c2 .given .0 .1 .1 .0) (c .before .before .before .before .before .c2 .given .0 .1 .1 .1 .0) (sym (c .before .before .before .before .before .before .before .before .before .before .load-file .ensures .0) ∙ c .before .before .before .before .before .c2 .given .1))
+put-tables-requires c κs = rw (parts-held (c .before .before .before .before .before .before .before .before .before .before .before .before .before .before .before .before .args .file .now) (c .before .before .before .before .before .c2 .given .0 .0) (c .before .before .before .before .before .c2 .given .0 .1 .0) (c .before .before .before .before .before .c2 .given .0 .1 .1 .0) (c .before .before .before .before .before .c2 .given .0 .1 .1 .1 .0) (c .before .before .before .before .before .c2 .given .0 .1 .1 .1 .1 .0) (sym (c .before .before .before .before .before .before .before .before .before .before .load-file .ensures .0) ∙ c .before .before .before .before .before .c2 .given .1) _ (c .before .before .before .before .before .before .before .before .before .before .load-file .ensures .1 .1 .0), tasks-held (c .before .before .before .before .before .before .before .before .before .before .before .before .before .before .before .before .args .file .now) (c .before .before .before .before .before .c2 .given .0 .0) (c .before .before .before .before .before .c2 .given .0 .1 .0) (c .before .before .before .before .before .c2 .given .0 .1 .1 .0) (c .before .before .before .before .before .c2 .given .0 .1 .1 .1 .0) (c .before .before .before .before .before .c2 .given .0 .1 .1 .1 .1 .0) (sym (c .before .before .before .before .before .before .before .before .before .before .load-file .ensures .0) ∙ c .before .before .before .before .before .c2 .given .1) _ (c .before .before .before .before .before .before .before .before .before .before .load-file .ensures .1 .1 .1 .0), runs-held (c .before .before .before .before .before .before .before .before .before .before .before .before .before .before .before .before .args .file .now) (c .before .before .before .before .before .c2 .given .0 .0) (c .before .before .before .before .before .c2 .given .0 .1 .0) (c .before .before .before .before .before .c2 .given .0 .1 .1 .0) (c .before .before .before .before .before .c2 .given .0 .1 .1 .1 .0) (c .before .before .before .before .before .c2 .given .0 .1 .1 .1 .1 .0) (sym (c .before .before .before .before .before .before .before .before .before .before .load-file .ensures .0) ∙ c .before .before .before .before .before .c2 .given .1) _ (c .before .before .before .before .before .before .before .before .before .before .load-file .ensures .1 .1 .1 .1)) (listable (c .before .before .before .before .before .before .before .before .before .before .before .before .before .before .before .before .args .file .now) (c .before .before .before .before .before .c2 .given .0 .0) (c .before .before .before .before .before .c2 .given .0 .1 .0) (c .before .before .before .before .before .c2 .given .0 .1 .1 .0) (c .before .before .before .before .before .c2 .given .0 .1 .1 .1 .0) (c .before .before .before .before .before .c2 .given .0 .1 .1 .1 .1 .0) (sym (c .before .before .before .before .before .before .before .before .before .before .load-file .ensures .0) ∙ c .before .before .before .before .before .c2 .given .1))
 
 same-length : tie.Need-same-length
 same-length c = search needs
@@ -70,7 +70,7 @@ same-length-2 : tie.Need-same-length-2
 same-length-2 c = search needs
 
 returns-2 : tie.Need-returns-2
-returns-2 c = (rw (← tables-listed (c .before .before .before .before .before .before .before .before .before .before .before .before .before .before .before .before .before .before .before .args .file .now) (c .before .before .before .before .before .before .before .before .c2 .given .0 .0) (c .before .before .before .before .before .before .before .before .c2 .given .0 .1 .0) (c .before .before .before .before .before .before .before .before .c2 .given .0 .1 .1 .0) (c .before .before .before .before .before .before .before .before .c2 .given .0 .1 .1 .1 .0) (sym (c .before .before .before .before .before .before .before .before .before .before .before .before .before .load-file .ensures .0) ∙ c .before .before .before .before .before .before .before .before .c2 .given .1), ← parts-held (c .before .before .before .before .before .before .before .before .before .before .before .before .before .before .before .before .before .before .before .args .file .now) (c .before .before .before .before .before .before .before .before .c2 .given .0 .0) (c .before .before .before .before .before .before .before .before .c2 .given .0 .1 .0) (c .before .before .before .before .before .before .before .before .c2 .given .0 .1 .1 .0) (c .before .before .before .before .before .before .before .before .c2 .given .0 .1 .1 .1 .0) (sym (c .before .before .before .before .before .before .before .before .before .before .before .before .before .load-file .ensures .0) ∙ c .before .before .before .before .before .before .before .before .c2 .given .1) _ (c .before .before .before .before .before .before .before .before .before .before .before .before .before .load-file .ensures .1 .1 .0), ← tasks-held (c .before .before .before .before .before .before .before .before .before .before .before .before .before .before .before .before .before .before .before .args .file .now) (c .before .before .before .before .before .before .before .before .c2 .given .0 .0) (c .before .before .before .before .before .before .before .before .c2 .given .0 .1 .0) (c .before .before .before .before .before .before .before .before .c2 .given .0 .1 .1 .0) (c .before .before .before .before .before .before .before .before .c2 .given .0 .1 .1 .1 .0) (sym (c .before .before .before .before .before .before .before .before .before .before .before .before .before .load-file .ensures .0) ∙ c .before .before .before .before .before .before .before .before .c2 .given .1) _ (c .before .before .before .before .before .before .before .before .before .before .before .before .before .load-file .ensures .1 .1 .1 .0), ← runs-held (c .before .before .before .before .before .before .before .before .before .before .before .before .before .before .before .before .before .before .before .args .file .now) (c .before .before .before .before .before .before .before .before .c2 .given .0 .0) (c .before .before .before .before .before .before .before .before .c2 .given .0 .1 .0) (c .before .before .before .before .before .before .before .before .c2 .given .0 .1 .1 .0) (c .before .before .before .before .before .before .before .before .c2 .given .0 .1 .1 .1 .0) (sym (c .before .before .before .before .before .before .before .before .before .before .before .before .before .load-file .ensures .0) ∙ c .before .before .before .before .before .before .before .before .c2 .given .1) _ (c .before .before .before .before .before .before .before .before .before .before .before .before .before .load-file .ensures .1 .1 .1 .1)) (c .before .before .put-tables .ensures .0), search needs)
+returns-2 c = (rw (← tables-listed (c .before .before .before .before .before .before .before .before .before .before .before .before .before .before .before .before .before .before .before .args .file .now) (c .before .before .before .before .before .before .before .before .c2 .given .0 .0) (c .before .before .before .before .before .before .before .before .c2 .given .0 .1 .0) (c .before .before .before .before .before .before .before .before .c2 .given .0 .1 .1 .0) (c .before .before .before .before .before .before .before .before .c2 .given .0 .1 .1 .1 .0) (c .before .before .before .before .before .before .before .before .c2 .given .0 .1 .1 .1 .1 .0) (sym (c .before .before .before .before .before .before .before .before .before .before .before .before .before .load-file .ensures .0) ∙ c .before .before .before .before .before .before .before .before .c2 .given .1), ← parts-held (c .before .before .before .before .before .before .before .before .before .before .before .before .before .before .before .before .before .before .before .args .file .now) (c .before .before .before .before .before .before .before .before .c2 .given .0 .0) (c .before .before .before .before .before .before .before .before .c2 .given .0 .1 .0) (c .before .before .before .before .before .before .before .before .c2 .given .0 .1 .1 .0) (c .before .before .before .before .before .before .before .before .c2 .given .0 .1 .1 .1 .0) (c .before .before .before .before .before .before .before .before .c2 .given .0 .1 .1 .1 .1 .0) (sym (c .before .before .before .before .before .before .before .before .before .before .before .before .before .load-file .ensures .0) ∙ c .before .before .before .before .before .before .before .before .c2 .given .1) _ (c .before .before .before .before .before .before .before .before .before .before .before .before .before .load-file .ensures .1 .1 .0), ← tasks-held (c .before .before .before .before .before .before .before .before .before .before .before .before .before .before .before .before .before .before .before .args .file .now) (c .before .before .before .before .before .before .before .before .c2 .given .0 .0) (c .before .before .before .before .before .before .before .before .c2 .given .0 .1 .0) (c .before .before .before .before .before .before .before .before .c2 .given .0 .1 .1 .0) (c .before .before .before .before .before .before .before .before .c2 .given .0 .1 .1 .1 .0) (c .before .before .before .before .before .before .before .before .c2 .given .0 .1 .1 .1 .1 .0) (sym (c .before .before .before .before .before .before .before .before .before .before .before .before .before .load-file .ensures .0) ∙ c .before .before .before .before .before .before .before .before .c2 .given .1) _ (c .before .before .before .before .before .before .before .before .before .before .before .before .before .load-file .ensures .1 .1 .1 .0), ← runs-held (c .before .before .before .before .before .before .before .before .before .before .before .before .before .before .before .before .before .before .before .args .file .now) (c .before .before .before .before .before .before .before .before .c2 .given .0 .0) (c .before .before .before .before .before .before .before .before .c2 .given .0 .1 .0) (c .before .before .before .before .before .before .before .before .c2 .given .0 .1 .1 .0) (c .before .before .before .before .before .before .before .before .c2 .given .0 .1 .1 .1 .0) (c .before .before .before .before .before .before .before .before .c2 .given .0 .1 .1 .1 .1 .0) (sym (c .before .before .before .before .before .before .before .before .before .before .before .before .before .load-file .ensures .0) ∙ c .before .before .before .before .before .before .before .before .c2 .given .1) _ (c .before .before .before .before .before .before .before .before .before .before .before .before .before .load-file .ensures .1 .1 .1 .1)) (c .before .before .put-tables .ensures .0), search needs)
 
 pub compose-spec : {M : Type 1} → statement M
 compose-spec =

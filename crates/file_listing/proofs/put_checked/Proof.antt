@@ -3,8 +3,11 @@ use borrow.Author.Needs.{needs}
 use Rattle.file_listing.proofs.put_checked.Statement.{statement}
 use Rattle.file_listing.proofs.put_checked.Tie as tie
 
-usual-requires : tie.Need-usual-requires
-usual-requires c κs = search needs
+rule-of-requires : tie.Need-rule-of-requires
+rule-of-requires c κs = search needs
+
+filed-requires : tie.Need-filed-requires
+filed-requires c κs = search needs
 
 scan-requires : tie.Need-scan-requires
 scan-requires c κs = search needs
@@ -26,20 +29,21 @@ same-length c = search needs
 
 returns : tie.Need-returns
 unfolding tablesLines
-returns c = (rw (c .before .before .before .before .before .before .before .before .before .before .before .before .before .pre .1, ← rw (c .before .before .before .before .before .before .before .before .usual .ensures) at (c .before .before .before .before .before .before .before .scan .ensures), c .before .before .before .before .before .checked .given .1) (c .before .before .put-refusal .ensures .0), search needs)
+returns c = (rw (c .before .before .before .before .before .before .before .before .before .before .before .before .before .before .pre .1, ← rw (c .before .before .before .before .before .before .before .before .filed .ensures, c .before .before .before .before .before .before .before .before .before .rule-of .ensures) at (c .before .before .before .before .before .before .before .scan .ensures), c .before .before .before .before .before .checked .given .1) (c .before .before .put-refusal .ensures .0), search needs)
 
 same-length-2 : tie.Need-same-length-2
 same-length-2 c = search needs
 
 returns-2 : tie.Need-returns-2
 unfolding tablesLines
-returns-2 c = (rw (c .before .before .before .before .before .before .before .before .before .before .before .before .pre .1, ← rw (c .before .before .before .before .before .before .before .usual .ensures) at (c .before .before .before .before .before .before .scan .ensures), c .before .before .before .before .enum-told .given .1) (c .before .before .put-page .ensures .0), search needs)
+returns-2 c = (rw (c .before .before .before .before .before .before .before .before .before .before .before .before .before .pre .1, ← rw (c .before .before .before .before .before .before .before .filed .ensures, c .before .before .before .before .before .before .before .before .rule-of .ensures) at (c .before .before .before .before .before .before .scan .ensures), c .before .before .before .before .enum-told .given .1) (rw (c .before .before .before .before .before .before .before .before .rule-of .ensures) at (c .before .before .put-page .ensures .0)), search needs)
 
 pub put-checked-spec : {M : Type 1} → statement M
 put-checked-spec =
     tie.close
     (tie.spec
-    usual-requires
+    rule-of-requires
+    filed-requires
     scan-requires
     enum-known-checked
     put-refusal-requires

@@ -11,10 +11,10 @@ use Rattle.file_page.proofs.put_parts.Statement.{statement}
 use Rattle.file_page.proofs.put_parts.Tie as tie
 
 abbrev Inv-loop : tie.InvT-loop
-Inv-loop plan parts out₀ start n at₀ k₀ out at k = (k ≤ n) × Put out₀ start (gathered (partLine plan parts) k) at out × (at ≤ start + longestLine * k) × (length out ≡ length out₀)
+Inv-loop rule plan parts out₀ start n at₀ k₀ out at k = (k ≤ n) × Put out₀ start (gathered (partLine rule plan parts) k) at out × (at ≤ start + longestLine * k) × (length out ≡ length out₀)
 
 abbrev μ-loop : tie.MeasureT-loop
-μ-loop plan parts out₀ start n at₀ k₀ out at k = n - k
+μ-loop rule plan parts out₀ start n at₀ k₀ out at k = n - k
 
 partitions-requires : tie.Need-partitions-requires Inv-loop μ-loop
 partitions-requires c κs = search needs

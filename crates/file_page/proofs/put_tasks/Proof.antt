@@ -31,7 +31,7 @@ same-length : tie.Need-same-length
 same-length c = search needs
 
 returns : tie.Need-returns
-returns c = let judged = c .before .before .before .before .before .before .before .before .judge-all .ensures in (rw (← lines-are _ _ _ _ _ _ (judged .0) (judged .1)) (c .before .before .put-lines .ensures .0), search needs)
+returns c = let judged = c .before .before .before .before .before .before .before .before .judge-all .ensures in (rw (← lines-are _ _ _ _ _ _ _ (judged .0) (judged .1)) (c .before .before .put-lines .ensures .0), search needs)
 
 pub put-tasks-spec : {M : Type 1} → statement M
 put-tasks-spec =

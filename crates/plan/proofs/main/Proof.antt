@@ -5,6 +5,9 @@ use borrow.Author.Needs.{needs}
 use Rattle.plan.proofs.main.Statement.{statement}
 use Rattle.plan.proofs.main.Tie as tie
 
+edition-given-requires : tie.Need-edition-given-requires
+edition-given-requires c κs = search needs
+
 slice-aggregate-read-full : tie.Need-slice-aggregate-read-full
 slice-aggregate-read-full c = search needs
 
@@ -45,6 +48,7 @@ pub main-spec : {M : Type 1} → statement M
 main-spec =
     tie.close
     (tie.spec
+    edition-given-requires
     slice-aggregate-read-full
     read-full-requires
     slice-aggregate-plan-input
