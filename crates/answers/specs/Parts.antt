@@ -18,5 +18,5 @@ partAt which c =
 
 -- 0 with where the part starts and ends, or the reader's refusal
 abbrev pub toldPart : ℕ → Reading → Told
-toldPart which (Contents frame np nt nr) = let s = partAt which (Contents frame np nt nr) in telling 0 (s .offset) (s .end) 0 0
+toldPart which (Contents e frame np nt nr) = let s = partAt which (Contents e frame np nt nr) in telling 0 (s .offset) (s .end) 0 0
 toldPart which (Refused x) = told x

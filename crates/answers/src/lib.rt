@@ -1,5 +1,4 @@
-// The answers as C is told them: a number and four values, made of what each crate answers; and what the desk is asked.
-use counts::Holding;
+// The answers as C is told them: a number and five values, made of what each crate answers; and what the desk is asked.
 use desk::Answer;
 use desk::Ask;
 use desk::Asked;
@@ -8,11 +7,11 @@ use file_read::Reading;
 use file_read::Stretch;
 use rules::Filling;
 use rules::Finding;
+use rules::Holding;
 use rules::Told;
 use task_verdict::Judged;
 ghost use mathlib.Core.Path.{_≡_};
-ghost use Rattle.rules.specs.Refusals.{toldFinding, toldFilling};
-ghost use Rattle.counts.specs.Counts.{toldHolding};
+ghost use Rattle.rules.specs.Refusals.{toldFinding, toldFilling, toldHolding};
 ghost use Rattle.task_verdict.specs.Verdict.{toldJudged};
 ghost use Rattle.file_read.specs.Reader.{toldReading};
 ghost use Rattle.file_read.specs.Contracts.{Few};
@@ -21,7 +20,7 @@ ghost use Rattle.desk.specs.Call.{said};
 ghost use Rattle.answers.specs.Parts.{partAt, toldPart};
 
 fn answer(first: usize, second: usize) -> Told
-    ensures { λ r. ⌜ r ≡ record { number = 0; first = first; second = second; third = 0; fourth = 0 } ⌝ }
+    ensures { λ r. ⌜ r ≡ record { number = 0; first = first; second = second; third = 0; fourth = 0; fifth = 0 } ⌝ }
 {
     Told {
         number: 0,
@@ -29,6 +28,7 @@ fn answer(first: usize, second: usize) -> Told
         second,
         third: 0,
         fourth: 0,
+        fifth: 0,
     }
 }
 
@@ -74,6 +74,7 @@ pub fn tell_reading(reading: Reading) -> Told
 {
     match reading {
         Reading::Contents {
+            edition,
             frame,
             partitions,
             tasks,
@@ -84,6 +85,7 @@ pub fn tell_reading(reading: Reading) -> Told
             second: partitions,
             third: tasks,
             fourth: runs,
+            fifth: edition,
         },
         Reading::Refused(r) => rules::tell(r),
     }
@@ -113,12 +115,14 @@ pub fn tell_part(which: usize, reading: Reading) -> Told
 {
     match reading {
         Reading::Contents {
+            edition,
             frame,
             partitions,
             tasks,
             runs,
         } => {
             let contents = Reading::Contents {
+                edition,
                 frame,
                 partitions,
                 tasks,

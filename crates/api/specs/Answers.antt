@@ -1,14 +1,15 @@
--- What each entry of the C surface tells, and what then stands in all that was lent: the entry's own rule, told as a number and four values; g is the call's granule. (`wants`, `held`
--- and `least` answer with the number itself: `WantsIs`, `HeldIs`, `LeastIs`.) Assumes nothing.
+-- What each entry of the C surface tells, and what then stands in all that was lent: the entry's own rule, told as a number and five values; e is the call's edition, g its granule. (`wants` answers with
+-- the number itself: `WantsIs`.) Assumes nothing.
 use Prim.Native.Nat.{ℕ}
 use mathlib.Core.List.{List}
-use Rattle.rules.specs.Terms.{granules}
+use Rattle.rules.specs.Terms.{given, granules}
 use Rattle.rules.specs.declared.Told.{Told}
-use Rattle.rules.specs.Refusals.{toldFinding, toldFilling, Tells}
+use Rattle.rules.specs.Refusals.{toldFinding, toldFilling, toldHolding, Tells}
+use Rattle.theory.specs.Plan.{HeldIs, LeastIs}
 use Rattle.plan_curve.specs.Curve.{DrawsCurve}
 use Rattle.plan_check.specs.Check.{Checks}
 use Rattle.plan_build.specs.Build.{Builds}
-use Rattle.counts.specs.Counts.{FillsCounts, HoldsOne, toldHolding, HoldsMany, Changes}
+use Rattle.counts.specs.Counts.{FillsCounts, HoldsOne, HoldsMany, Changes}
 use Rattle.task_verdict.specs.Verdict.{Judges, JudgesPlainly, toldJudged}
 use Rattle.file_read.specs.Reader.{toldReading, Reads}
 use Rattle.file_write.specs.Writer.{Writes}
@@ -21,11 +22,17 @@ use Rattle.desk.specs.Request.{requestOf}
 use Rattle.desk.specs.Call.{Leaves, said}
 use Rattle.answers.specs.Parts.{toldPart}
 
-abbrev pub TellsCurve : List ℕ → ℕ → ℕ → List ℕ → List ℕ → Told → Type 0
-TellsCurve plan p n list o = Tells toldFilling (DrawsCurve plan p n list o)
+abbrev pub TellsHeld : ℕ → List ℕ → ℕ → ℕ → ℕ → Told → Type 0
+TellsHeld e plan p s n = Tells toldHolding (HeldIs e plan p s n)
 
-abbrev pub TellsCheck : ℕ → List ℕ → List ℕ → Told → Type 0
-TellsCheck g plan ps = Tells toldFinding (Checks (granules g) plan ps)
+abbrev pub TellsLeast : ℕ → List ℕ → ℕ → ℕ → Told → Type 0
+TellsLeast e plan p t = Tells toldHolding (LeastIs e plan p t)
+
+abbrev pub TellsCurve : ℕ → List ℕ → ℕ → ℕ → List ℕ → List ℕ → Told → Type 0
+TellsCurve e plan p n list o = Tells toldFilling (DrawsCurve e plan p n list o)
+
+abbrev pub TellsCheck : ℕ → ℕ → List ℕ → List ℕ → Told → Type 0
+TellsCheck e g plan ps = Tells toldFinding (Checks (given e g) plan ps)
 
 abbrev pub TellsBuild : ℕ → List ℕ → List ℕ → List ℕ → Told → Type 0
 TellsBuild g ps out o = Tells toldFilling (Builds (granules g) ps out o)
@@ -33,8 +40,8 @@ TellsBuild g ps out o = Tells toldFilling (Builds (granules g) ps out o)
 abbrev pub TellsFill : List ℕ → List ℕ → List ℕ → List ℕ → Told → Type 0
 TellsFill plan ps list o = Tells toldFilling (FillsCounts plan ps list o)
 
-abbrev pub TellsHeld : List ℕ → List ℕ → List ℕ → ℕ → ℕ → ℕ → Told → Type 0
-TellsHeld plan ps list p s n = Tells toldHolding (HoldsOne plan ps list p s n)
+abbrev pub TellsCounted : List ℕ → List ℕ → List ℕ → ℕ → ℕ → ℕ → Told → Type 0
+TellsCounted plan ps list p s n = Tells toldHolding (HoldsOne plan ps list p s n)
 
 abbrev pub TellsMany : List ℕ → List ℕ → List ℕ → List ℕ → List ℕ → List ℕ → Told → Type 0
 TellsMany plan ps list qs out o = Tells toldFilling (HoldsMany plan ps list qs out o)
@@ -43,11 +50,11 @@ TellsMany plan ps list qs out o = Tells toldFilling (HoldsMany plan ps list qs o
 abbrev pub TellsChange : List ℕ → List ℕ → List ℕ → ℕ → ℕ → List ℕ → List ℕ → Told → Type 0
 TellsChange plan ps list tick owner plan′ o = Tells toldFinding (Changes plan ps list tick owner plan′ o)
 
-abbrev pub TellsVerdict : ℕ → List ℕ → List ℕ → List ℕ → ℕ → Told → Type 0
-TellsVerdict g plan ps ts place = Tells toldJudged (Judges (granules g) plan ps ts place)
+abbrev pub TellsVerdict : ℕ → ℕ → List ℕ → List ℕ → List ℕ → ℕ → Told → Type 0
+TellsVerdict e g plan ps ts place = Tells toldJudged (Judges (given e g) plan ps ts place)
 
-abbrev pub TellsPlain : ℕ → List ℕ → List ℕ → List ℕ → ℕ → Told → Type 0
-TellsPlain g plan ps ts place = Tells toldJudged (JudgesPlainly (granules g) plan ps ts place)
+abbrev pub TellsPlain : ℕ → ℕ → List ℕ → List ℕ → List ℕ → ℕ → Told → Type 0
+TellsPlain e g plan ps ts place = Tells toldJudged (JudgesPlainly (given e g) plan ps ts place)
 
 abbrev pub TellsRead : List ℕ → Told → Type 0
 TellsRead b = Tells toldReading (Reads b)
@@ -55,8 +62,8 @@ TellsRead b = Tells toldReading (Reads b)
 abbrev pub TellsSection : List ℕ → ℕ → Told → Type 0
 TellsSection b which = Tells (toldPart which) (Reads b)
 
-abbrev pub TellsWrite : ℕ → List ℕ → List ℕ → List ℕ → List ℕ → List ℕ → Told → Type 0
-TellsWrite frame ps ts rs out o = Tells toldFilling (Writes frame ps ts rs out o)
+abbrev pub TellsWrite : ℕ → ℕ → List ℕ → List ℕ → List ℕ → List ℕ → List ℕ → Told → Type 0
+TellsWrite e frame ps ts rs out o = Tells toldFilling (Writes e frame ps ts rs out o)
 
 abbrev pub TellsList : List ℕ → List ℕ → List ℕ → Told → Type 0
 TellsList b out o = Tells toldFilling (Lists b out o)

@@ -5,8 +5,7 @@ use desk::Job;
 use rules::Terms;
 use rules::Told;
 ghost use Rattle.rules.specs.Table.{WantsIs};
-ghost use Rattle.theory.specs.Plan.{HeldIs, LeastIs};
-ghost use Rattle.api.specs.Answers.{TellsCurve, TellsCheck, TellsBuild, TellsFill, TellsHeld, TellsMany, TellsChange, TellsVerdict, TellsPlain, TellsRead, TellsSection, TellsWrite, TellsList, TellsOpen, TellsRequest};
+ghost use Rattle.api.specs.Answers.{TellsHeld, TellsLeast, TellsCurve, TellsCheck, TellsBuild, TellsFill, TellsCounted, TellsMany, TellsChange, TellsVerdict, TellsPlain, TellsRead, TellsSection, TellsWrite, TellsList, TellsOpen, TellsRequest};
 
 #[no_mangle]
 pub extern "C" fn merkazobi_wants(granule: usize, m: u16, num: u16, den: u16) -> usize
@@ -16,38 +15,56 @@ pub extern "C" fn merkazobi_wants(granule: usize, m: u16, num: u16, den: u16) ->
 }
 
 #[no_mangle]
-pub extern "C" fn merkazobi_held(plan: &[u16], p: u16, s: u32, n: u32) -> usize
-    ensures { λ r. ⌜ HeldIs (now (plan .entry)) p s n r ⌝ }
+pub extern "C" fn merkazobi_held(edition: usize, plan: &[u16], p: u16, s: u32, n: u32) -> Told
+    ensures { λ r. ⌜ TellsHeld edition (now (plan .entry)) p s n r ⌝ }
 {
-    plan_service::held(plan, p, s, n)
+    answers::tell_holding(plan_service::held(edition, plan, p, s, n))
 }
 
 #[no_mangle]
-pub extern "C" fn merkazobi_least(plan: &[u16], p: u16, t: u32) -> usize
-    ensures { λ r. ⌜ LeastIs (now (plan .entry)) p t r ⌝ }
+pub extern "C" fn merkazobi_least(edition: usize, plan: &[u16], p: u16, t: u32) -> Told
+    ensures { λ r. ⌜ TellsLeast edition (now (plan .entry)) p t r ⌝ }
 {
-    plan_service::least(plan, p, t)
+    answers::tell_holding(plan_service::least(edition, plan, p, t))
 }
 
 #[no_mangle]
-pub extern "C" fn merkazobi_curve(plan: &[u16], p: u16, n: u32, list: &mut [u32]) -> Told
-    ensures { λ r. ⌜ TellsCurve (now (plan .entry)) p n (now (list .entry)) (now (list .exit)) r ⌝ }
+pub extern "C" fn merkazobi_curve(
+    edition: usize,
+    plan: &[u16],
+    p: u16,
+    n: u32,
+    list: &mut [u32],
+) -> Told
+    ensures { λ r. ⌜ TellsCurve edition (now (plan .entry)) p n (now (list .entry)) (now (list .exit)) r ⌝ }
 {
-    answers::tell_filling(plan_curve::curve(plan, p, n, list))
+    answers::tell_filling(plan_curve::curve(edition, plan, p, n, list))
 }
 
 #[no_mangle]
-pub extern "C" fn merkazobi_check(granule: usize, plan: &[u16], parts: &[u16]) -> Told
-    ensures { λ r. ⌜ TellsCheck granule (now (plan .entry)) (now (parts .entry)) r ⌝ }
+pub extern "C" fn merkazobi_check(
+    edition: usize,
+    granule: usize,
+    plan: &[u16],
+    parts: &[u16],
+) -> Told
+    ensures { λ r. ⌜ TellsCheck edition granule (now (plan .entry)) (now (parts .entry)) r ⌝ }
 {
-    answers::tell_finding(plan_check::check(Terms { granule }, plan, parts))
+    answers::tell_finding(plan_check::check(Terms { edition, granule }, plan, parts))
 }
 
 #[no_mangle]
 pub extern "C" fn merkazobi_build(granule: usize, parts: &[u16], out: &mut [u16]) -> Told
     ensures { λ r. ⌜ TellsBuild granule (now (parts .entry)) (now (out .entry)) (now (out .exit)) r ⌝ }
 {
-    answers::tell_filling(plan_build::build(Terms { granule }, parts, out))
+    answers::tell_filling(plan_build::build(
+        Terms {
+            edition: 1,
+            granule,
+        },
+        parts,
+        out,
+    ))
 }
 
 #[no_mangle]
@@ -66,7 +83,7 @@ pub extern "C" fn merkazobi_counts_held(
     start: usize,
     length: usize,
 ) -> Told
-    ensures { λ r. ⌜ TellsHeld (now (plan .entry)) (now (parts .entry)) (now (list .entry))
+    ensures { λ r. ⌜ TellsCounted (now (plan .entry)) (now (parts .entry)) (now (list .entry))
         partition start length r ⌝ }
 {
     answers::tell_holding(plan_counts::held(plan, parts, list, partition, start, length))
@@ -102,30 +119,38 @@ pub extern "C" fn merkazobi_counts_change(
 
 #[no_mangle]
 pub extern "C" fn merkazobi_verdict(
+    edition: usize,
     granule: usize,
     plan: &[u16],
     parts: &[u16],
     tasks: &[u16],
     place: usize,
 ) -> Told
-    ensures { λ r. ⌜ TellsVerdict granule (now (plan .entry)) (now (parts .entry)) (now (tasks .entry))
+    ensures { λ r. ⌜ TellsVerdict edition granule (now (plan .entry)) (now (parts .entry)) (now (tasks .entry))
         place r ⌝ }
 {
-    answers::tell_judged(task_verdict::verdict(Terms { granule }, plan, parts, tasks, place))
+    answers::tell_judged(task_verdict::verdict(
+        Terms { edition, granule },
+        plan,
+        parts,
+        tasks,
+        place,
+    ))
 }
 
 #[no_mangle]
 pub extern "C" fn merkazobi_plain(
+    edition: usize,
     granule: usize,
     plan: &[u16],
     parts: &[u16],
     tasks: &[u16],
     place: usize,
 ) -> Told
-    ensures { λ r. ⌜ TellsPlain granule (now (plan .entry)) (now (parts .entry)) (now (tasks .entry))
+    ensures { λ r. ⌜ TellsPlain edition granule (now (plan .entry)) (now (parts .entry)) (now (tasks .entry))
         place r ⌝ }
 {
-    answers::tell_judged(task_verdict::plain(Terms { granule }, plan, parts, tasks, place))
+    answers::tell_judged(task_verdict::plain(Terms { edition, granule }, plan, parts, tasks, place))
 }
 
 #[no_mangle]
@@ -144,16 +169,17 @@ pub extern "C" fn merkazobi_section(file: &[u8], which: usize) -> Told
 
 #[no_mangle]
 pub extern "C" fn merkazobi_write(
+    edition: usize,
     frame: usize,
     parts: &[u16],
     tasks: &[u16],
     runs: &[u16],
     out: &mut [u8],
 ) -> Told
-    ensures { λ r. ⌜ TellsWrite frame (now (parts .entry)) (now (tasks .entry)) (now (runs .entry))
+    ensures { λ r. ⌜ TellsWrite edition frame (now (parts .entry)) (now (tasks .entry)) (now (runs .entry))
         (now (out .entry)) (now (out .exit)) r ⌝ }
 {
-    answers::tell_filling(file_write::write(frame, parts, tasks, runs, out))
+    answers::tell_filling(file_write::write(edition, frame, parts, tasks, runs, out))
 }
 
 #[no_mangle]
