@@ -132,11 +132,9 @@ fn p1_checked() {
 
 /// Each edition's two engines, of the task at the last place: number, point and tick.
 fn judged(edition: u64, plan: &[u16], parts: &[u16], tasks: &[[u16; 4]]) -> [u64; 3] {
-    let engines = [verdict, plain];
-    let ask = |engine: fn(u64, u64, &[u16], &[u16], &[u16], usize) -> Answer| {
-        engine(edition, 1, plan, parts, &tasks.concat(), tasks.len())
-    };
-    let [point, tick] = engines.map(ask);
+    let numbers = tasks.concat();
+    let [point, tick] =
+        [verdict, plain].map(|engine| engine(edition, 1, plan, parts, &numbers, tasks.len()));
     assert_eq!(point.number, tick.number);
     [point.number, point.first, tick.first]
 }

@@ -36,16 +36,16 @@ pub fn good(rng: &mut Rng) -> Edition {
 }
 
 /// The same, or now and then another one, which may be refused.
-pub fn or_other(rng: &mut Rng, edition: Edition) -> u64 {
+pub fn or_other(rng: &mut Rng, edition: u64) -> u64 {
     match rng.between(0, 29) {
         0 => rng.pick(&OUTSIDE),
         1 | 2 => good(rng).number(),
-        _ => edition.number(),
+        _ => edition,
     }
 }
 
 /// A good one, or now and then one that is refused.
 pub fn some(rng: &mut Rng) -> u64 {
-    let edition = good(rng);
+    let edition = good(rng).number();
     or_other(rng, edition)
 }

@@ -144,6 +144,27 @@ fn by_its_service(
     }
 }
 
+/// Sixteen partitions in the longest frame, and a plan that repeats within it.
+pub fn of_sixteen(rng: &mut Rng, edition: Edition) -> Served {
+    let parts = tables::sixteen(rng);
+    let short = serving(rng, 1, &parts, 128).unwrap_or_default();
+    if edition == Edition::One {
+        return Served {
+            edition,
+            granule: 1,
+            plan: short.repeat(32),
+            parts,
+        };
+    }
+    // Of each tick four, so that each run has more than its switch tick.
+    let longer = short.iter().flat_map(|&owner| [owner; 4]).collect();
+    let served = by_its_service(rng, edition, 1, longer, 16);
+    Served {
+        plan: served.plan.repeat(8),
+        ..served
+    }
+}
+
 /// How many service ticks that partition has in a frame which has the fewest.
 fn fewest(edition: Edition, plan: &[u16], partitions: usize) -> usize {
     let service = Service::new(edition, plan);
