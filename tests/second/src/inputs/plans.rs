@@ -156,11 +156,11 @@ pub fn of_sixteen(rng: &mut Rng, edition: Edition) -> Served {
             parts,
         };
     }
-    // Of each tick four, so that each run has more than its switch tick.
-    let longer = short.iter().flat_map(|&owner| [owner; 4]).collect();
+    // Of each tick two, so that each run has more than its switch tick.
+    let longer = short.iter().flat_map(|&owner| [owner; 2]).collect();
     let served = by_its_service(rng, edition, 1, longer, 16);
     Served {
-        plan: served.plan.repeat(8),
+        plan: served.plan.repeat(16),
         ..served
     }
 }

@@ -241,53 +241,43 @@ fn built_and_checked(trial: &mut Trial) {
     seen.share(trial, &kinds, [1, 10]);
 }
 
-/// Any plan in runs, and a partition of it that has service in edition 2, with a cycle.
-fn some_stretch(rng: &mut Rng) -> (Vec<u16>, u16, usize) {
+/// A plan of one partition that has service in edition 2 in every stretch of a cycle, and the cycle.
+fn some_stretch(rng: &mut Rng) -> (Vec<u16>, usize) {
     loop {
         let ticks = rng.between(1, 40);
         let longest = rng.pick(&[2, 6, 40]);
-        let plan = plans::in_runs_up_to(rng, ticks, 2, longest);
-        let p = rng.between(1, 2) as u16;
+        let plan = plans::in_runs_up_to(rng, ticks, 1, longest);
         let m = rng.between(1, ticks);
-        if Service::new(Edition::Two, &plan).least(p, m as u32) > 0 {
-            return (plan, p, m);
+        if Service::new(Edition::Two, &plan).least(1, m as u32) > 0 {
+            return (plan, m);
         }
     }
 }
 
-/// A share of just so many ticks as every stretch of the cycle holds in edition 2, and a tick more,
-/// which edition 1 may still hold. The other partition is left out of the plan.
+/// Shares of just so many ticks as every stretch of the cycle holds, by each edition, and of a tick
+/// more.
 fn just_enough(trial: &mut Trial) {
     let mut seen = Seen::default();
     for _ in trial.cases(6000) {
-        let (mut plan, p, m) = some_stretch(&mut trial.rng);
-        for owner in &mut plan {
-            *owner = u16::from(*owner == p);
-        }
-        let service = Service::new(Edition::Two, &plan);
-        let least = service.least(1, m as u32);
-        let start = (0..plan.len()).find(|&start| service.count(1, start, m as u64) == least);
-        for wanted in [least, least + 1] {
-            let parts = [m, wanted as usize, m].map(|number| number as u16);
+        let (plan, m) = some_stretch(&mut trial.rng);
+        let least = Edition::BOTH.map(|edition| Service::new(edition, &plan).least(1, m as u32));
+        for wanted in [least[0], least[0] + 1, least[1], least[1] + 1] {
             if wanted > m as u64 {
                 continue;
             }
-            let [one, two] = [1, 2].map(|edition| compare_check(trial, edition, 1, &plan, &parts));
-            let values = [1, start.unwrap_or(0) as u64, least, wanted];
-            let short = match wanted > least {
-                true => Answer::new(9, values),
-                false => Answer::good([0; 4]),
-            };
-            trial.same((&plan, parts), two, short);
-            seen.count(format!("{} in edition 1, {} in 2", one.number, two.number));
+            let parts = [m, wanted as usize, m].map(|number| number as u16);
+            let numbers = [1, 2].map(|edition| {
+                let answer = compare_check(trial, edition, 1, &plan, &parts);
+                let short = answer.number == 9;
+                trial.same((&plan, parts), short && answer.third < wanted, short);
+                answer.number
+            });
+            let wants = least.map(|least| if wanted > least { 9 } else { 0 });
+            trial.same((&plan, parts), numbers, wants);
+            seen.count(format!("{numbers:?}"));
         }
     }
-    let kinds = [
-        "0 in edition 1, 0 in 2",
-        "0 in edition 1, 9 in 2",
-        "9 in edition 1, 9 in 2",
-    ];
-    seen.share(trial, &kinds, [1, 20]);
+    seen.share(trial, &["[0, 0]", "[0, 9]", "[9, 9]"], [1, 5]);
 }
 
 const ONLY_IN_1: &str = "passes in edition 1 only";
@@ -314,7 +304,7 @@ fn never_easier(trial: &mut Trial) {
         }
     }
     seen.share(trial, &["pass", "fail", "9"], [1, 4]);
-    seen.share(trial, &[ONLY_IN_1, LATER], [1, 4]);
+    seen.share(trial, &[ONLY_IN_1, LATER], [1, 20]);
 }
 
 fn held_together(trial: &Trial, input: &Input, one: Judged, two: Judged, seen: &mut Seen) {

@@ -158,7 +158,7 @@ fn good_tables(trial: &mut Trial) {
             serves(trial, &table, &answer);
         }
     }
-    seen.share(trial, &["a plan", "refused 9"], [1, 5]);
+    seen.share(trial, &["a plan", "refused 9"], [1, 10]);
     let shapes = [
         "one run",
         "many runs",
@@ -187,8 +187,8 @@ fn full_and_one_tick_more(trial: &mut Trial) {
     seen.share(trial, &["a plan", "refused 9", "refused 11"], [1, 20]);
 }
 
-/// A cycle that one partition wants all of, which is what a plan of edition 2 is built for; and one that
-/// is a tick longer.
+/// A cycle that one partition wants all of, which is what a plan of edition 2 is built for; and all but
+/// one tick of it, of which another one is spent on switching.
 fn one_run(trial: &mut Trial) {
     let mut seen = Seen::default();
     for case in trial.cases(3000) {
@@ -207,12 +207,15 @@ fn one_run(trial: &mut Trial) {
             tasks: tables::tasks(rng, tasks, 1, 4096),
         };
         both_editions(trial, &texts::plain(&table), &mut seen);
-        table.parts[0] += 1;
-        let words = some_words(&mut trial.rng);
-        seen.note(&compare(trial, words, &texts::plain(&table)));
+        let m = trial.rng.between(2, 1000) as u16;
+        table.granule = None;
+        table.parts = vec![m, m - 1, m];
+        let short = compare(trial, TWO, &texts::plain(&table));
+        let values = format!("start 0 held {} wanted {}", m - 2, m - 1);
+        let line = format!("refused 9 partition 1 {values}\n").into_bytes();
+        trial.same(&table, short, line);
     }
     seen.share(trial, &["a plan of edition 2"], [4, 5]);
-    seen.share(trial, &["refused 9", "refused 11"], [1, 20]);
 }
 
 /// A plan of one run: the two files differ in their first number alone.

@@ -76,7 +76,8 @@ pub fn deadlines_and_the_frame(trial: &mut Trial) {
     }
     seen.share(trial, &["pass", "fail", PAST], [1, 5]);
     seen.share(trial, &[BELOW], [1, 10]);
-    seen.share(trial, &PLANS, [1, 10]);
+    // Runs of one tick serve nobody in edition 2.
+    seen.share(trial, &PLANS, [1, 20]);
 }
 
 const PRIMES: [usize; 14] = [2, 3, 5, 7, 11, 13, 17, 19, 23, 29, 31, 37, 41, 43];
