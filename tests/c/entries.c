@@ -467,6 +467,9 @@ static void edition_service(void)
     ends("least in edition 2", least(2, 2, 14), told(0, 2));
     ends("least in edition 2, a tick more", least(2, 2, 15), told(0, 3));
     ends("least in edition 2, of idle and switch ticks", least(2, 0, 8), told(0, 6));
+    const size_t whole = 2 * (size_t)(UINT32_MAX / TICKS);
+    ends("held of the longest in edition 2", held(2, 2, 4, UINT32_MAX), told(0, whole + 1));
+    ends("least of the longest in edition 2", least(2, 2, UINT32_MAX), told(0, whole + 1));
     memcpy(wanted.curve, two, sizeof two);
     ends("curve in edition 2", curve_in(2, 2, 15, 16), told(0, 16));
     memcpy(wanted.curve, nobody, sizeof nobody);

@@ -196,9 +196,10 @@ fn one_run(trial: &mut Trial) {
         let granule = granules::good(rng);
         let most = if case % 100 == 0 { 4096 } else { 160 };
         let cycle = granule as usize * rng.between(1, most / granule as usize);
-        let [num, den] = match cycle as u64 == granule {
-            true => tables::share(rng),
-            false => [1, 1],
+        let [num, den] = if cycle as u64 == granule {
+            tables::share(rng)
+        } else {
+            [1, 1]
         };
         let tasks = rng.pick(&[0, 1, 3]);
         let mut table = ShareTable {
