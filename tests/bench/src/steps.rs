@@ -1,6 +1,6 @@
 //! The library's own method once more, in Rust: a partition's curve of least service, walked once from
-//! behind each of its runs, and what its higher tasks ask, kept up by steps. It is given good tables:
-//! of what tells against a plan only 9 is looked for.
+//! behind each of its runs that serve it, and what its higher tasks ask, kept up by steps. It is given
+//! good tables: of what tells against a plan only 9 is looked for.
 
 use second::records::{self, Partition, Task};
 use second::{file, ticks, Answer};
@@ -57,7 +57,7 @@ pub fn draw<const EDITION: u64>(plan: &[u16], p: u16, list: &mut [u32]) {
         *least = t;
     }
     for start in 0..plan.len() {
-        if start == 0 || plan[start] != p && plan[start - 1] == p {
+        if start == 0 || plan[start] != p && rule::own::<EDITION>(plan, start - 1, p) {
             lower::<EDITION>(plan, p, start, frame);
         }
     }
