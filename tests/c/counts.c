@@ -168,6 +168,8 @@ static void stretches(void)
     ends("of length 0", held(whole, 2, 7, 0), told(0, 0));
     ends("as long as the frame", held(whole, 2, 3, TICKS), told(0, 3));
     ends("from a longer list", held(longer, 2, 3, TICKS), told(0, 3));
+    /* "Ask 2 goes on counting owned ticks." */
+    ends("of which so many are service in edition 2", merkazobi_held(2, lent.plan, TICKS, 2, 3, TICKS), told(0, 2));
     for (uint16_t p = 1; p <= PARTS / 3; p++)
         for (uint32_t s = 0; s < TICKS; s++)
             for (uint32_t n = 0; n <= TICKS; n++)
