@@ -2,7 +2,8 @@
    object that is loaded before it (`tools/x86 run --preload`), this takes over its `main`, its reads and its writes.
    Calls of the entry PLAN come in on standard input, and for each of them `main` runs once. The slices are the text and
    what is written for it, the plain numbers how many bytes one read hands over at most and one write takes; the answer
-   is the status, how many bytes were written to standard output, and how many to standard error. */
+   is the status, how many bytes were written to standard output, and how many to standard error. The planner's words are
+   those of the process, the same for each call: it keeps them when it is loaded. */
 #define _GNU_SOURCE
 #include <dlfcn.h>
 #include <unistd.h>
@@ -14,6 +15,7 @@ typedef int start_function(main_function *run, int argc, char **argv, void (*fir
                            void (*unload)(void), void *stack_end);
 
 static main_function *planner;
+static int word_count;
 static char **words;
 
 /* What is left of the text, and what was written so far. */
@@ -62,14 +64,14 @@ static merkazobi_answer answer(size_t entry, const size_t *given, const slice *o
     text = of[0].at, text_left = of[0].lent, most_read = given[0];
     out = of[1].at, out_left = of[1].lent, most_written = given[1];
     written = said = 0;
-    const int status = planner(1, words, environ);
-    return (merkazobi_answer){(size_t)status, written, said, 0, 0};
+    const int status = planner(word_count, words, environ);
+    return (merkazobi_answer){(size_t)status, written, said, 0, 0, 0};
 }
 
 static int plan_again(int argc, char **argv, char **environment)
 {
-    (void)argc, (void)environment;
-    words = argv;
+    (void)environment;
+    word_count = argc, words = argv;
     return answer_batches();
 }
 

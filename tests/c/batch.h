@@ -2,7 +2,7 @@
    ends, and go out again on standard output with the answers put in. A batch is a number of bytes and then so many
    bytes, which are calls one behind the other. All numbers of a call are of 8 bytes, low byte first:
 
-     the entry, four plain numbers, five places for the answer, how many slices are lent, and for each slice
+     the entry, four plain numbers, six places for the answer, how many slices are lent, and for each slice
      how many elements are lent, how wide one is, how many bytes stand there, and the bytes, filled up to 8.
 
    A call works right in the batch. So what comes back shows also what it did to all that was lent, and to the bytes
@@ -13,7 +13,7 @@
 
 #include "merkazobi.h"
 
-_Static_assert(sizeof(size_t) == 8 && sizeof(merkazobi_answer) == 40, "the numbers of a call are the library's own");
+_Static_assert(sizeof(size_t) == 8 && sizeof(merkazobi_answer) == 6 * 8, "the numbers of a call are the library's own");
 
 enum {
     WANTS,
@@ -37,7 +37,7 @@ enum {
     PLAN,
     ENTRIES
 };
-enum { PLAIN_NUMBERS = 4, MOST_SLICES = 5 };
+enum { PLAIN_NUMBERS = 4, ANSWER_NUMBERS = 6, MOST_SLICES = 5 };
 
 /* How wide the elements of each entry's slices are; 0 where it lends no more. */
 static const size_t widths[ENTRIES][MOST_SLICES + 1] = {
@@ -107,7 +107,7 @@ static void answer_next(rest *batch)
 {
     const size_t entry = *take(batch, 1);
     const size_t *given = take(batch, PLAIN_NUMBERS);
-    size_t *place = take(batch, 5);
+    size_t *place = take(batch, ANSWER_NUMBERS);
     const size_t slices = *take(batch, 1);
     if (entry >= ENTRIES)
         give_up("no such entry");

@@ -20,16 +20,18 @@ int main()
     uint16_t plan[MERKAZOBI_FRAME];
     const size_t frame = merkazobi_build(1, parts, 9, plan, MERKAZOBI_FRAME).first;
     expect("P1", frame, 8);
-    expect("accepted", merkazobi_check(1, plan, frame, parts, 9).number, MERKAZOBI_GOOD);
-    expect("V1", merkazobi_verdict(1, plan, frame, parts, 9, tasks, 8, 1).first, 8);
-    expect("V2", merkazobi_verdict(1, plan, frame, parts, 9, tasks, 8, 2).first, 0);
-    expect("V1, tick by tick", merkazobi_plain(1, plan, frame, parts, 9, tasks, 8, 1).first, 7);
-    expect("V2, tick by tick", merkazobi_plain(1, plan, frame, parts, 9, tasks, 8, 2).first, 0);
+    expect("accepted", merkazobi_check(1, 1, plan, frame, parts, 9).number, MERKAZOBI_GOOD);
+    expect("V1", merkazobi_verdict(1, 1, plan, frame, parts, 9, tasks, 8, 1).first, 8);
+    expect("V2", merkazobi_verdict(1, 1, plan, frame, parts, 9, tasks, 8, 2).first, 0);
+    expect("V1, tick by tick", merkazobi_plain(1, 1, plan, frame, parts, 9, tasks, 8, 1).first, 7);
+    expect("V2, tick by tick", merkazobi_plain(1, 1, plan, frame, parts, 9, tasks, 8, 2).first, 0);
+    expect("with the switch tick", merkazobi_check(2, 1, plan, frame, parts, 9).number, MERKAZOBI_SERVICE);
 
     static uint8_t file[MERKAZOBI_FILE_BYTES];
     static uint8_t text[MERKAZOBI_LISTING_BYTES];
-    const size_t bytes = merkazobi_write(frame, parts, 9, tasks, 8, runs, 10, file, sizeof file).first;
+    const size_t bytes = merkazobi_write(1, frame, parts, 9, tasks, 8, runs, 10, file, sizeof file).first;
     const size_t length = merkazobi_list(file, bytes, text, sizeof text).first;
+    expect("the edition", merkazobi_read(file, bytes).fifth, 1);
     expect("the listing's length", length, sizeof listing - 1);
     expect("the listing", memcmp(text, listing, length) == 0, 1);
     return failures != 0;

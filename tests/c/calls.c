@@ -6,17 +6,36 @@ static merkazobi_answer only(size_t number)
     return (merkazobi_answer){.first = number};
 }
 
-/* A plan, or the task at a place by one of the two engines; granule and place are handed on in their whole width. */
-static merkazobi_answer judged(size_t entry, size_t granule, size_t place, const slice *of)
+/* Service in a plan; the edition is handed on in its whole width. */
+static merkazobi_answer served(size_t entry, const size_t *given, const slice *of)
+{
+    const slice plan = of[0], list = of[1];
+    const size_t edition = given[0];
+    const uint16_t p = (uint16_t)given[1];
+    const uint32_t three = (uint32_t)given[2], four = (uint32_t)given[3];
+    switch (entry) {
+    case HELD:
+        return merkazobi_held(edition, plan.at, plan.lent, p, three, four);
+    case LEAST:
+        return merkazobi_least(edition, plan.at, plan.lent, p, three);
+    default:
+        return merkazobi_curve(edition, plan.at, plan.lent, p, three, list.at, list.lent);
+    }
+}
+
+/* A plan, or the task at a place by one of the two engines; all that is given is handed on in its whole width. */
+static merkazobi_answer judged(size_t entry, const size_t *given, const slice *of)
 {
     const slice plan = of[0], parts = of[1], tasks = of[2];
+    const size_t edition = given[0], granule = given[1], place = given[2];
     switch (entry) {
     case CHECK:
-        return merkazobi_check(granule, plan.at, plan.lent, parts.at, parts.lent);
+        return merkazobi_check(edition, granule, plan.at, plan.lent, parts.at, parts.lent);
     case VERDICT:
-        return merkazobi_verdict(granule, plan.at, plan.lent, parts.at, parts.lent, tasks.at, tasks.lent, place);
+        return merkazobi_verdict(edition, granule, plan.at, plan.lent, parts.at, parts.lent, tasks.at, tasks.lent,
+                                 place);
     default:
-        return merkazobi_plain(granule, plan.at, plan.lent, parts.at, parts.lent, tasks.at, tasks.lent, place);
+        return merkazobi_plain(edition, granule, plan.at, plan.lent, parts.at, parts.lent, tasks.at, tasks.lent, place);
     }
 }
 
@@ -46,17 +65,15 @@ static merkazobi_answer answer(size_t entry, const size_t *given, const slice *o
     case WANTS:
         return only(merkazobi_wants(one, (uint16_t)two, (uint16_t)three, (uint16_t)four));
     case HELD:
-        return only(merkazobi_held(of[0].at, of[0].lent, (uint16_t)one, (uint32_t)two, (uint32_t)three));
     case LEAST:
-        return only(merkazobi_least(of[0].at, of[0].lent, (uint16_t)one, (uint32_t)two));
     case CURVE:
-        return merkazobi_curve(of[0].at, of[0].lent, (uint16_t)one, (uint32_t)two, of[1].at, of[1].lent);
+        return served(entry, given, of);
     case BUILD:
         return merkazobi_build(one, of[0].at, of[0].lent, of[1].at, of[1].lent);
     case CHECK:
     case VERDICT:
     case PLAIN:
-        return judged(entry, one, two, of);
+        return judged(entry, given, of);
     case COUNTS_FILL:
     case COUNTS_HELD:
     case COUNTS_HELD_MANY:
@@ -67,7 +84,7 @@ static merkazobi_answer answer(size_t entry, const size_t *given, const slice *o
     case SECTION:
         return merkazobi_section(of[0].at, of[0].lent, one);
     case WRITE:
-        return merkazobi_write(one, of[0].at, of[0].lent, of[1].at, of[1].lent, of[2].at, of[2].lent, of[3].at,
+        return merkazobi_write(one, two, of[0].at, of[0].lent, of[1].at, of[1].lent, of[2].at, of[2].lent, of[3].at,
                                of[3].lent);
     case LIST:
         return merkazobi_list(of[0].at, of[0].lent, of[1].at, of[1].lent);

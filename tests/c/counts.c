@@ -1,4 +1,4 @@
-/* The four entries over running counts, as entries.c has the others: all five numbers of each answer, and all that is
+/* The four entries over running counts, as entries.c has the others: all six numbers of each answer, and all that is
    lent, after the call. Refusal numbers are those of document 02, not taken from the header. */
 #include "expect.h"
 #include "merkazobi.h"
@@ -168,10 +168,12 @@ static void stretches(void)
     ends("of length 0", held(whole, 2, 7, 0), told(0, 0));
     ends("as long as the frame", held(whole, 2, 3, TICKS), told(0, 3));
     ends("from a longer list", held(longer, 2, 3, TICKS), told(0, 3));
+    /* "Ask 2 goes on counting owned ticks." */
+    ends("of which so many are service in edition 2", merkazobi_held(2, lent.plan, TICKS, 2, 3, TICKS), told(0, 2));
     for (uint16_t p = 1; p <= PARTS / 3; p++)
         for (uint32_t s = 0; s < TICKS; s++)
             for (uint32_t n = 0; n <= TICKS; n++)
-                ends("as by walking", held(whole, p, s, n), told(0, merkazobi_held(lent.plan, TICKS, p, s, n)));
+                ends("as by walking", held(whole, p, s, n), merkazobi_held(1, lent.plan, TICKS, p, s, n));
 }
 
 static void stretch_refusals(void)
@@ -194,7 +196,7 @@ static void ask_all(void)
         for (uint16_t s = 0; s < TICKS; s++)
             for (uint16_t n = 0; n <= TICKS; n++, k++) {
                 SET(questions[3 * k], p), SET(questions[3 * k + 1], s), SET(questions[3 * k + 2], n);
-                wanted.answers[k] = (uint16_t)merkazobi_held(lent.plan, TICKS, p, s, n);
+                wanted.answers[k] = (uint16_t)merkazobi_held(1, lent.plan, TICKS, p, s, n).first;
             }
     ends("every stretch", held_many(whole, 3 * STRETCHES, STRETCHES), told(0, STRETCHES));
 }
@@ -228,13 +230,13 @@ static void question_refusals(void)
     ends("answers too short", held_many(whole, 12, 3), told(12, 0));
     ends("no room for answers", held_many(whole, 12, 0), told(12, 0));
     SET(questions[11], TICKS + 1);
-    ends("the fourth too long", held_many(whole, 12, 4), (merkazobi_answer){26, 0, 4, 0, 0});
+    ends("the fourth too long", held_many(whole, 12, 4), (merkazobi_answer){26, 0, 4, 0, 0, 0});
     SET(questions[4], TICKS);
-    ends("the second past the end", held_many(whole, 12, 4), (merkazobi_answer){26, 0, 2, 0, 0});
+    ends("the second past the end", held_many(whole, 12, 4), (merkazobi_answer){26, 0, 2, 0, 0, 0});
     SET(questions[9], 0);
-    ends("the fourth of partition 0", held_many(whole, 12, 4), (merkazobi_answer){8, 0, 4, 0, 0});
+    ends("the fourth of partition 0", held_many(whole, 12, 4), (merkazobi_answer){8, 0, 4, 0, 0, 0});
     SET(questions[6], 4);
-    ends("the third of partition 4", held_many(whole, 12, 4), (merkazobi_answer){8, 0, 3, 0, 0});
+    ends("the third of partition 4", held_many(whole, 12, 4), (merkazobi_answer){8, 0, 3, 0, 0, 0});
 }
 
 /* As above, with what only many questions have: a 12 for the answers and a 3 for the questions. */
@@ -247,7 +249,7 @@ static void question_refusals_in_order(void)
     ends("20 before 26", held_many(whole, 12, 4), told(20, 0));
     ends("the answers' 12 before 20", held_many(whole, 12, 3), told(12, 0));
     SET(questions[9], 4);
-    ends("8 with place 0 before 12", held_many(whole, 12, 3), (merkazobi_answer){8, 0, 4, 0, 0});
+    ends("8 with place 0 before 12", held_many(whole, 12, 3), (merkazobi_answer){8, 0, 4, 0, 0, 0});
     SET(parts[6], TICKS + 1);
     ends("6 before 8", held_many(whole, 12, 3), told(6, 3));
     ends("3 before 6", held_many(whole, 11, 3), told(3, 0));

@@ -1,4 +1,4 @@
-/* Each entry, but for those over running counts (counts.c), with all five numbers of its answers, and with all that is
+/* Each entry, but for those over running counts (counts.c), with all six numbers of its answers, and with all that is
    lent to it: after a call there stands what it is to write, and else what stood there before, in the inputs and behind
    the outputs too. Examples and refusal numbers are those of documents 01 and 02; the numbers are not taken from the
    header, which limits.c tries against the library. */
@@ -96,27 +96,41 @@ static void wants(void)
         expect(cases[i].what, merkazobi_wants(cases[i].granule, cases[i].m, cases[i].num, cases[i].den), cases[i].ticks);
 }
 
+static merkazobi_answer held(size_t edition, uint16_t p, uint32_t s, uint32_t n)
+{
+    return merkazobi_held(edition, lent.plan, TICKS, p, s, n);
+}
+
+static merkazobi_answer least(size_t edition, uint16_t p, uint32_t t)
+{
+    return merkazobi_least(edition, lent.plan, TICKS, p, t);
+}
+
 static void service(void)
 {
     begin();
-    expect("held", merkazobi_held(lent.plan, TICKS, 2, 1, 4), 3);
-    expect("held across the end", merkazobi_held(lent.plan, TICKS, 2, 3, 8), 3);
-    expect("held from past the end", merkazobi_held(lent.plan, TICKS, 2, 11, 6), 1);
-    expect("held idle", merkazobi_held(lent.plan, TICKS, 0, 5, 11), 4);
+    ends("held", held(1, 2, 1, 4), told(0, 3));
+    ends("held across the end", held(1, 2, 3, 8), told(0, 3));
+    ends("held from past the end", held(1, 2, 11, 6), told(0, 1));
+    ends("held idle", held(1, 0, 5, 11), told(0, 4));
     const uint32_t times[] = {0, 5, 8, 13, 14};
-    const size_t least[] = {0, 0, 3, 3, 4};
+    const size_t s1[] = {0, 0, 3, 3, 4};
     for (size_t i = 0; i < 5; i++)
-        expect("S1", merkazobi_least(lent.plan, TICKS, 2, times[i]), least[i]);
+        ends("S1", least(1, 2, times[i]), told(0, s1[i]));
     /* As long as can be asked for: whole frames, and seven ticks. */
     const size_t whole = 3 * (size_t)(UINT32_MAX / TICKS);
-    expect("held of the longest", merkazobi_held(lent.plan, TICKS, 2, 4, UINT32_MAX), whole + 2);
-    expect("least of the longest", merkazobi_least(lent.plan, TICKS, 2, UINT32_MAX), whole + 2);
-    ends("held and least", told(0, 0), told(0, 0));
+    ends("held of the longest", held(1, 2, 4, UINT32_MAX), told(0, whole + 2));
+    ends("least of the longest", least(1, 2, UINT32_MAX), told(0, whole + 2));
+}
+
+static merkazobi_answer curve_in(size_t edition, uint16_t p, uint32_t n, size_t list_numbers)
+{
+    return merkazobi_curve(edition, lent.plan, TICKS, p, n, lent.curve, list_numbers);
 }
 
 static merkazobi_answer curve(uint16_t p, uint32_t n, size_t list_numbers)
 {
-    return merkazobi_curve(lent.plan, TICKS, p, n, lent.curve, list_numbers);
+    return curve_in(1, p, n, list_numbers);
 }
 
 static void curves(void)
@@ -125,7 +139,7 @@ static void curves(void)
     static const uint32_t idle[] = {0, 0, 0, 0, 0, 0, 0, 1, 2, 2};
     begin();
     ends("curve, a number less", curve(2, 14, 14), told(12, 0));
-    ends("curve, no list", merkazobi_curve(lent.plan, TICKS, 2, 0, NULL, 0), told(12, 0));
+    ends("curve, no list", merkazobi_curve(1, lent.plan, TICKS, 2, 0, NULL, 0), told(12, 0));
     ends("curve of the longest", curve(2, UINT32_MAX, 3 * TICKS), told(12, 0));
     memcpy(wanted.curve, s1, sizeof s1);
     ends("curve, S1", curve(2, 14, 15), told(0, 15));
@@ -135,7 +149,7 @@ static void curves(void)
     ends("curve of a partition without a tick", curve(9, 3, 4), told(0, 4));
     for (uint32_t t = 0; t < 3; t++)
         wanted.curve[t] = t;
-    ends("curve of no plan's idle ticks", merkazobi_curve(NULL, 0, 0, 2, lent.curve, 3), told(0, 3));
+    ends("curve of no plan's idle ticks", merkazobi_curve(1, NULL, 0, 0, 2, lent.curve, 3), told(0, 3));
 }
 
 static merkazobi_answer build_by(size_t granule, size_t part_numbers, size_t ticks)
@@ -176,9 +190,14 @@ static void build_refusals(void)
     ends("build, 6", build(PARTS, TICKS), told(6, 2));
 }
 
+static merkazobi_answer check_in(size_t edition, size_t granule, size_t ticks, size_t part_numbers)
+{
+    return merkazobi_check(edition, granule, lent.plan, ticks, lent.parts, part_numbers);
+}
+
 static merkazobi_answer check_by(size_t granule, size_t ticks, size_t part_numbers)
 {
-    return merkazobi_check(granule, lent.plan, ticks, lent.parts, part_numbers);
+    return check_in(1, granule, ticks, part_numbers);
 }
 
 static merkazobi_answer check(size_t ticks, size_t part_numbers)
@@ -199,19 +218,20 @@ static void checks(void)
     begin();
     PUT(plan, p5);
     SET(parts[2], 2);
-    ends("P5", check(TICKS, 3), (merkazobi_answer){9, 1, 1, 1, 2});
+    ends("P5", check(TICKS, 3), (merkazobi_answer){9, 1, 1, 1, 2, 0});
     begin();
     PUT(plan, short_plan);
     PUT(parts, short_parts);
-    ends("check, 9", check(10, 6), (merkazobi_answer){9, 2, 3, 4, 5});
+    ends("check, 9", check(10, 6), (merkazobi_answer){9, 2, 3, 4, 5, 0});
 }
 
 /* Either engine. */
-typedef merkazobi_answer engine(size_t, const uint16_t *, size_t, const uint16_t *, size_t, const uint16_t *, size_t, size_t);
+typedef merkazobi_answer engine(size_t, size_t, const uint16_t *, size_t, const uint16_t *, size_t, const uint16_t *,
+                                size_t, size_t);
 
 static merkazobi_answer judged(engine *judge, size_t task_numbers, size_t place)
 {
-    return judge(1, lent.plan, TICKS, lent.parts, PARTS, lent.tasks, task_numbers, place);
+    return judge(1, 1, lent.plan, TICKS, lent.parts, PARTS, lent.tasks, task_numbers, place);
 }
 
 /* v1 and v2: where the tasks of V1 and V2 pass. */
@@ -235,7 +255,8 @@ static void verdicts(const char *name, engine *judge, size_t v1, size_t v2)
     begin();
     PUT(plan, short_plan);
     PUT(parts, short_parts);
-    ends("verdict, 9", judge(1, lent.plan, 10, lent.parts, 6, lent.tasks, TASKS, 1), (merkazobi_answer){9, 2, 3, 4, 5});
+    ends("verdict, 9", judge(1, 1, lent.plan, 10, lent.parts, 6, lent.tasks, TASKS, 1),
+         (merkazobi_answer){9, 2, 3, 4, 5, 0});
     if (failures > before)
         printf("so answered %s\n", name);
 }
@@ -253,17 +274,17 @@ static void granules(void)
     ends("P1 in granules of 2", build_by(2, PARTS, TICKS), told(11, 0));
     memcpy(wanted.ticks, in_twos, sizeof in_twos);
     ends("two partitions in granules of 2", build_by(2, 6, TICKS), told(0, 8));
-    ends("P1 checked in granules of 2", check_by(2, TICKS, PARTS), (merkazobi_answer){9, 1, 0, 1, 2});
-    ends("a granule above the cycle", check_by(5, TICKS, PARTS), (merkazobi_answer){9, 1, 0, 1, 5});
+    ends("P1 checked in granules of 2", check_by(2, TICKS, PARTS), (merkazobi_answer){9, 1, 0, 1, 2, 0});
+    ends("a granule above the cycle", check_by(5, TICKS, PARTS), (merkazobi_answer){9, 1, 0, 1, 5, 0});
     ends("a granule above the cycle, built", build_by(5, 3, TICKS), told(11, 0));
     SET(parts[1], 4);
-    ends("a whole cycle in granules of 3", check_by(3, TICKS, PARTS), (merkazobi_answer){9, 1, 0, 1, 6});
+    ends("a whole cycle in granules of 3", check_by(3, TICKS, PARTS), (merkazobi_answer){9, 1, 0, 1, 6, 0});
     ends("a whole cycle in granules of 3, built", build_by(3, 3, TICKS), told(11, 0));
     SET(parts[1], 1);
     PUT(plan, in_twos);
     ends("checked with the same granule", check_by(2, TICKS, 6), told(0, 0));
     ends("checked with 1", check_by(1, TICKS, 6), told(0, 0));
-    ends("checked with another", check_by(3, TICKS, 6), (merkazobi_answer){9, 1, 0, 2, 3});
+    ends("checked with another", check_by(3, TICKS, 6), (merkazobi_answer){9, 1, 0, 2, 3, 0});
 }
 
 /* "g outside 1 to 16 is 21, after 3, and changes no output byte": before 6, 7, 8, 9 and 12, in its whole width. */
@@ -277,8 +298,8 @@ static void granule_refusals(engine *judge)
         ends("build, 3 before 21", build_by(g, 0, TICKS), told(3, 0));
         ends("check, 21", check_by(g, TICKS, PARTS), told(21, 0));
         ends("check, 3 before 21", check_by(g, 0, PARTS), told(3, 0));
-        ends("verdict, 21", judge(g, lent.plan, TICKS, lent.parts, PARTS, lent.tasks, TASKS, 0), told(21, 0));
-        ends("verdict, 3 before 21", judge(g, lent.plan, TICKS, lent.parts, PARTS, lent.tasks, 1, 1), told(3, 0));
+        ends("verdict, 21", judge(1, g, lent.plan, TICKS, lent.parts, PARTS, lent.tasks, TASKS, 0), told(21, 0));
+        ends("verdict, 3 before 21", judge(1, g, lent.plan, TICKS, lent.parts, PARTS, lent.tasks, 1, 1), told(3, 0));
     }
 }
 
@@ -287,11 +308,11 @@ static void granule_refusals(engine *judge)
 static void granule_verdicts(engine *judge, size_t passes)
 {
     begin();
-    const merkazobi_answer nine = judge(2, lent.plan, TICKS, lent.parts, PARTS, lent.tasks, TASKS, 1);
-    ends("a verdict in granules of 2", nine, (merkazobi_answer){9, 1, 0, 1, 2});
+    const merkazobi_answer nine = judge(1, 2, lent.plan, TICKS, lent.parts, PARTS, lent.tasks, TASKS, 1);
+    ends("a verdict in granules of 2", nine, (merkazobi_answer){9, 1, 0, 1, 2, 0});
     PUT(plan, ((uint16_t[]){1, 1, 2, 2, 1, 1, 2, 2}));
     for (size_t g = 1; g <= 2; g++)
-        ends("a pass", judge(g, lent.plan, TICKS, lent.parts, 6, lent.tasks, TASKS, 1), told(0, passes));
+        ends("a pass", judge(1, g, lent.plan, TICKS, lent.parts, 6, lent.tasks, TASKS, 1), told(0, passes));
 }
 
 /* The largest sum: fifteen partitions of cycle 1 want 16 of every tick, 15 * 16 * 4,096 + 4,096 together, which is
@@ -317,7 +338,7 @@ static const struct {
     merkazobi_answer told;
 } refused[] = {
     {0, 1, 15, {.number = 1}},
-    {0, 2, FILE_BYTES, {.number = 2}},
+    {0, 3, FILE_BYTES, {.number = 2}},
     {1, 0, FILE_BYTES, {.number = 3}},
     {4, 36, FILE_BYTES, {.number = 4}},
     {0, 1, FILE_BYTES + 1, {.number = 5}},
@@ -342,12 +363,12 @@ static merkazobi_answer section(size_t which, size_t bytes)
 static void reads(void)
 {
     begin();
-    ends("read", merkazobi_read(lent.file, FILE_BYTES), (merkazobi_answer){0, 8, 3, 2, 5});
+    ends("read", merkazobi_read(lent.file, FILE_BYTES), (merkazobi_answer){0, 8, 3, 2, 5, 1});
     PUT(file, w1);
-    ends("W1", merkazobi_read(lent.file, sizeof w1), (merkazobi_answer){0, 4, 2, 1, 2});
-    ends("W1, partitions", section(0, sizeof w1), (merkazobi_answer){0, 16, 28, 0, 0});
-    ends("W1, tasks", section(1, sizeof w1), (merkazobi_answer){0, 28, 36, 0, 0});
-    ends("W1, runs", section(2, sizeof w1), (merkazobi_answer){0, 36, 44, 0, 0});
+    ends("W1", merkazobi_read(lent.file, sizeof w1), (merkazobi_answer){0, 4, 2, 1, 2, 1});
+    ends("W1, partitions", section(0, sizeof w1), (merkazobi_answer){0, 16, 28, 0, 0, 0});
+    ends("W1, tasks", section(1, sizeof w1), (merkazobi_answer){0, 28, 36, 0, 0, 0});
+    ends("W1, runs", section(2, sizeof w1), (merkazobi_answer){0, 36, 44, 0, 0, 0});
     ends("W1, no such part", section(3, sizeof w1), told(0, 0));
     ends("W1, no such part either", section(SIZE_MAX, sizeof w1), told(0, 0));
     for (size_t i = 0; i < REFUSED; i++) {
@@ -358,9 +379,14 @@ static void reads(void)
     }
 }
 
+static merkazobi_answer write_in(size_t edition, size_t frame, size_t bytes)
+{
+    return merkazobi_write(edition, frame, lent.parts, PARTS, lent.tasks, TASKS, lent.runs, RUNS, lent.out, bytes);
+}
+
 static merkazobi_answer write_out(size_t frame, size_t bytes)
 {
-    return merkazobi_write(frame, lent.parts, PARTS, lent.tasks, TASKS, lent.runs, RUNS, lent.out, bytes);
+    return write_in(1, frame, bytes);
 }
 
 static void writes(void)
@@ -371,7 +397,7 @@ static void writes(void)
     PUT(tasks, w1_tasks);
     PUT(runs, w1_runs);
     memcpy(wanted.out, w1, sizeof w1);
-    ends("W1 written", merkazobi_write(4, lent.parts, 6, lent.tasks, 4, lent.runs, 4, lent.out, sizeof w1),
+    ends("W1 written", merkazobi_write(1, 4, lent.parts, 6, lent.tasks, 4, lent.runs, 4, lent.out, sizeof w1),
          told(0, 44));
     begin();
     memcpy(wanted.out, lent.file, FILE_BYTES);
@@ -421,6 +447,147 @@ static void listings(void)
     lists("the listing of a plan that doesn't serve", FILE_BYTES, "refused 9\n");
 }
 
+/* ---- Editions: "the first tick of a run is spent on switching when the tick before belongs to another partition or to
+   idle, the frame's end joined to its start". */
+
+static const size_t no_editions[] = {0, 3, 4, 65537, 65538, ((size_t)1 << 32) + 1, ((size_t)1 << 32) + 2, SIZE_MAX};
+enum { NO_EDITIONS = sizeof no_editions / sizeof *no_editions };
+
+/* P1 in edition 2: partition 2 is served in the ticks 2 and 3, no other one ever. */
+static void edition_service(void)
+{
+    static const uint32_t two[] = {0, 0, 0, 0, 0, 0, 0, 1, 2, 2, 2, 2, 2, 2, 2, 3};
+    static const uint32_t nobody[] = {0, 0, 0, 1, 2, 3, 4, 5, 6, 6};
+    begin();
+    ends("held in edition 2", held(2, 2, 1, 4), told(0, 2));
+    ends("held in edition 2, from a switch tick on", held(2, 2, 1, 1), told(0, 0));
+    ends("held in edition 2, across the end", held(2, 2, 3, 8), told(0, 2));
+    ends("held in edition 2, of switch ticks alone", held(2, 1, 0, 800), told(0, 0));
+    ends("held in edition 2, of idle and switch ticks", held(2, 0, 0, 8), told(0, 6));
+    ends("least in edition 2", least(2, 2, 14), told(0, 2));
+    ends("least in edition 2, a tick more", least(2, 2, 15), told(0, 3));
+    ends("least in edition 2, of idle and switch ticks", least(2, 0, 8), told(0, 6));
+    const size_t whole = 2 * (size_t)(UINT32_MAX / TICKS);
+    ends("held of the longest in edition 2", held(2, 2, 4, UINT32_MAX), told(0, whole + 1));
+    ends("least of the longest in edition 2", least(2, 2, UINT32_MAX), told(0, whole + 1));
+    memcpy(wanted.curve, two, sizeof two);
+    ends("curve in edition 2", curve_in(2, 2, 15, 16), told(0, 16));
+    memcpy(wanted.curve, nobody, sizeof nobody);
+    ends("curve in edition 2, of idle and switch ticks", curve_in(2, 0, 9, 3 * TICKS), told(0, 10));
+}
+
+/* The frame's end joined to its start, one run, and runs of one tick. */
+static void edition_ends(void)
+{
+    static const uint16_t joined[TICKS] = {1, 1, 2, 2, 0, 0, 1, 1}, turns[TICKS] = {1, 2, 1, 2, 1, 2, 1, 2};
+    static const uint16_t one_run[TICKS] = {7, 7, 7, 7, 7, 7, 7, 7};
+    begin();
+    PUT(plan, joined);
+    ends("no switch at the frame's start", held(2, 1, 0, 1), told(0, 1));
+    ends("a switch behind idle ticks", held(2, 1, 6, 1), told(0, 0));
+    ends("a frame of both", held(2, 1, 0, TICKS), told(0, 3));
+    PUT(plan, turns);
+    ends("runs of one tick", held(2, 1, 0, TICKS), told(0, 0));
+    ends("runs of one tick serve nobody", least(2, 0, TICKS), told(0, 8));
+    ends("one tick", merkazobi_held(2, lent.plan, 1, 1, 0, 5), told(0, 5));
+    PUT(plan, one_run);
+    ends("one run", least(2, 7, 5), told(0, 5));
+}
+
+/* Good in edition 1; in edition 2 the ticks 2 to 6 serve partition 2, and of the seven from tick 3 on four do. */
+static const uint16_t switch_parts[] = {8, 1, 8, 7, 5, 7};
+static const uint16_t switch_plan[TICKS] = {1, 2, 2, 2, 2, 2, 2, 1};
+
+static void edition_checks(void)
+{
+    begin();
+    ends("P1 in edition 2", check_in(2, 1, TICKS, PARTS), (merkazobi_answer){9, 1, 0, 0, 1, 0});
+    PUT(plan, switch_plan);
+    PUT(parts, switch_parts);
+    ends("good in edition 1", check_in(1, 1, TICKS, 6), told(0, 0));
+    ends("9 in edition 2", check_in(2, 1, TICKS, 6), (merkazobi_answer){9, 2, 3, 4, 5, 0});
+    SET(parts[4], 4);
+    ends("good in edition 2", check_in(2, 1, TICKS, 6), told(0, 0));
+    SET(parts[0], 7);
+    ends("9 of partition 1", check_in(2, 1, TICKS, 6), (merkazobi_answer){9, 1, 1, 0, 1, 0});
+}
+
+/* Partition 2 of P1 alone: any 8 ticks hold two, and any 16 four, of which some 15 have three. passes: where the first
+   task does in edition 1, which in edition 2 is at 8. */
+static void edition_verdicts(engine *judge, size_t passes)
+{
+    static const uint16_t alone[TICKS] = {0, 1, 1, 1, 0, 0, 0, 0}, its_tasks[TASKS] = {1, 2, 8, 16, 1, 2, 14, 32};
+    const size_t ticks[] = {passes, 8}, last[] = {14, 0};
+    begin();
+    PUT(plan, alone);
+    PUT(tasks, its_tasks);
+    SET(parts[0], 8);
+    for (size_t e = 1; e <= 2; e++) {
+        ends("an edition's pass", judge(e, 1, lent.plan, TICKS, lent.parts, 3, lent.tasks, TASKS, 1), told(0, ticks[e - 1]));
+        ends("in edition 2 a fail", judge(e, 1, lent.plan, TICKS, lent.parts, 3, lent.tasks, TASKS, 2), told(0, last[e - 1]));
+    }
+    SET(tasks[6], 16);
+    ends("an edition's later pass", judge(2, 1, lent.plan, TICKS, lent.parts, 3, lent.tasks, TASKS, 2), told(0, 16));
+    PUT(plan, switch_plan);
+    PUT(parts, switch_parts);
+    ends("a verdict's 9 in edition 2", judge(2, 1, lent.plan, TICKS, lent.parts, 6, lent.tasks, TASKS, 1),
+         (merkazobi_answer){9, 2, 3, 4, 5, 0});
+}
+
+/* "2 now means neither 1 nor 2, in a call too": before all else, in its whole width, and no output is changed. */
+static void edition_refusals(engine *judge)
+{
+    for (size_t i = 0; i < NO_EDITIONS; i++) {
+        const size_t e = no_editions[i];
+        begin();
+        ends("held, 2", held(e, 2, 1, 4), told(2, 0));
+        ends("least, 2", least(e, 2, 8), told(2, 0));
+        ends("curve, 2", curve_in(e, 2, 14, 15), told(2, 0));
+        ends("curve, 2 before 12", curve_in(e, 2, 14, 14), told(2, 0));
+        ends("check, 2", check_in(e, 1, TICKS, PARTS), told(2, 0));
+        ends("check, 2 before 3", check_in(e, 17, 0, PARTS), told(2, 0));
+        ends("check, 2 before 21", check_in(e, 17, TICKS, PARTS), told(2, 0));
+        ends("verdict, 2", judge(e, 1, lent.plan, TICKS, lent.parts, PARTS, lent.tasks, TASKS, 1), told(2, 0));
+        ends("verdict, 2 before 3", judge(e, 17, lent.plan, TICKS, lent.parts, PARTS, lent.tasks, 1, 0), told(2, 0));
+        ends("verdict, 2 before 21", judge(e, 17, lent.plan, TICKS, lent.parts, PARTS, lent.tasks, TASKS, 0), told(2, 0));
+        ends("write, 2", write_in(e, TICKS, FILE_BYTES), told(2, 0));
+        ends("write, 2 before 3", write_in(e, 0, 0), told(2, 0));
+        ends("write, 2 before 12", write_in(e, TICKS, 0), told(2, 0));
+    }
+}
+
+/* "Files say edition 2; edition 1 files keep their rule for good, and we must read and write both." */
+static void edition_files(void)
+{
+    begin_file(0, 2);
+    ends("read in edition 2", merkazobi_read(lent.file, FILE_BYTES), (merkazobi_answer){0, 8, 3, 2, 5, 2});
+    ends("a section in edition 2", section(1, FILE_BYTES), (merkazobi_answer){0, 34, 50, 0, 0, 0});
+    memcpy(wanted.out, lent.file, FILE_BYTES);
+    ends("written in edition 2", write_in(2, TICKS, FILE_BYTES), told(0, FILE_BYTES));
+    for (uint16_t number = 0; number < 600; number += number == 0 ? 3 : 1) {
+        begin_file(0, number);
+        ends("a file of another edition", merkazobi_read(lent.file, FILE_BYTES), told(2, 0));
+        ends("its sections", section(number % 4, FILE_BYTES), told(2, 0));
+    }
+}
+
+/* W1 in edition 2 with shares of a quarter: any four ticks hold one of each partition, and any three need not. */
+static void edition_listings(void)
+{
+    static const char w1_in_2[] = "frame 4\n"
+                                  "partition 1 wants 1 in 4 least 1\n"
+                                  "partition 2 wants 1 in 4 least 1\n"
+                                  "task 1 partition 1 pass 4 tick 4\n";
+    begin_file(0, 2);
+    lists("P1's listing in edition 2", FILE_BYTES, "refused 9\n");
+    begin();
+    PUT(file, w1);
+    SET(file[1], 2);
+    lists("W1's listing in edition 2", sizeof w1, "refused 9\n");
+    SET(file[21], 4), SET(file[27], 4);
+    lists("W1's listing in edition 2, of smaller shares", sizeof w1, w1_in_2);
+}
+
 /* ---- The desk. */
 
 static const merkazobi_job d1[] = {{10, 3, 20, 6}, {15, 5, 24, 4}, {30, 2, 40, 8}};
@@ -465,13 +632,13 @@ static void requests(void)
     static const merkazobi_job d4[] = {{10, 3, 20, 6}, {15, 5, 24, 4}, {20, 9, 40, 9}, {30, 2, 40, 8}};
     begin_desk(0, d1, 3);
     stand(&wanted, 8, d2, 4);
-    ends("D2", request(8, 6, 16), (merkazobi_answer){0, 0, 8, 0, 0});
+    ends("D2", request(8, 6, 16), (merkazobi_answer){0, 0, 8, 0, 0, 0});
     begin_desk(0, d1, 3);
     stand(&wanted, 8, d3, 4);
-    ends("D3", request(8, 8, 40), (merkazobi_answer){0, 0, 8, 0, 0});
+    ends("D3", request(8, 8, 40), (merkazobi_answer){0, 0, 8, 0, 0, 0});
     begin_desk(0, d1, 3);
     stand(&wanted, 8, d4, 4);
-    ends("D4", request(8, 9, 40), (merkazobi_answer){0, 2, 20, 0, 0});
+    ends("D4", request(8, 9, 40), (merkazobi_answer){0, 2, 20, 0, 0, 0});
 }
 
 /* "place l is tried too, also when the table is empty or no job follows: it is taken when s + C <= d" */
@@ -484,19 +651,19 @@ static void requests_at_the_last_place(void)
     static const merkazobi_job alone_early[] = {{7, 5, 20, 8}};
     begin_desk(0, d1, 3);
     stand(&wanted, 25, d6, 2);
-    ends("D6", request(25, 4, 29), (merkazobi_answer){0, 0, 25, 0, 0});
+    ends("D6", request(25, 4, 29), (merkazobi_answer){0, 0, 25, 0, 0, 0});
     begin_desk(0, &d1[2], 1);
     stand(&wanted, 30, behind, 2);
-    ends("behind the last job", request(30, 9, 41), (merkazobi_answer){0, 1, 32, 0, 0});
+    ends("behind the last job", request(30, 9, 41), (merkazobi_answer){0, 1, 32, 0, 0, 0});
     begin_desk(0, NULL, 0);
     stand(&wanted, 7, alone, 1);
-    ends("in an empty table", request(7, 5, 12), (merkazobi_answer){0, 0, 7, 0, 0});
+    ends("in an empty table", request(7, 5, 12), (merkazobi_answer){0, 0, 7, 0, 0, 0});
     begin_desk(0, &d1[2], 1);
     stand(&wanted, 30, behind_early, 2);
-    ends("behind the last job, time to spare", request(30, 9, 45), (merkazobi_answer){0, 1, 32, 0, 0});
+    ends("behind the last job, time to spare", request(30, 9, 45), (merkazobi_answer){0, 1, 32, 0, 0, 0});
     begin_desk(0, NULL, 0);
     stand(&wanted, 7, alone_early, 1);
-    ends("in an empty table, time to spare", request(7, 5, 20), (merkazobi_answer){0, 0, 7, 0, 0});
+    ends("in an empty table, time to spare", request(7, 5, 20), (merkazobi_answer){0, 0, 7, 0, 0, 0});
 }
 
 /* "13, 14, 15 and 19 change nothing at the desk." */
@@ -556,6 +723,15 @@ int main(void)
     writes();
     write_refusals();
     listings();
+    edition_service();
+    edition_ends();
+    edition_checks();
+    edition_verdicts(merkazobi_verdict, 8);
+    edition_verdicts(merkazobi_plain, 7);
+    edition_refusals(merkazobi_verdict);
+    edition_refusals(merkazobi_plain);
+    edition_files();
+    edition_listings();
     opens();
     requests();
     requests_at_the_last_place();

@@ -1,5 +1,5 @@
 /* What callers share that lend all their memory in one piece, a `memory` of their own: what is lent, what has to stand
-   there after the call, and both held against each other, with all five numbers of an answer. */
+   there after the call, and both held against each other, with all six numbers of an answer. */
 #include <string.h>
 
 enum { PATTERN = 0xA5 };
@@ -13,8 +13,8 @@ static memory lent, wanted;
 static void ends(const char *what, merkazobi_answer r, merkazobi_answer told)
 {
     if (memcmp(&r, &told, sizeof r) != 0) {
-        printf("%s: %zu (%zu %zu %zu %zu), not %zu (%zu %zu %zu %zu)\n", what, r.number, r.first, r.second, r.third,
-               r.fourth, told.number, told.first, told.second, told.third, told.fourth);
+        printf("%s: %zu (%zu %zu %zu %zu %zu), not %zu (%zu %zu %zu %zu %zu)\n", what, r.number, r.first, r.second,
+               r.third, r.fourth, r.fifth, told.number, told.first, told.second, told.third, told.fourth, told.fifth);
         failures++;
     }
     const uint8_t *found = (const uint8_t *)&lent, *stands = (const uint8_t *)&wanted;
@@ -29,5 +29,5 @@ static void ends(const char *what, merkazobi_answer r, merkazobi_answer told)
 
 static merkazobi_answer told(size_t number, size_t first)
 {
-    return (merkazobi_answer){number, first, 0, 0, 0};
+    return (merkazobi_answer){number, first, 0, 0, 0, 0};
 }

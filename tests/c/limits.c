@@ -11,6 +11,10 @@ static uint16_t parts[MERKAZOBI_PART_NUMBERS * (MERKAZOBI_PARTITIONS + 1)];
 static uint16_t tasks[MERKAZOBI_TASK_NUMBERS * (MERKAZOBI_TASKS + 1)];
 static uint16_t runs[MERKAZOBI_RUN_NUMBERS * (MERKAZOBI_RUNS + 1)];
 static uint16_t plan[MERKAZOBI_FRAME + 1];
+/* What serves in edition 2: two ticks each, of which one is spent on switching. */
+static uint16_t pair_parts[MERKAZOBI_PART_NUMBERS * MERKAZOBI_PARTITIONS];
+static uint16_t pair_runs[MERKAZOBI_RUNS];
+static uint16_t pairs[MERKAZOBI_FRAME];
 static uint16_t list[MERKAZOBI_COUNT_NUMBERS];
 static uint32_t curve[MERKAZOBI_CURVE_NUMBERS];
 static uint16_t questions[MERKAZOBI_QUESTION_NUMBERS * MERKAZOBI_PARTITIONS];
@@ -41,6 +45,12 @@ static void fill(void)
         plan[i] = (uint16_t)(1 + i % MERKAZOBI_PARTITIONS);
     for (size_t i = 0; i <= MERKAZOBI_RUNS; i++)
         memcpy(&runs[MERKAZOBI_RUN_NUMBERS * i], (uint16_t[]){plan[i % FRAME], 1}, 4);
+    for (size_t i = 0; i < FRAME; i++)
+        pairs[i] = (uint16_t)(1 + i / 2 % MERKAZOBI_PARTITIONS);
+    for (size_t i = 0; i < FRAME / 2; i++)
+        memcpy(&pair_runs[MERKAZOBI_RUN_NUMBERS * i], (uint16_t[]){pairs[2 * i], 2}, 4);
+    for (size_t i = 0; i < MERKAZOBI_PARTITIONS; i++)
+        memcpy(&pair_parts[MERKAZOBI_PART_NUMBERS * i], (uint16_t[]){32, 1, 32}, 6);
     for (size_t i = 0; i < MERKAZOBI_PARTITIONS; i++)
         memcpy(&questions[MERKAZOBI_QUESTION_NUMBERS * i], (uint16_t[]){(uint16_t)(1 + i), FRAME - 1, FRAME}, 6);
 }
@@ -55,14 +65,20 @@ static size_t built(uint16_t cycle, uint16_t num, uint16_t den)
 static size_t judged(uint16_t c, uint16_t d, uint16_t t)
 {
     const uint16_t task[] = {1, c, d, t};
-    const size_t number = merkazobi_verdict(1, plan, FRAME, parts, PARTS, task, 4, 1).number;
-    expect("the plain engine's number", merkazobi_plain(1, plan, FRAME, parts, PARTS, task, 4, 1).number, number);
+    const size_t number = merkazobi_verdict(1, 1, plan, FRAME, parts, PARTS, task, 4, 1).number;
+    expect("the plain engine's number", merkazobi_plain(1, 1, plan, FRAME, parts, PARTS, task, 4, 1).number, number);
     return number;
 }
 
 static size_t written(size_t frame, size_t part_numbers, size_t task_numbers, size_t run_numbers, size_t bytes)
 {
-    return merkazobi_write(frame, parts, part_numbers, tasks, task_numbers, runs, run_numbers, file, bytes).number;
+    return merkazobi_write(1, frame, parts, part_numbers, tasks, task_numbers, runs, run_numbers, file, bytes).number;
+}
+
+/* The longest file that serves in edition 2. */
+static size_t written_in_2(void)
+{
+    return merkazobi_write(2, FRAME, pair_parts, PARTS, tasks, TASKS, pair_runs, FRAME, file, sizeof file).first;
 }
 
 static size_t filled(size_t ticks, size_t part_numbers, size_t list_numbers)
@@ -102,15 +118,16 @@ static size_t asked(uint32_t t, uint32_t c, uint32_t d)
 
 static void limits(void)
 {
-    expect("partitions and a frame", merkazobi_check(1, plan, FRAME, parts, PARTS).number, MERKAZOBI_GOOD);
-    expect("a partition more", merkazobi_check(1, plan, FRAME, parts, PARTS + 3).number, MERKAZOBI_LIMITS);
-    expect("a tick more", merkazobi_check(1, plan, FRAME + 1, parts, PARTS).number, MERKAZOBI_LIMITS);
+    expect("partitions and a frame", merkazobi_check(1, 1, plan, FRAME, parts, PARTS).number, MERKAZOBI_GOOD);
+    expect("a partition more", merkazobi_check(1, 1, plan, FRAME, parts, PARTS + 3).number, MERKAZOBI_LIMITS);
+    expect("a tick more", merkazobi_check(1, 1, plan, FRAME + 1, parts, PARTS).number, MERKAZOBI_LIMITS);
     expect("cycle", built(MERKAZOBI_CYCLE, 1, 1), MERKAZOBI_GOOD);
     expect("a longer cycle", built(MERKAZOBI_CYCLE + 1, 1, 1), MERKAZOBI_PARTITION);
     expect("share", built(4, 1, MERKAZOBI_SHARE), MERKAZOBI_GOOD);
     expect("a finer share", built(4, 1, MERKAZOBI_SHARE + 1), MERKAZOBI_PARTITION);
-    expect("granule", merkazobi_check(MERKAZOBI_GRANULE_TICKS, plan, FRAME, parts, PARTS).number, MERKAZOBI_SERVICE);
-    expect("a larger granule", merkazobi_check(MERKAZOBI_GRANULE_TICKS + 1, plan, FRAME, parts, PARTS).number, MERKAZOBI_GRANULE);
+    expect("granule", merkazobi_check(1, MERKAZOBI_GRANULE_TICKS, plan, FRAME, parts, PARTS).number, MERKAZOBI_SERVICE);
+    expect("a larger granule", merkazobi_check(1, MERKAZOBI_GRANULE_TICKS + 1, plan, FRAME, parts, PARTS).number,
+           MERKAZOBI_GRANULE);
     expect("period", judged(1, 16, MERKAZOBI_PERIOD), MERKAZOBI_GOOD);
     expect("a longer period", judged(1, 16, MERKAZOBI_PERIOD + 1), MERKAZOBI_TASK);
     expect("the longest file", written(FRAME, PARTS, TASKS, RUNS, sizeof file), MERKAZOBI_GOOD);
@@ -120,9 +137,11 @@ static void limits(void)
     expect("a file of that length", merkazobi_read(file, sizeof file).fourth, MERKAZOBI_RUNS);
     expect("its listing", merkazobi_list(file, sizeof file, text, sizeof text).number, MERKAZOBI_GOOD);
     expect("the longest deadline's curve",
-           merkazobi_curve(plan, FRAME, 1, MERKAZOBI_PERIOD, curve, MERKAZOBI_CURVE_NUMBERS).first, MERKAZOBI_CURVE_NUMBERS);
+           merkazobi_curve(1, plan, FRAME, 1, MERKAZOBI_PERIOD, curve, MERKAZOBI_CURVE_NUMBERS).first,
+           MERKAZOBI_CURVE_NUMBERS);
     expect("a number less",
-           merkazobi_curve(plan, FRAME, 1, MERKAZOBI_PERIOD, curve, MERKAZOBI_CURVE_NUMBERS - 1).number, MERKAZOBI_OUTPUT);
+           merkazobi_curve(1, plan, FRAME, 1, MERKAZOBI_PERIOD, curve, MERKAZOBI_CURVE_NUMBERS - 1).number,
+           MERKAZOBI_OUTPUT);
     expect("places", opened(PLACES, PLACES), MERKAZOBI_GOOD);
     expect("a place more", opened(1, PLACES + 1), MERKAZOBI_TABLE);
     expect("a place less", opened(1, PLACES - 1), MERKAZOBI_TABLE);
@@ -130,6 +149,21 @@ static void limits(void)
     opened(1, PLACES);
     expect("time", asked(0, 1, MERKAZOBI_TIME), MERKAZOBI_GOOD);
     expect("a later deadline", asked(0, 1, MERKAZOBI_TIME + 1), MERKAZOBI_NUMBER);
+}
+
+/* Two editions, and neither one less nor one more. */
+static void editions(void)
+{
+    expect("edition 1", merkazobi_check(1, 1, pairs, FRAME, pair_parts, PARTS).number, MERKAZOBI_GOOD);
+    expect("edition 2", merkazobi_check(2, 1, pairs, FRAME, pair_parts, PARTS).number, MERKAZOBI_GOOD);
+    expect("edition 2, no service", merkazobi_check(2, 1, plan, FRAME, parts, PARTS).number, MERKAZOBI_SERVICE);
+    for (size_t e = 0; e <= 3; e += 3) {
+        expect("another edition, held", merkazobi_held(e, plan, FRAME, 1, 0, 1).number, MERKAZOBI_EDITION);
+        expect("another edition, least", merkazobi_least(e, plan, FRAME, 1, 1).number, MERKAZOBI_EDITION);
+        expect("another edition, check", merkazobi_check(e, 1, plan, FRAME, parts, PARTS).number, MERKAZOBI_EDITION);
+    }
+    expect("a file of edition 2", written_in_2(), 16 + 2 * (PARTS + TASKS + FRAME));
+    expect("its edition", merkazobi_read(file, 16 + 2 * (PARTS + TASKS + FRAME)).fifth, 2);
 }
 
 static void count_limits(void)
@@ -164,13 +198,13 @@ static void refusals(void)
     expect("another length", merkazobi_read(file, sizeof file - 1).number, MERKAZOBI_LENGTH);
     file[5]++;
     expect("another offset", merkazobi_read(file, sizeof file).number, MERKAZOBI_OFFSET);
-    file[1]++;
+    file[1] = 3;
     expect("another edition", merkazobi_read(file, sizeof file).number, MERKAZOBI_EDITION);
-    expect("an owner not in the table", merkazobi_check(1, plan, FRAME, parts, 3).number, MERKAZOBI_RUN);
+    expect("an owner not in the table", merkazobi_check(1, 1, plan, FRAME, parts, 3).number, MERKAZOBI_RUN);
     expect("P3", merkazobi_build(1, third, 9, out, 8).number, MERKAZOBI_TICKS);
     expect("P4", merkazobi_build(1, (uint16_t[]){4, 1, 1, 6, 1, 1}, 6, out, 8).number, MERKAZOBI_HARMONIC);
     const uint16_t p5[] = {1, 1, 0, 0, 0, 0, 1, 1};
-    const merkazobi_answer short_at_1 = merkazobi_check(1, p5, 8, (uint16_t[]){4, 1, 2}, 3);
+    const merkazobi_answer short_at_1 = merkazobi_check(1, 1, p5, 8, (uint16_t[]){4, 1, 2}, 3);
     expect("P5", short_at_1.number, MERKAZOBI_SERVICE);
     expect("P5 start", short_at_1.second, 1);
     opened(PLACES, PLACES);
@@ -185,19 +219,21 @@ static void refusals(void)
 
 static void nulls(void)
 {
-    expect("null plan", merkazobi_check(1, NULL, 0, parts, PARTS).number, MERKAZOBI_LIMITS);
+    expect("null plan", merkazobi_check(1, 1, NULL, 0, parts, PARTS).number, MERKAZOBI_LIMITS);
     expect("null table", merkazobi_build(1, NULL, 0, NULL, 0).number, MERKAZOBI_LIMITS);
     expect("null output", merkazobi_build(1, parts, 3, NULL, 0).number, MERKAZOBI_OUTPUT);
-    expect("null tasks", merkazobi_verdict(1, plan, FRAME, parts, PARTS, NULL, 0, 1).number, MERKAZOBI_TASK);
-    expect("null tasks, plain", merkazobi_plain(1, plan, FRAME, parts, PARTS, NULL, 0, 1).number, MERKAZOBI_TASK);
+    expect("null tasks", merkazobi_verdict(1, 1, plan, FRAME, parts, PARTS, NULL, 0, 1).number, MERKAZOBI_TASK);
+    expect("null tasks, plain", merkazobi_plain(1, 1, plan, FRAME, parts, PARTS, NULL, 0, 1).number, MERKAZOBI_TASK);
     expect("null file", merkazobi_read(NULL, 0).number, MERKAZOBI_FILE_SHORT);
     expect("null part", merkazobi_section(NULL, 0, 0).number, MERKAZOBI_FILE_SHORT);
     expect("null listing", merkazobi_list(NULL, 0, NULL, 0).number, MERKAZOBI_OUTPUT);
-    expect("null runs", merkazobi_write(1, parts, 3, NULL, 0, NULL, 0, NULL, 0).number, MERKAZOBI_LIMITS);
+    expect("null runs", merkazobi_write(1, 1, parts, 3, NULL, 0, NULL, 0, NULL, 0).number, MERKAZOBI_LIMITS);
     expect("null jobs", merkazobi_open(&desk, NULL, 0).number, MERKAZOBI_TABLE);
-    expect("idle ticks of no plan", merkazobi_held(NULL, 0, 0, 5, 7), 7);
-    expect("ticks of no plan", merkazobi_least(NULL, 0, 1, 7), 0);
-    expect("null curve", merkazobi_curve(NULL, 0, 0, 0, NULL, 0).number, MERKAZOBI_OUTPUT);
+    for (size_t e = 1; e <= 2; e++) {
+        expect("idle ticks of no plan", merkazobi_held(e, NULL, 0, 0, 5, 7).first, 7);
+        expect("ticks of no plan", merkazobi_least(e, NULL, 0, 1, 7).first, 0);
+        expect("null curve", merkazobi_curve(e, NULL, 0, 0, 0, NULL, 0).number, MERKAZOBI_OUTPUT);
+    }
 }
 
 static void count_nulls(void)
@@ -292,21 +328,33 @@ static void count_stack(void)
           merkazobi_counts_change(plan, FRAME, parts, PARTS, list, LIST, 0, 1U + plan[0] % MERKAZOBI_PARTITIONS));
 }
 
+/* The calls that take an edition, with a plan that serves its table in it. */
+static void stack_in(size_t edition, const uint16_t *serving, const uint16_t *table)
+{
+    STACK(HELD_STACK, MERKAZOBI_STACK, merkazobi_held(edition, serving, FRAME, 1, 7, UINT32_MAX));
+    STACK(LEAST_STACK, MERKAZOBI_STACK, merkazobi_least(edition, serving, FRAME, 1, UINT32_MAX));
+    STACK(CURVE_STACK, MERKAZOBI_STACK,
+          merkazobi_curve(edition, serving, FRAME, 1, MERKAZOBI_PERIOD, curve, MERKAZOBI_CURVE_NUMBERS));
+    STACK(CHECK_STACK, MERKAZOBI_STACK, merkazobi_check(edition, 1, serving, FRAME, table, PARTS));
+    STACK(VERDICT_STACK, MERKAZOBI_VERDICT_STACK,
+          merkazobi_verdict(edition, 1, serving, FRAME, table, PARTS, tasks, TASKS, MERKAZOBI_TASKS));
+    STACK(PLAIN_STACK, MERKAZOBI_VERDICT_STACK,
+          merkazobi_plain(edition, 1, serving, FRAME, table, PARTS, tasks, TASKS, MERKAZOBI_TASKS));
+}
+
 static void stack(void)
 {
     STACK(WANTS_STACK, MERKAZOBI_STACK, merkazobi_wants(MERKAZOBI_GRANULE_TICKS, 4096, 999, 1000));
-    STACK(HELD_STACK, MERKAZOBI_STACK, merkazobi_held(plan, FRAME, 1, 7, UINT32_MAX));
-    STACK(LEAST_STACK, MERKAZOBI_STACK, merkazobi_least(plan, FRAME, 1, UINT32_MAX));
-    STACK(CURVE_STACK, MERKAZOBI_STACK, merkazobi_curve(plan, FRAME, 1, MERKAZOBI_PERIOD, curve, MERKAZOBI_CURVE_NUMBERS));
     STACK(BUILD_STACK, MERKAZOBI_STACK, merkazobi_build(1, parts, PARTS, plan, FRAME));
-    STACK(CHECK_STACK, MERKAZOBI_STACK, merkazobi_check(1, plan, FRAME, parts, PARTS));
-    STACK(VERDICT_STACK, MERKAZOBI_VERDICT_STACK, merkazobi_verdict(1, plan, FRAME, parts, PARTS, tasks, TASKS, MERKAZOBI_TASKS));
-    STACK(PLAIN_STACK, MERKAZOBI_VERDICT_STACK, merkazobi_plain(1, plan, FRAME, parts, PARTS, tasks, TASKS, MERKAZOBI_TASKS));
+    stack_in(1, plan, parts);
+    stack_in(2, pairs, pair_parts);
     STACK(WRITE_STACK, MERKAZOBI_STACK,
-          merkazobi_write(FRAME, parts, PARTS, tasks, TASKS, runs, RUNS, file, sizeof file));
+          merkazobi_write(1, FRAME, parts, PARTS, tasks, TASKS, runs, RUNS, file, sizeof file));
     STACK(READ_STACK, MERKAZOBI_READ_STACK, merkazobi_read(file, sizeof file));
     STACK(SECTION_STACK, MERKAZOBI_READ_STACK, merkazobi_section(file, sizeof file, 2));
     STACK(LIST_STACK, MERKAZOBI_LIST_STACK, merkazobi_list(file, sizeof file, text, sizeof text));
+    const size_t bytes = written_in_2();
+    STACK(LIST_STACK, MERKAZOBI_LIST_STACK, merkazobi_list(file, bytes, text, sizeof text));
     opened(PLACES - 2, PLACES);
     STACK(OPEN_STACK, MERKAZOBI_STACK, merkazobi_open(&desk, jobs, PLACES));
     STACK(REQUEST_STACK, MERKAZOBI_STACK, merkazobi_request(&desk, jobs, PLACES, 0, 5, 100));
@@ -316,6 +364,7 @@ int main(void)
 {
     fill();
     limits();
+    editions();
     count_limits();
     refusals();
     nulls();

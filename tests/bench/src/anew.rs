@@ -3,8 +3,10 @@
 //! number is known exactly. How far that can be trusted stands in a line for each frame that was timed
 //! but the first: its time, and the time which the frame before lets expect.
 
+use second::editions::Edition;
 use second::limits::{FRAME, PARTITIONS};
-use second::{plan, Answer};
+use second::service::Service;
+use second::Answer;
 
 use crate::apart;
 use crate::files::Shape;
@@ -17,7 +19,7 @@ const FRAMES: [usize; 3] = [64, 128, 256];
 
 /// The least service of t ticks, by counting them from every start.
 fn least(ticks: &[u16], p: u16, t: usize) -> u64 {
-    plan::least(ticks, p, t as u32)
+    Service::new(Edition::One, ticks).least(p, t as u32)
 }
 
 /// The listing, and how many ticks are counted on the way to it: F·t for the least service of t ticks,
@@ -29,7 +31,7 @@ fn expected(file: &[u8]) -> (Result<String, Answer>, f64) {
         let curve = &mut curves[usize::from(p)];
         if curve.is_empty() {
             curve.resize(FRAME + 1, 0);
-            steps::draw(ticks, p, curve);
+            steps::draw::<1>(ticks, p, curve);
         }
         counted += ticks.len() * t;
         curve[t].into()
@@ -46,7 +48,7 @@ struct Timed {
 
 impl Timed {
     fn new(shape: Shape) -> Timed {
-        let file = shape.bytes();
+        let file = shape.bytes::<1>();
         let (text, counted) = expected(&file);
         let anew = || apart::list(&file, least);
         assert_eq!(anew(), text);
@@ -72,7 +74,7 @@ pub fn lines(name: &str, shape: Shape) {
         );
         print(&name, [pair[1].time, pair[0].lets_expect(pair[1].counted)]);
     }
-    let file = shape.bytes();
+    let file = shape.bytes::<1>();
     let (text, counted) = expected(&file);
     let [library, _] = beside(name, || listed(&file), || text.clone());
     let last = &timed[timed.len() - 1];

@@ -2,8 +2,10 @@
 //! it stand walking each question, by the second program and by the library, and the call's own
 //! method once more.
 
+use second::editions::Edition;
 use second::rng::Rng;
-use second::{counts, inputs::plans, plan, Answer};
+use second::service::Service;
+use second::{counts, inputs::plans, Answer};
 
 use crate::library;
 use crate::timing::line;
@@ -117,8 +119,9 @@ fn beside(name: &str, asked: &Asked, mut other: impl FnMut(&mut [u16]) -> Answer
 pub fn run() {
     let asked = Asked::new();
     let plan = &asked.plan;
-    let walked = |p, start, length| plan::held(plan, p, start, length);
-    let held = |p, start, length| library::held(plan, p, start, length);
+    let owned = Service::new(Edition::One, plan);
+    let walked = |p, start, length| owned.held(p, start, length);
+    let held = |p, start, length| library::held(1, plan, p, start, length).first;
     beside("counts, walked", &asked, |to| asked.counted(to, walked));
     beside("counts, library's held", &asked, |to| {
         asked.counted(to, held)

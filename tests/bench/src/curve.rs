@@ -6,6 +6,7 @@ use second::rng::Rng;
 use second::{plan, Answer};
 
 use crate::library;
+use crate::rule::named;
 use crate::steps;
 use crate::timing::line;
 
@@ -22,35 +23,47 @@ pub fn scattered(frame: usize, runs: usize) -> Vec<u16> {
     let plan: Vec<u16> = ticks
         .flat_map(|(owner, length)| vec![owner; length])
         .collect();
-    assert_eq!(steps::repeated(&plan, 1).len(), frame);
+    assert_eq!(steps::repeated(&plan, 1), frame);
     plan
 }
 
 /// Fills the list in by one least service for each t.
-fn each(list: &mut [u32], least: impl Fn(u32) -> u64) -> Answer {
+fn each(list: &mut [u32], least: impl Fn(u32) -> Answer) -> Answer {
     for (smallest, t) in list.iter_mut().zip(0..) {
-        *smallest = least(t) as u32;
+        *smallest = least(t).first as u32;
     }
     Answer::good([list.len() as u64, 0, 0, 0])
 }
 
 /// The library's curve beside another way to it.
-fn beside(name: &str, ticks: &[u16], n: usize, mut other: impl FnMut(&mut [u32]) -> Answer) {
+fn beside(
+    edition: u64,
+    name: &str,
+    ticks: &[u16],
+    n: usize,
+    mut other: impl FnMut(&mut [u32]) -> Answer,
+) {
     let [mut ours, mut theirs] = [vec![0; n + 1], vec![0; n + 1]];
     line(
         name,
-        || library::curve(ticks, 1, n as u32, &mut ours),
+        || library::curve(edition, ticks, 1, n as u32, &mut ours),
         || other(&mut theirs),
     );
     assert_eq!(ours, theirs, "{name}");
 }
 
-fn lines(name: &str, ticks: &[u16], n: usize) {
-    beside(&format!("curve {name}, same"), ticks, n, |to| {
-        steps::curve(ticks, 1, to)
+fn same<const EDITION: u64>(name: &str, ticks: &[u16], n: usize) {
+    let name = format!("curve {name}{}, same", named::<EDITION>());
+    beside(EDITION, &name, ticks, n, |to| {
+        steps::curve::<EDITION>(ticks, 1, to)
     });
-    beside(&format!("curve {name}, least"), ticks, n, |to| {
-        each(to, |t| library::least(ticks, 1, t))
+}
+
+fn lines(name: &str, ticks: &[u16], n: usize) {
+    same::<1>(name, ticks, n);
+    same::<2>(name, ticks, n);
+    beside(1, &format!("curve {name}, least"), ticks, n, |to| {
+        each(to, |t| library::least(1, ticks, 1, t))
     });
 }
 
@@ -58,8 +71,8 @@ pub fn run() {
     for frame in [64, 256, 1024] {
         let ticks = scattered(frame, frame / 32);
         let name = format!("curve F {frame}, runs {}", frame / 32);
-        beside(&name, &ticks, frame, |to| {
-            each(to, |t| plan::least(&ticks, 1, t))
+        beside(1, &name, &ticks, frame, |to| {
+            each(to, |t| plan::least(1, &ticks, 1, t))
         });
     }
     for runs in [1, 128, 2047] {

@@ -79,10 +79,13 @@ impl Shape {
         [partition, c, d, d].map(|number| number as u16)
     }
 
-    pub fn bytes(&self) -> Vec<u8> {
+    /// Half of all ticks may be switch ticks in edition 2, and the shares are half as large there.
+    pub fn bytes<const EDITION: u64>(&self) -> Vec<u8> {
+        let den = PARTITIONS as u16 * EDITION as u16;
         let tables = Tables {
+            edition: EDITION,
             frame: self.frame as u64,
-            parts: [self.frame as u16, 1, PARTITIONS as u16].repeat(PARTITIONS),
+            parts: [self.frame as u16, 1, den].repeat(PARTITIONS),
             tasks: (0..self.tasks).flat_map(|place| self.task(place)).collect(),
             runs: ticks::to_runs(&self.plan()),
         };

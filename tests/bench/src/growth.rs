@@ -9,8 +9,8 @@ use crate::steps;
 use crate::timing::beside;
 
 fn row(shape: Shape) {
-    let file = shape.bytes();
-    let times = beside("growth", || listed(&file), || steps::list(&file));
+    let file = shape.bytes::<1>();
+    let times = beside("growth", || listed(&file), || steps::list::<1>(&file));
     let [library, same] = times.map(|time| time / 1e6);
     let ratio = library / same;
     println!(

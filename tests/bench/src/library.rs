@@ -11,9 +11,17 @@ pub const GRANULE: u64 = 1;
 
 #[link(name = "api", kind = "static")]
 extern "C" {
-    fn merkazobi_held(plan: *const u16, ticks: usize, p: u16, s: u32, n: u32) -> usize;
-    fn merkazobi_least(plan: *const u16, ticks: usize, p: u16, t: u32) -> usize;
+    fn merkazobi_held(
+        edition: usize,
+        plan: *const u16,
+        ticks: usize,
+        p: u16,
+        s: u32,
+        n: u32,
+    ) -> Answer;
+    fn merkazobi_least(edition: usize, plan: *const u16, ticks: usize, p: u16, t: u32) -> Answer;
     fn merkazobi_curve(
+        edition: usize,
         plan: *const u16,
         ticks: usize,
         p: u16,
@@ -29,6 +37,7 @@ extern "C" {
         out_ticks: usize,
     ) -> Answer;
     fn merkazobi_check(
+        edition: usize,
         granule: usize,
         plan: *const u16,
         ticks: usize,
@@ -36,6 +45,7 @@ extern "C" {
         part_numbers: usize,
     ) -> Answer;
     fn merkazobi_verdict(
+        edition: usize,
         granule: usize,
         plan: *const u16,
         ticks: usize,
@@ -46,6 +56,7 @@ extern "C" {
         place: usize,
     ) -> Answer;
     fn merkazobi_plain(
+        edition: usize,
         granule: usize,
         plan: *const u16,
         ticks: usize,
@@ -78,17 +89,18 @@ extern "C" {
     ) -> Answer;
 }
 
-pub fn held(plan: &[u16], p: u16, s: u32, n: u32) -> u64 {
-    unsafe { merkazobi_held(plan.as_ptr(), plan.len(), p, s, n) as u64 }
+pub fn held(edition: u64, plan: &[u16], p: u16, s: u32, n: u32) -> Answer {
+    unsafe { merkazobi_held(edition as usize, plan.as_ptr(), plan.len(), p, s, n) }
 }
 
-pub fn least(plan: &[u16], p: u16, t: u32) -> u64 {
-    unsafe { merkazobi_least(plan.as_ptr(), plan.len(), p, t) as u64 }
+pub fn least(edition: u64, plan: &[u16], p: u16, t: u32) -> Answer {
+    unsafe { merkazobi_least(edition as usize, plan.as_ptr(), plan.len(), p, t) }
 }
 
-pub fn curve(plan: &[u16], p: u16, n: u32, list: &mut [u32]) -> Answer {
+pub fn curve(edition: u64, plan: &[u16], p: u16, n: u32, list: &mut [u32]) -> Answer {
     unsafe {
         merkazobi_curve(
+            edition as usize,
             plan.as_ptr(),
             plan.len(),
             p,
@@ -111,9 +123,10 @@ pub fn build(parts: &[u16], out: &mut [u16]) -> Answer {
     }
 }
 
-pub fn check(plan: &[u16], parts: &[u16]) -> Answer {
+pub fn check(edition: u64, plan: &[u16], parts: &[u16]) -> Answer {
     unsafe {
         merkazobi_check(
+            edition as usize,
             GRANULE as usize,
             plan.as_ptr(),
             plan.len(),
@@ -125,6 +138,7 @@ pub fn check(plan: &[u16], parts: &[u16]) -> Answer {
 
 type Engine = unsafe extern "C" fn(
     usize,
+    usize,
     *const u16,
     usize,
     *const u16,
@@ -134,9 +148,17 @@ type Engine = unsafe extern "C" fn(
     usize,
 ) -> Answer;
 
-fn judged(engine: Engine, plan: &[u16], parts: &[u16], tasks: &[u16], place: usize) -> Answer {
+fn judged(
+    engine: Engine,
+    edition: u64,
+    plan: &[u16],
+    parts: &[u16],
+    tasks: &[u16],
+    place: usize,
+) -> Answer {
     unsafe {
         engine(
+            edition as usize,
             GRANULE as usize,
             plan.as_ptr(),
             plan.len(),
@@ -149,12 +171,12 @@ fn judged(engine: Engine, plan: &[u16], parts: &[u16], tasks: &[u16], place: usi
     }
 }
 
-pub fn verdict(plan: &[u16], parts: &[u16], tasks: &[u16], place: usize) -> Answer {
-    judged(merkazobi_verdict, plan, parts, tasks, place)
+pub fn verdict(edition: u64, plan: &[u16], parts: &[u16], tasks: &[u16], place: usize) -> Answer {
+    judged(merkazobi_verdict, edition, plan, parts, tasks, place)
 }
 
-pub fn plain(plan: &[u16], parts: &[u16], tasks: &[u16], place: usize) -> Answer {
-    judged(merkazobi_plain, plan, parts, tasks, place)
+pub fn plain(edition: u64, plan: &[u16], parts: &[u16], tasks: &[u16], place: usize) -> Answer {
+    judged(merkazobi_plain, edition, plan, parts, tasks, place)
 }
 
 pub fn counts_held_many(

@@ -2,8 +2,9 @@
 //! `NAME  library ns/call  second ns/call  ratio`, one line each. Where the name ends in `same`, the
 //! library's own method in Rust stands in the second program's place; where it ends in `points`, the
 //! library's other engine; in `least`, its least service once for each t; in `walk`, the walk for each
-//! t in Rust; of `counts` what it says. Of the lines with `anew` anew.rs tells; `growth` is a table.
-//! The entries are named as arguments; all, where none is named.
+//! t in Rust; of `counts` what it says. Where it says `edition 2`, the switch tick is no service, for both;
+//! else it is edition 1. Of the lines with `anew` anew.rs tells; `growth` is a table. The entries are named
+//! as arguments; all, where none is named.
 
 mod anew;
 mod apart;
@@ -18,6 +19,7 @@ mod least;
 mod library;
 mod list;
 mod page;
+mod rule;
 mod steps;
 mod timing;
 mod verdict;

@@ -1,37 +1,41 @@
 //! The library's own method once more, in Rust: a partition's curve of least service, walked once from
-//! behind each of its runs, and what its higher tasks ask, kept up by steps. It is given good tables:
-//! of what tells against a plan only 9 is looked for.
+//! behind each of its runs that serve it, and what its higher tasks ask, kept up by steps. It is given
+//! good tables: of what tells against a plan only 9 is looked for.
 
 use second::records::{self, Partition, Task};
 use second::{file, ticks, Answer};
 
 use crate::page;
+use crate::rule;
 use crate::walk;
 
 /// Fewer numbers are drawn sooner than a shorter frame is found.
 const FEW: usize = 64;
 
-/// The shortest part of the plan after which the ticks of p repeat.
-pub fn repeated(plan: &[u16], p: u16) -> &[u16] {
+/// After how many ticks those of p repeat, as soon as can be. Which of them are switch ticks repeats
+/// with them.
+pub fn repeated(plan: &[u16], p: u16) -> usize {
     let own = |owner: &u16| *owner == p;
     let repeats = |m: usize| {
         let mut pairs = plan.iter().zip(&plan[m..]);
         plan.len() % m == 0 && pairs.all(|(one, later)| own(one) == own(later))
     };
     let shorter = (1..=plan.len() / 2).find(|&m| repeats(m));
-    &plan[..shorter.unwrap_or(plan.len())]
+    shorter.unwrap_or(plan.len())
 }
 
 /// Each number lowered to what as many ticks from the start on hold: up to the plan's end, and on from
 /// its beginning.
-fn lower(plan: &[u16], p: u16, start: usize, list: &mut [u32]) {
+fn lower<const EDITION: u64>(plan: &[u16], p: u16, start: usize, list: &mut [u32]) {
     let mut held = 0;
     let (behind, ahead) = plan.split_at(start);
     let (first, rest) = list.split_at_mut(ahead.len().min(list.len()));
+    let mut before = rule::before(plan, start);
     for (row, ticks) in [(first, ahead), (rest, behind)] {
         for (least, &owner) in row.iter_mut().zip(ticks) {
             *least = held.min(*least);
-            held += u32::from(owner == p);
+            held += u32::from(owner == p && (EDITION == 1 || before == p));
+            before = owner;
         }
         if let Some(last) = row.get_mut(ticks.len()) {
             *last = held.min(*last);
@@ -41,11 +45,11 @@ fn lower(plan: &[u16], p: u16, start: usize, list: &mut [u32]) {
 
 /// The least service of as many ticks as each place of the list says; behind a frame and one tick a frame
 /// more holds as much more as a frame holds.
-pub fn draw(plan: &[u16], p: u16, list: &mut [u32]) {
+pub fn draw<const EDITION: u64>(plan: &[u16], p: u16, list: &mut [u32]) {
     let plan = if list.len() < FEW {
         plan
     } else {
-        repeated(plan, p)
+        &plan[..repeated(plan, p)]
     };
     let within = list.len().min(plan.len() + 1);
     let frame = &mut list[..within];
@@ -53,8 +57,8 @@ pub fn draw(plan: &[u16], p: u16, list: &mut [u32]) {
         *least = t;
     }
     for start in 0..plan.len() {
-        if start == 0 || plan[start] != p && plan[start - 1] == p {
-            lower(plan, p, start, frame);
+        if start == 0 || plan[start] != p && rule::own::<EDITION>(plan, start - 1, p) {
+            lower::<EDITION>(plan, p, start, frame);
         }
     }
     for t in within..list.len() {
@@ -62,8 +66,8 @@ pub fn draw(plan: &[u16], p: u16, list: &mut [u32]) {
     }
 }
 
-pub fn curve(plan: &[u16], p: u16, list: &mut [u32]) -> Answer {
-    draw(plan, p, list);
+pub fn curve<const EDITION: u64>(plan: &[u16], p: u16, list: &mut [u32]) -> Answer {
+    draw::<EDITION>(plan, p, list);
     Answer::good([list.len() as u64, 0, 0, 0])
 }
 
@@ -86,9 +90,9 @@ struct Known {
 }
 
 impl Known {
-    fn new(plan: &[u16], p: u16, longest: u64) -> Known {
+    fn new<const EDITION: u64>(plan: &[u16], p: u16, longest: u64) -> Known {
         let mut curve = vec![0; longest as usize + 1];
-        draw(plan, p, &mut curve);
+        draw::<EDITION>(plan, p, &mut curve);
         let asks = vec![0; curve.len()];
         Known { curve, asks }
     }
@@ -116,9 +120,9 @@ impl Known {
 
 type Engine = fn(&Known, &Task) -> u64;
 
-fn earliest(plan: &[u16], tasks: &[Task], place: usize, engine: Engine) -> u64 {
+fn earliest<const EDITION: u64>(plan: &[u16], tasks: &[Task], place: usize, engine: Engine) -> u64 {
     let task = &tasks[place - 1];
-    let mut known = Known::new(plan, task.partition, task.d);
+    let mut known = Known::new::<EDITION>(plan, task.partition, task.d);
     for higher in &tasks[..place - 1] {
         if higher.partition == task.partition {
             add(&mut known.asks, higher);
@@ -127,33 +131,50 @@ fn earliest(plan: &[u16], tasks: &[Task], place: usize, engine: Engine) -> u64 {
     engine(&known, task)
 }
 
-fn judged(plan: &[u16], parts: &[u16], tasks: &[u16], place: usize, engine: Engine) -> Answer {
-    let served = walk::check(plan, parts);
+fn judged<const EDITION: u64>(
+    plan: &[u16],
+    parts: &[u16],
+    tasks: &[u16],
+    place: usize,
+    engine: Engine,
+) -> Answer {
+    let served = walk::check::<EDITION>(plan, parts);
     match records::tasks(tasks) {
         Ok(tasks) if served.number == 0 => {
-            Answer::good([earliest(plan, &tasks, place, engine), 0, 0, 0])
+            let earliest = earliest::<EDITION>(plan, &tasks, place, engine);
+            Answer::good([earliest, 0, 0, 0])
         }
         Ok(_) => served,
         Err(refusal) => refusal,
     }
 }
 
-pub fn verdict(plan: &[u16], parts: &[u16], tasks: &[u16], place: usize) -> Answer {
-    judged(plan, parts, tasks, place, Known::point)
+pub fn verdict<const EDITION: u64>(
+    plan: &[u16],
+    parts: &[u16],
+    tasks: &[u16],
+    place: usize,
+) -> Answer {
+    judged::<EDITION>(plan, parts, tasks, place, Known::point)
 }
 
-pub fn plain(plan: &[u16], parts: &[u16], tasks: &[u16], place: usize) -> Answer {
-    judged(plan, parts, tasks, place, Known::tick)
+pub fn plain<const EDITION: u64>(
+    plan: &[u16],
+    parts: &[u16],
+    tasks: &[u16],
+    place: usize,
+) -> Answer {
+    judged::<EDITION>(plan, parts, tasks, place, Known::tick)
 }
 
 /// Judges the tasks of one partition by one curve; each has its end at its own place.
-fn judge(plan: &[u16], p: u16, tasks: &[Task], ends: &mut [[u64; 2]]) {
+fn judge<const EDITION: u64>(plan: &[u16], p: u16, tasks: &[Task], ends: &mut [[u64; 2]]) {
     let own = |task: &Task| task.partition == p;
     let deadlines = tasks.iter().filter(|task| own(task)).map(|task| task.d);
     let Some(longest) = deadlines.max() else {
         return;
     };
-    let mut known = Known::new(plan, p, longest);
+    let mut known = Known::new::<EDITION>(plan, p, longest);
     for (task, end) in tasks.iter().zip(ends) {
         if own(task) {
             *end = [known.point(task), known.tick(task)];
@@ -162,15 +183,17 @@ fn judge(plan: &[u16], p: u16, tasks: &[Task], ends: &mut [[u64; 2]]) {
     }
 }
 
-pub fn list(bytes: &[u8]) -> Result<String, Answer> {
+/// Of a file of this edition.
+pub fn list<const EDITION: u64>(bytes: &[u8]) -> Result<String, Answer> {
     let file = file::parse(bytes)?;
+    assert_eq!(file.edition.number(), EDITION);
     let plan = ticks::of_runs(&file.runs);
-    walk::serves(&plan, &file.partitions)?;
-    let least = |(partition, p): (&Partition, u16)| walk::least(&plan, p, partition.m());
+    walk::serves::<EDITION>(&plan, &file.partitions)?;
+    let least = |(partition, p): (&Partition, u16)| walk::least::<EDITION>(&plan, p, partition.m());
     let leasts: Vec<u64> = file.partitions.iter().zip(1..).map(least).collect();
     let mut ends = vec![[0; 2]; file.tasks.len()];
     for (_, p) in file.partitions.iter().zip(1..) {
-        judge(&plan, p, &file.tasks, &mut ends);
+        judge::<EDITION>(&plan, p, &file.tasks, &mut ends);
     }
     Ok(page::text(&file, &leasts, &ends))
 }

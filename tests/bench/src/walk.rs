@@ -3,24 +3,45 @@
 //! that leaves is taken off. It is given good tables: of what tells against a plan only 9 is looked
 //! for.
 
+use std::ops::Range;
+
 use second::records::{self, Partition};
 use second::Answer;
 
-/// What the n ticks from tick 0 on hold. Whole frames are counted once.
-fn counted(plan: &[u16], p: u16, n: usize) -> u64 {
-    let own = |ticks: &[u16]| ticks.iter().filter(|&&owner| owner == p).count() as u64;
-    if n < plan.len() {
-        return own(&plan[..n]);
+use crate::rule;
+
+/// What the ticks of a range within the frame hold. In edition 1 a tick need not be told from the one
+/// before, so that several are counted at a time.
+fn within<const EDITION: u64>(plan: &[u16], p: u16, range: Range<usize>) -> u64 {
+    if EDITION == 1 {
+        let own = plan[range].iter().filter(|&&owner| owner == p);
+        return own.count() as u64;
     }
-    let (over, rest) = plan.split_at(n % plan.len());
-    let held = own(over);
-    (n / plan.len()) as u64 * (held + own(rest)) + held
+    range
+        .filter(|&tick| rule::own::<EDITION>(plan, tick, p))
+        .count() as u64
+}
+
+/// What the n ticks from tick 0 on hold. Whole frames are counted once.
+fn counted<const EDITION: u64>(plan: &[u16], p: u16, n: usize) -> u64 {
+    if n < plan.len() {
+        return within::<EDITION>(plan, p, 0..n);
+    }
+    let over = n % plan.len();
+    let held = within::<EDITION>(plan, p, 0..over);
+    let rest = within::<EDITION>(plan, p, over..plan.len());
+    (n / plan.len()) as u64 * (held + rest) + held
 }
 
 /// Tells each start with what the n ticks from there on hold, up to the first that is not `good`.
-fn walk(plan: &[u16], p: u16, n: usize, mut good: impl FnMut(usize, u64) -> bool) {
-    let own = |tick: usize| u64::from(plan[tick] == p);
-    let mut held = counted(plan, p, n);
+fn walk<const EDITION: u64>(
+    plan: &[u16],
+    p: u16,
+    n: usize,
+    mut good: impl FnMut(usize, u64) -> bool,
+) {
+    let own = |tick: usize| u64::from(rule::own::<EDITION>(plan, tick, p));
+    let mut held = counted::<EDITION>(plan, p, n);
     let mut enters = n % plan.len();
     for start in 0..plan.len() {
         if !good(start, held) {
@@ -34,9 +55,9 @@ fn walk(plan: &[u16], p: u16, n: usize, mut good: impl FnMut(usize, u64) -> bool
     }
 }
 
-pub fn least(plan: &[u16], p: u16, t: usize) -> u64 {
+pub fn least<const EDITION: u64>(plan: &[u16], p: u16, t: usize) -> u64 {
     let mut least = u64::MAX;
-    walk(plan, p, t, |_, held| {
+    walk::<EDITION>(plan, p, t, |_, held| {
         least = least.min(held);
         true
     });
@@ -48,11 +69,11 @@ pub fn wants(partition: &Partition) -> u64 {
     (u64::from(partition.num) * u64::from(partition.cycle)).div_ceil(partition.den.into())
 }
 
-pub fn serves(plan: &[u16], partitions: &[Partition]) -> Result<(), Answer> {
+pub fn serves<const EDITION: u64>(plan: &[u16], partitions: &[Partition]) -> Result<(), Answer> {
     for (partition, p) in partitions.iter().zip(1..) {
         let wanted = wants(partition);
         let mut found = Ok(());
-        walk(plan, p, partition.m(), |start, held| {
+        walk::<EDITION>(plan, p, partition.m(), |start, held| {
             if held < wanted {
                 let values = [p.into(), start as u64, held, wanted];
                 found = Err(Answer::new(9, values));
@@ -64,7 +85,8 @@ pub fn serves(plan: &[u16], partitions: &[Partition]) -> Result<(), Answer> {
     Ok(())
 }
 
-pub fn check(plan: &[u16], parts: &[u16]) -> Answer {
-    let served = records::partitions(parts).and_then(|partitions| serves(plan, &partitions));
+pub fn check<const EDITION: u64>(plan: &[u16], parts: &[u16]) -> Answer {
+    let partitions = records::partitions(parts);
+    let served = partitions.and_then(|partitions| serves::<EDITION>(plan, &partitions));
     served.map_or_else(|refusal| refusal, |()| Answer::good([0; 4]))
 }

@@ -9,9 +9,11 @@ pub struct Answer {
     pub second: u64,
     pub third: u64,
     pub fourth: u64,
+    pub fifth: u64,
 }
 
 impl Answer {
+    /// Up to four values; a fifth is told by the reader alone.
     pub fn new(number: u64, values: [u64; 4]) -> Answer {
         let [first, second, third, fourth] = values;
         Answer {
@@ -20,17 +22,19 @@ impl Answer {
             second,
             third,
             fourth,
+            fifth: 0,
         }
     }
 
     /// As they stand one behind the other.
-    pub fn numbers(&self) -> [u64; 5] {
+    pub fn numbers(&self) -> [u64; 6] {
         [
             self.number,
             self.first,
             self.second,
             self.third,
             self.fourth,
+            self.fifth,
         ]
     }
 

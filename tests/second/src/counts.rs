@@ -1,9 +1,12 @@
 //! "Running counts kept beside the plan": ask 2 of document 02. A count is never taken from the list
-//! that is lent, nor from another count: each one walks the plan.
+//! that is lent, nor from another count: each one walks the plan. "Ask 2 goes on counting owned
+//! ticks" (ask 6): no call takes an edition.
 
 use crate::answer::Answer;
+use crate::editions::Edition;
 use crate::plan;
 use crate::records::{self, Question};
+use crate::service::Service;
 
 /// Fills the list: 3, 6, 8, 12. A longer one keeps its tail.
 pub fn fill(plan: &[u16], parts: &[u16], list: &mut [u16]) -> Answer {
@@ -76,7 +79,9 @@ fn answered(
     agrees(list, &counts)?;
     let within = |one: &Question| one.start < plan.len() && one.length <= plan.len();
     each_question(questions, 26, within)?;
-    Ok(questions.iter().map(|one| walked(plan, one)).collect())
+    // Edition 1's service is every owned tick.
+    let owned = Service::new(Edition::One, plan);
+    Ok(questions.iter().map(|one| walked(&owned, one)).collect())
 }
 
 /// Gives a tick to an owner, in plan and list: 3, 6, 8, 8 with place 0, 12, 20, 26.
@@ -133,13 +138,13 @@ fn own(ticks: &[u16], p: u16) -> u16 {
 }
 
 /// The own ticks of the stretch, for a question by the rules.
-fn walked(plan: &[u16], question: &Question) -> u64 {
+fn walked(owned: &Service, question: &Question) -> u64 {
     let Question {
         partition,
         start,
         length,
     } = *question;
-    plan::held(plan, partition as u16, start as u32, length as u32)
+    owned.held(partition as u16, start as u32, length as u32)
 }
 
 /// 12.
@@ -209,7 +214,7 @@ mod tests {
     #[test]
     fn filled_by_hand() {
         let mut list = [77; 14];
-        assert_eq!(plan::check(1, &PLAN, &TABLE).number, 9);
+        assert_eq!(plan::check(1, 1, &PLAN, &TABLE).number, 9);
         assert_eq!(fill(&PLAN, &TABLE, &mut list), good(12));
         assert_eq!((&list[..12], &list[12..]), (&LIST[..], &[77, 77][..]));
         let mut short = [77; 11];

@@ -1,14 +1,15 @@
 //! The worked examples of document 01, with W1's listing as ask 4 of document 02 has it, and what
-//! its plain engine says; with granules of one tick and of more.
+//! its plain engine says; with granules of one tick and of more; and with the switch tick.
 
 mod desk;
+mod editions;
 mod granules;
 
 use crate::answer::Answer;
 use crate::builder::build;
 use crate::file::{read, section, write};
 use crate::listing::text;
-use crate::plan::{check, least};
+use crate::plan::{check, held, least};
 use crate::planner;
 use crate::verdict::{plain, verdict};
 
@@ -36,7 +37,7 @@ fn p1_p2_p3() {
     assert_eq!(built([1, 100]), (good, [&P1_PLAN[..], &[77]].concat()));
     assert_eq!(built([3, 8]), (good, vec![1, 2, 2, 2, 1, 3, 3, 3, 77]));
     assert_eq!(built([1, 2]), (Answer::refused(11), vec![77; 9]));
-    assert_eq!(check(1, &P1_PLAN, &P1_TABLE), Answer::good([0; 4]));
+    assert_eq!(check(1, 1, &P1_PLAN, &P1_TABLE), Answer::good([0; 4]));
 }
 
 #[test]
@@ -48,21 +49,23 @@ fn p4() {
 
 #[test]
 fn p5() {
-    let answer = check(1, &[1, 1, 0, 0, 0, 0, 1, 1], &[4, 1, 2]);
+    let answer = check(1, 1, &[1, 1, 0, 0, 0, 0, 1, 1], &[4, 1, 2]);
     assert_eq!(answer, Answer::new(9, [1, 1, 1, 2]));
 }
 
 #[test]
 fn s1() {
-    let found = [0, 5, 8, 13, 14].map(|t| least(&P1_PLAN, 2, t));
-    assert_eq!(found, [0, 0, 3, 3, 4]);
+    let found = [0, 5, 8, 13, 14].map(|t| least(1, &P1_PLAN, 2, t));
+    let wanted = [0, 0, 3, 3, 4].map(|count| Answer::good([count, 0, 0, 0]));
+    assert_eq!(found, wanted);
+    assert_eq!(held(1, &P1_PLAN, 2, 3, 8), Answer::good([3, 0, 0, 0]));
 }
 
 #[test]
 fn v1_v2() {
     let judged = |deadline, place| {
         let tasks = [2, 2, 8, 16, 2, 2, deadline, 32];
-        verdict(1, &P1_PLAN, &P1_TABLE, &tasks, place)
+        verdict(1, 1, &P1_PLAN, &P1_TABLE, &tasks, place)
     };
     assert_eq!(judged(13, 1), Answer::good([8, 0, 0, 0]));
     assert_eq!(judged(13, 2), Answer::good([0, 0, 0, 0]));
@@ -75,7 +78,7 @@ fn v1_v2() {
 fn both(plan: &[u16], parts: &[u16], tasks: &[[u16; 4]]) -> [u64; 2] {
     let place = tasks.len();
     [verdict, plain].map(|engine| {
-        let answer = engine(1, plan, parts, &tasks.concat(), place);
+        let answer = engine(1, 1, plan, parts, &tasks.concat(), place);
         assert_eq!(answer, Answer::good([answer.first, 0, 0, 0]));
         answer.first
     })
@@ -122,7 +125,8 @@ fn plain_in_one_tick() {
 #[test]
 fn both_engines_refuse_alike() {
     let refused = |plan: &[u16], cycle: u16, tasks: &[u16], place: usize| {
-        let answers = [verdict, plain].map(|engine| engine(1, plan, &[cycle, 1, 2], tasks, place));
+        let answers =
+            [verdict, plain].map(|engine| engine(1, 1, plan, &[cycle, 1, 2], tasks, place));
         assert_eq!(answers[0], answers[1]);
         answers[0]
     };
@@ -145,7 +149,11 @@ fn both_engines_refuse_alike() {
 
 #[test]
 fn w1() {
-    assert_eq!(read(&W1), Answer::good([4, 2, 1, 2]));
+    let wanted = Answer {
+        fifth: 1,
+        ..Answer::good([4, 2, 1, 2])
+    };
+    assert_eq!(read(&W1), wanted);
     let found = [0, 1, 2, 3].map(|which| section(&W1, which));
     let bodies = [[16, 28], [28, 36], [36, 44], [0, 0]];
     assert_eq!(
@@ -160,7 +168,7 @@ fn w1() {
     }
     let mut out = [77; 45];
     let parts = [4, 1, 2, 4, 1, 3];
-    let answer = write(4, &parts, &[1, 1, 4, 4], &[1, 2, 2, 2], &mut out);
+    let answer = write(1, 4, &parts, &[1, 1, 4, 4], &[1, 2, 2, 2], &mut out);
     assert_eq!(answer, Answer::good([44, 0, 0, 0]));
     assert_eq!((&out[..44], out[44]), (&W1[..], 77));
 }
@@ -168,7 +176,7 @@ fn w1() {
 #[test]
 fn w1_planned() {
     let text = b"partition 4 1/2\npartition 4 1/3\ntask 1 1 4 4\n";
-    assert_eq!(planner::answer(text), W1);
+    assert_eq!(planner::answer(1, text), W1);
 }
 
 #[test]

@@ -3,6 +3,7 @@
 use std::ops::Range;
 
 use crate::answer::Answer;
+use crate::editions::Edition;
 use crate::limits::{PARTITIONS, RUNS, TASKS};
 use crate::records::{self, Partition, Run, Task};
 
@@ -10,12 +11,14 @@ const CONTENTS: usize = 16;
 
 /// The numbers of the contents.
 struct Contents {
+    edition: Edition,
     frame: u64,
     counts: [usize; 3],
 }
 
 /// An accepted file, taken apart.
 pub struct PlanFile {
+    pub edition: Edition,
     pub frame: u64,
     pub partitions: Vec<Partition>,
     pub tasks: Vec<Task>,
@@ -44,9 +47,7 @@ fn contents(file: &[u8]) -> Result<Contents, Answer> {
         return Err(Answer::refused(1));
     }
     let said = numbers(&file[..CONTENTS]);
-    if said[0] != 1 {
-        return Err(Answer::refused(2));
-    }
+    let edition = Edition::of(said[0].into())?;
     let frame = u64::from(said[1]);
     let counts = [3, 5, 7].map(|at| usize::from(said[at]));
     records::frame(frame)?;
@@ -61,7 +62,11 @@ fn contents(file: &[u8]) -> Result<Contents, Answer> {
     if file.len() != bodies[2].end {
         return Err(Answer::refused(5));
     }
-    Ok(Contents { frame, counts })
+    Ok(Contents {
+        edition,
+        frame,
+        counts,
+    })
 }
 
 /// 1 to 8.
@@ -69,6 +74,7 @@ pub fn parse(file: &[u8]) -> Result<PlanFile, Answer> {
     let contents = contents(file)?;
     let [parts, tasks, runs] = bodies(contents.counts).map(|body| numbers(&file[body]));
     let plan_file = PlanFile {
+        edition: contents.edition,
         frame: contents.frame,
         partitions: records::partitions(&parts)?,
         tasks: records::tasks(&tasks)?,
@@ -86,15 +92,17 @@ fn record_rules(file: &PlanFile) -> Result<(), Answer> {
     records::run_rules(&file.runs, partitions, file.frame)
 }
 
-/// The reader: the frame and how many partitions, tasks and runs there are.
+/// The reader: the frame, how many partitions, tasks and runs there are, and the edition.
 pub fn read(file: &[u8]) -> Answer {
     match parse(file) {
-        Ok(good) => Answer::good([
-            good.frame,
-            good.partitions.len() as u64,
-            good.tasks.len() as u64,
-            good.runs.len() as u64,
-        ]),
+        Ok(good) => Answer {
+            number: 0,
+            first: good.frame,
+            second: good.partitions.len() as u64,
+            third: good.tasks.len() as u64,
+            fourth: good.runs.len() as u64,
+            fifth: good.edition.number(),
+        },
         Err(refusal) => refusal,
     }
 }
@@ -112,9 +120,16 @@ pub fn section(file: &[u8], which: u64) -> Answer {
     Answer::good([body.start as u64, body.end as u64, 0, 0])
 }
 
-/// The writer: 3, 6, 7, 8, 12. Only the file's bytes of `out` are written.
-pub fn write(frame: u64, parts: &[u16], tasks: &[u16], runs: &[u16], out: &mut [u8]) -> Answer {
-    match written(frame, parts, tasks, runs) {
+/// The writer: 2, 3, 6, 7, 8, 12. Only the file's bytes of `out` are written.
+pub fn write(
+    edition: u64,
+    frame: u64,
+    parts: &[u16],
+    tasks: &[u16],
+    runs: &[u16],
+    out: &mut [u8],
+) -> Answer {
+    match written(edition, frame, parts, tasks, runs) {
         Ok(bytes) if bytes.len() <= out.len() => {
             out[..bytes.len()].copy_from_slice(&bytes);
             Answer::good([bytes.len() as u64, 0, 0, 0])
@@ -125,17 +140,24 @@ pub fn write(frame: u64, parts: &[u16], tasks: &[u16], runs: &[u16], out: &mut [
 }
 
 /// The bytes of a plan file, or why there are none.
-pub fn written(frame: u64, parts: &[u16], tasks: &[u16], runs: &[u16]) -> Result<Vec<u8>, Answer> {
-    records::frame(frame)?;
+pub fn written(
+    edition: u64,
+    frame: u64,
+    parts: &[u16],
+    tasks: &[u16],
+    runs: &[u16],
+) -> Result<Vec<u8>, Answer> {
     let file = PlanFile {
+        edition: Edition::of(edition)?,
         frame,
         partitions: records::partitions(parts)?,
         tasks: records::tasks(tasks)?,
         runs: records::runs(runs)?,
     };
+    records::frame(frame)?;
     record_rules(&file)?;
     let counts = [file.partitions.len(), file.tasks.len(), file.runs.len()];
-    let mut said = vec![1, frame as u16];
+    let mut said = vec![edition as u16, frame as u16];
     for (body, count) in bodies(counts).iter().zip(counts) {
         said.extend([body.start as u16, count as u16]);
     }

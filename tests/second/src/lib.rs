@@ -1,4 +1,4 @@
-//! The rules of document 01 once more, with asks 1, 2, 4 and 5 of document 02, the curve of least
+//! The rules of document 01 once more, with asks 1, 2, 4, 5 and 6 of document 02, the curve of least
 //! service and the share table, by plain counting and trying, to compare the library and the
 //! planner against.
 
@@ -7,6 +7,7 @@ pub mod builder;
 pub mod counts;
 pub mod curve;
 pub mod desk;
+pub mod editions;
 pub mod file;
 pub mod inputs;
 pub mod limits;
@@ -16,6 +17,7 @@ pub mod planner;
 pub mod records;
 pub mod rng;
 pub mod runs;
+pub mod service;
 pub mod share_table;
 pub mod shares;
 pub mod ticks;

@@ -1,9 +1,10 @@
-//! "A legal run", played out at random.
+//! "A legal run", played out at random, "jobs running in service ticks only" (ask 6 of document 02).
 
 use std::collections::VecDeque;
 
 use crate::records::Task;
 use crate::rng::Rng;
+use crate::service::Service;
 
 struct Job {
     release: u64,
@@ -21,19 +22,18 @@ struct Releases {
 
 /// Whether a job of the task at `place` ever missed in one run of so many ticks. "nothing is
 /// waiting at the start, at any tick of the repeated plan".
-pub fn misses(plan: &[u16], tasks: &[Task], place: usize, ticks: u64, rng: &mut Rng) -> bool {
-    if plan.is_empty() || place == 0 || place > tasks.len() {
+pub fn misses(service: &Service, tasks: &[Task], place: usize, ticks: u64, rng: &mut Rng) -> bool {
+    if service.frame() == 0 || place == 0 || place > tasks.len() {
         return false;
     }
     let task = tasks[place - 1];
-    let start = rng.between(0, plan.len() - 1);
+    let start = rng.between(0, service.frame() - 1);
     let mut all = begin(tasks, rng);
     for now in 0..ticks {
         for one in &mut all {
             release(one, now, rng);
         }
-        let own = plan[(start + now as usize) % plan.len()] == task.partition;
-        if own {
+        if service.at(start + now as usize) == task.partition {
             run_highest(&mut all, task.partition);
         }
         // "Done within D means finished after at most D ticks from release."
@@ -99,8 +99,10 @@ fn run_highest(all: &mut [Releases], partition: u16) {
 #[cfg(test)]
 mod tests {
     use super::misses;
+    use crate::editions::Edition;
     use crate::records::Task;
     use crate::rng::Rng;
+    use crate::service::Service;
 
     const P1: [u16; 8] = [1, 2, 2, 2, 1, 3, 0, 0];
 
@@ -114,15 +116,26 @@ mod tests {
         [task(8, 16), task(second_deadline, 32)]
     }
 
-    fn missed(deadline: u64, place: usize) -> bool {
+    fn missed(edition: Edition, deadline: u64, place: usize) -> bool {
         let mut rng = Rng::new(7);
-        (0..500).any(|_| misses(&P1, &tasks(deadline), place, 200, &mut rng))
+        let service = Service::new(edition, &P1);
+        (0..500).any(|_| misses(&service, &tasks(deadline), place, 200, &mut rng))
     }
 
     #[test]
     fn a_run_shows_what_fails() {
+        let missed = |deadline, place| missed(Edition::One, deadline, place);
         assert!(missed(13, 2));
         assert!(!missed(14, 2));
         assert!(!missed(13, 1));
+    }
+
+    /// Partition 2 has two service ticks in a frame: four in any 16, and three in some 15.
+    #[test]
+    fn a_run_in_service_ticks_only() {
+        let missed = |deadline, place| missed(Edition::Two, deadline, place);
+        assert!(missed(15, 2));
+        assert!(!missed(16, 2));
+        assert!(!missed(15, 1));
     }
 }

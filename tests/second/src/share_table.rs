@@ -48,12 +48,12 @@ enum Said {
 pub enum Wrong {
     /// The first wrong line, from 1, and what was expected there first.
     Line(usize, &'static str),
-    Refused(u64),
+    Refused(Answer),
 }
 
 impl From<Answer> for Wrong {
     fn from(refusal: Answer) -> Wrong {
-        Wrong::Refused(refusal.number)
+        Wrong::Refused(refusal)
     }
 }
 
@@ -66,7 +66,7 @@ const ONCE: &str = "`granule` once, before the partitions";
 /// The records, not yet judged. "Order: an overlong text, the first wrong line".
 pub fn read(text: &[u8]) -> Result<ShareTable, Wrong> {
     if text.len() > TEXT {
-        return Err(Wrong::Refused(3));
+        return Err(Answer::refused(3).into());
     }
     let mut table = ShareTable::default();
     for (index, line) in text.split(|&byte| byte == b'\n').enumerate() {
@@ -156,6 +156,7 @@ fn number(word: &[u8]) -> Option<u16> {
 #[cfg(test)]
 mod tests {
     use super::{read, words, ShareTable, Wrong, END, KIND, NUMBER, ONCE, SLASH};
+    use crate::answer::Answer;
 
     fn parts(text: &str) -> Vec<u16> {
         read(text.as_bytes()).unwrap_or_default().parts
@@ -255,6 +256,6 @@ mod tests {
         let mut text = vec![b'x'; 65_536];
         assert_eq!(read(&text), Err(Wrong::Line(1, KIND)));
         text.push(b'x');
-        assert_eq!(read(&text), Err(Wrong::Refused(3)));
+        assert_eq!(read(&text), Err(Wrong::Refused(Answer::refused(3))));
     }
 }

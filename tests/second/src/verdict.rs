@@ -3,46 +3,61 @@
 use std::collections::BTreeSet;
 
 use crate::answer::Answer;
+use crate::editions::Edition;
 use crate::plan;
 use crate::records::{self, Task};
+use crate::service::Service;
 
-/// The verdict for the task at a place from 1: 3, 21, 6, 7, 7 with place 0, 8, 9.
-pub fn verdict(granule: u64, plan: &[u16], parts: &[u16], tasks: &[u16], place: usize) -> Answer {
-    judged(granule, plan, parts, tasks, place, passing_point)
+/// The verdict for the task at a place from 1: 2, 3, 21, 6, 7, 7 with place 0, 8, 9.
+pub fn verdict(
+    edition: u64,
+    granule: u64,
+    plan: &[u16],
+    parts: &[u16],
+    tasks: &[u16],
+    place: usize,
+) -> Answer {
+    let judged = by_the_rules(edition, granule, plan, parts, tasks, place);
+    told(judged, place, passing_point)
 }
 
 /// "a verdict he can follow with a pencil: every tick t from 1 to D, no scheduling points", with
 /// the verdict's refusals.
-pub fn plain(granule: u64, plan: &[u16], parts: &[u16], tasks: &[u16], place: usize) -> Answer {
-    judged(granule, plan, parts, tasks, place, passing_tick)
-}
-
-/// What tells from a serving plan, good tasks and a place of their table where the task passes; a
-/// fail is 0.
-type Engine = fn(&[u16], &[Task], usize) -> u64;
-
-fn judged(
+pub fn plain(
+    edition: u64,
     granule: u64,
     plan: &[u16],
     parts: &[u16],
     tasks: &[u16],
     place: usize,
-    passing: Engine,
 ) -> Answer {
-    match by_the_rules(granule, plan, parts, tasks, place) {
-        Ok(tasks) => Answer::good([passing(plan, &tasks, place), 0, 0, 0]),
+    let judged = by_the_rules(edition, granule, plan, parts, tasks, place);
+    told(judged, place, passing_tick)
+}
+
+/// The service of a plan that serves its table, and good tasks.
+type Judged = Result<(Service, Vec<Task>), Answer>;
+
+/// What tells from these and a place of the tasks' table where the task passes; a fail is 0.
+type Engine = fn(&Service, &[Task], usize) -> u64;
+
+fn told(judged: Judged, place: usize, passing: Engine) -> Answer {
+    match judged {
+        Ok((service, tasks)) => Answer::good([passing(&service, &tasks, place), 0, 0, 0]),
         Err(refusal) => refusal,
     }
 }
 
-/// The tasks of a table that can be judged at the place.
+/// What a task can be judged by at the place.
 fn by_the_rules(
+    edition: u64,
     granule: u64,
     plan: &[u16],
     parts: &[u16],
     tasks: &[u16],
     place: usize,
-) -> Result<Vec<Task>, Answer> {
+) -> Judged {
+    let edition = Edition::of(edition)?;
     let partitions = records::partitions(parts)?;
     let tasks = records::tasks(tasks)?;
     records::frame(plan.len() as u64)?;
@@ -54,14 +69,15 @@ fn by_the_rules(
         return Err(Answer::refused_at(7, 0));
     }
     records::tick_rules(plan, partitions.len())?;
-    plan::serves(granule, plan, &partitions)?;
-    Ok(tasks)
+    let service = Service::new(edition, plan);
+    plan::serves(&service, granule, &partitions)?;
+    Ok((service, tasks))
 }
 
 /// "A pass reports the smallest scheduling point that holds". Both readings are followed, and have
 /// to agree.
-pub(crate) fn passing_point(plan: &[u16], tasks: &[Task], place: usize) -> u64 {
-    let holds = holding(plan, tasks, place);
+pub(crate) fn passing_point(service: &Service, tasks: &[Task], place: usize) -> u64 {
+    let holds = holding(service, tasks, place);
     // "passes exactly when demand(t) ≤ least(t) for some t from 1 to D"
     let passes = (1..=tasks[place - 1].d).any(|t| holds(&t));
     let point = scheduling_points(tasks, place).into_iter().find(holds);
@@ -70,15 +86,15 @@ pub(crate) fn passing_point(plan: &[u16], tasks: &[Task], place: usize) -> u64 {
 }
 
 /// "It reports the smallest tick that holds, which may be below the scheduling point".
-pub(crate) fn passing_tick(plan: &[u16], tasks: &[Task], place: usize) -> u64 {
-    let holds = holding(plan, tasks, place);
+pub(crate) fn passing_tick(service: &Service, tasks: &[Task], place: usize) -> u64 {
+    let holds = holding(service, tasks, place);
     (1..=tasks[place - 1].d).find(holds).unwrap_or(0)
 }
 
 /// Whether "demand(t) ≤ least(t)", for a t up to D.
-fn holding<'a>(plan: &[u16], tasks: &'a [Task], place: usize) -> impl Fn(&u64) -> bool + 'a {
+fn holding<'a>(service: &Service, tasks: &'a [Task], place: usize) -> impl Fn(&u64) -> bool + 'a {
     let task = &tasks[place - 1];
-    let least = plan::least_up_to(plan, task.partition, task.d as usize);
+    let least = service.least_up_to(task.partition, task.d as usize);
     move |t| demand(tasks, place, *t) <= least[*t as usize]
 }
 
@@ -114,13 +130,14 @@ fn scheduling_points(tasks: &[Task], place: usize) -> BTreeSet<u64> {
 #[cfg(test)]
 mod tests {
     use super::{passing_point, passing_tick};
+    use crate::editions::Edition;
     use crate::inputs::{plans, tables};
-    use crate::plan::least;
     use crate::records::{self, Task};
     use crate::rng::Rng;
+    use crate::service::Service;
 
     /// With a pencil: each task as often as it is released before t, each stretch counted anew.
-    fn by_pencil(plan: &[u16], tasks: &[Task], place: usize) -> u64 {
+    fn by_pencil(service: &Service, tasks: &[Task], place: usize) -> u64 {
         let asked = tasks[place - 1];
         for t in 1..=asked.d {
             let mut demand = asked.c;
@@ -130,7 +147,7 @@ mod tests {
                     demand += task.c * releases;
                 }
             }
-            if demand <= least(plan, asked.partition, t as u32) {
+            if demand <= service.least(asked.partition, t as u32) {
                 return t;
             }
         }
@@ -141,18 +158,19 @@ mod tests {
     fn the_tick_is_the_one_by_pencil() {
         let mut rng = Rng::new(9);
         let [mut below, mut fail] = [0, 0];
-        for _ in 0..2000 {
+        for _ in 0..2500 {
             let frame = rng.between(1, 9);
-            let plan = plans::scattered(&mut rng, frame, 2);
+            let plan = plans::in_runs(&mut rng, frame, 2);
+            let service = Service::new(rng.pick(&Edition::BOTH), &plan);
             let numbers = tables::tasks(&mut rng, 4, 2, 30);
             let tasks = records::tasks(&numbers).unwrap_or_default();
             for place in 1..=tasks.len() {
-                let wanted = by_pencil(&plan, &tasks, place);
-                let tick = passing_tick(&plan, &tasks, place);
-                assert_eq!(tick, wanted, "{plan:?} {tasks:?} {place}");
-                let point = passing_point(&plan, &tasks, place);
+                let wanted = by_pencil(&service, &tasks, place);
+                let tick = passing_tick(&service, &tasks, place);
+                assert_eq!(tick, wanted, "{service:?} {tasks:?} {place}");
+                let point = passing_point(&service, &tasks, place);
                 let alike = tick <= point && (tick > 0) == (point > 0);
-                assert!(alike, "{plan:?} {tasks:?} {place}: {point} {tick}");
+                assert!(alike, "{service:?} {tasks:?} {place}: {point} {tick}");
                 below += u64::from(tick < point);
                 fail += u64::from(tick == 0);
             }

@@ -70,14 +70,14 @@ fn windows_anywhere() {
 
 #[test]
 fn p1_checked() {
-    assert_eq!(check(1, &P1_PLAN, &P1_TABLE), Answer::good([0; 4]));
+    assert_eq!(check(1, 1, &P1_PLAN, &P1_TABLE), Answer::good([0; 4]));
     for wanted in 2..=16 {
         let short = Answer::new(9, [1, 0, 1, wanted]);
-        assert_eq!(check(wanted, &P1_PLAN, &P1_TABLE), short);
+        assert_eq!(check(1, wanted, &P1_PLAN, &P1_TABLE), short);
     }
     // Partitions 2 and 3 alone, under other names: 3 and 1 of 8 ticks.
     let others = [0, 1, 1, 1, 0, 2, 0, 0];
-    let checked = |granule| check(granule, &others, &P1_TABLE[3..]);
+    let checked = |granule| check(1, granule, &others, &P1_TABLE[3..]);
     assert_eq!(checked(1), Answer::good([0; 4]));
     assert_eq!(checked(2), Answer::new(9, [1, 0, 3, 4]));
     assert_eq!(checked(3), Answer::new(9, [2, 0, 1, 3]));
@@ -86,7 +86,7 @@ fn p1_checked() {
 /// P5's stretches of 4 ticks hold 2, 1, 0, 1, 2, 3, 4 and 3 from the starts 0 to 7.
 #[test]
 fn p5_checked() {
-    let checked = |granule, num| check(granule, &[1, 1, 0, 0, 0, 0, 1, 1], &[4, num, 4]);
+    let checked = |granule, num| check(1, granule, &[1, 1, 0, 0, 0, 0, 1, 1], &[4, num, 4]);
     assert_eq!(checked(1, 2), Answer::new(9, [1, 1, 1, 2]));
     assert_eq!(checked(1, 1), Answer::new(9, [1, 2, 0, 1]));
     assert_eq!(checked(2, 1), Answer::new(9, [1, 1, 1, 2]));
@@ -100,8 +100,8 @@ fn more_than_a_cycle() {
     let table = [4, 1, 4, 2, 1, 2];
     let judged = |ticks: &[u16]| {
         let tasks = [2, 1, 8, 8];
-        let answers = [verdict, plain].map(|engine| engine(3, ticks, &table, &tasks, 1));
-        assert_eq!(answers, [check(3, ticks, &table); 2]);
+        let answers = [verdict, plain].map(|engine| engine(1, 3, ticks, &table, &tasks, 1));
+        assert_eq!(answers, [check(1, 3, ticks, &table); 2]);
         answers[0]
     };
     let serves_the_first = [1, 1, 1, 0, 1, 1, 1, 2];
@@ -110,7 +110,7 @@ fn more_than_a_cycle() {
     assert_eq!(judged(&later), Answer::new(9, [1, 3, 2, 3]));
     // All ticks of the cycle are not enough.
     assert_eq!(judged(&[1, 1, 1, 1]), Answer::new(9, [2, 0, 0, 3]));
-    let own = check(3, &[1, 1, 1, 1], &table[3..]);
+    let own = check(1, 3, &[1, 1, 1, 1], &table[3..]);
     assert_eq!(own, Answer::new(9, [1, 0, 2, 3]));
     assert_eq!(built(3, &table), refused(11));
     assert_eq!(built(3, &table[3..]), refused(11));
@@ -124,7 +124,7 @@ fn verdicts() {
     assert_eq!(built(2, &table), plan(&ticks));
     let judged = |granule, c| {
         let answers =
-            [verdict, plain].map(|engine| engine(granule, &ticks, &table, &[2, c, 8, 8], 1));
+            [verdict, plain].map(|engine| engine(1, granule, &ticks, &table, &[2, c, 8, 8], 1));
         answers.map(|answer| (answer.number, answer.first))
     };
     for granule in [1, 2] {
@@ -159,9 +159,9 @@ fn plans_refused_behind_3_and_before_6() {
     let [bad, good] = [[1, 0, 4, 4], [1, 1, 4, 4]];
     for granule in OUTSIDE {
         let judged = |ticks: &[u16], cycle: u16, tasks: &[u16], place: usize| {
-            [verdict, plain].map(|engine| engine(granule, ticks, &[cycle, 1, 2], tasks, place))
+            [verdict, plain].map(|engine| engine(1, granule, ticks, &[cycle, 1, 2], tasks, place))
         };
-        let checked = |ticks: &[u16], cycle: u16| check(granule, ticks, &[cycle, 1, 2]).number;
+        let checked = |ticks: &[u16], cycle: u16| check(1, granule, ticks, &[cycle, 1, 2]).number;
         assert_eq!(judged(&[1, 2], 3, &bad[..3], 0), [Answer::refused(3); 2]);
         assert_eq!(judged(&[], 3, &bad, 0), [Answer::refused(3); 2]);
         assert_eq!([checked(&[], 3), checked(&[1; 4097], 3)], [3, 3]);

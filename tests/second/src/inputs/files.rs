@@ -1,11 +1,12 @@
 //! Plan files: their tables, their bytes, and faults in the bytes.
 
-use super::{faults, plans, tables};
+use super::{editions, faults, plans, tables};
 use crate::rng::Rng;
 use crate::ticks;
 
 #[derive(Clone, Debug, PartialEq)]
 pub struct Tables {
+    pub edition: u64,
     pub frame: u64,
     pub parts: Vec<u16>,
     pub tasks: Vec<u16>,
@@ -19,7 +20,7 @@ impl Tables {
         let runs = tasks + 2 * self.tasks.len();
         let counts = [self.partitions(), self.tasks.len() / 4, self.runs.len() / 2];
         let said = [
-            1,
+            self.edition as usize,
             self.frame as usize,
             16,
             counts[0],
@@ -49,6 +50,7 @@ pub fn tables(rng: &mut Rng, longest: usize) -> Tables {
     };
     let task_count = rng.pick(&[0, 1, 2, 3, 5]);
     Tables {
+        edition: editions::good(rng).number(),
         frame: frame as u64,
         parts: tables::partitions(rng, count, frame),
         tasks: tables::tasks(rng, task_count, count, 4096),
@@ -58,10 +60,12 @@ pub fn tables(rng: &mut Rng, longest: usize) -> Tables {
 
 /// Good tables whose plan serves, with tasks that are worth judging.
 pub fn serving(rng: &mut Rng, count: usize, longest: usize, task_count: usize) -> Tables {
-    let plans::Served { plan, parts, .. } = plans::served(rng, 1, count, longest);
+    let edition = editions::good(rng);
+    let plans::Served { plan, parts, .. } = plans::served(rng, edition, 1, count, longest);
     let partitions = parts.len() / 3;
     let period = rng.pick(&[8, 40, 100]);
     Tables {
+        edition: edition.number(),
         frame: plan.len() as u64,
         tasks: tables::tasks(rng, task_count, partitions, period),
         runs: ticks::to_runs(&plan),
@@ -73,6 +77,7 @@ pub fn serving(rng: &mut Rng, count: usize, longest: usize, task_count: usize) -
 pub fn largest(rng: &mut Rng) -> Tables {
     let plan: Vec<u16> = (0..4096).map(|tick| tick % 17).collect();
     Tables {
+        edition: editions::good(rng).number(),
         frame: 4096,
         parts: tables::partitions(rng, 16, 4096),
         tasks: tables::tasks(rng, 128, 16, 4096),

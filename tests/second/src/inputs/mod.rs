@@ -1,6 +1,7 @@
 //! Seeded inputs for the comparisons.
 
 pub mod counts;
+pub mod editions;
 pub mod faults;
 pub mod files;
 pub mod granules;

@@ -1,9 +1,11 @@
 //! Plans as ticks.
 
-use super::{granules, tables};
+use super::{editions, granules, tables};
 use crate::builder;
+use crate::editions::Edition;
 use crate::limits::FRAME;
 use crate::rng::Rng;
+use crate::service::Service;
 
 /// Any owner in each tick.
 pub fn scattered(rng: &mut Rng, ticks: usize, partitions: usize) -> Vec<u16> {
@@ -50,7 +52,7 @@ pub fn one_run(ticks: usize, start: usize, length: usize, other: u16) -> Vec<u16
 }
 
 /// The builder's plan for the table, turned to another start and repeated some times within
-/// `longest`; none where the builder refuses.
+/// `longest`; none where the builder refuses. It serves in edition 1.
 pub fn serving(rng: &mut Rng, granule: u64, parts: &[u16], longest: usize) -> Option<Vec<u16>> {
     let mut out = vec![0; FRAME];
     let answer = builder::build(granule, parts, &mut out);
@@ -64,21 +66,37 @@ pub fn serving(rng: &mut Rng, granule: u64, parts: &[u16], longest: usize) -> Op
     Some(plan.repeat(times))
 }
 
-/// A plan and a table that it serves with this granule.
+/// A plan and a table that it serves in this edition with this granule.
 #[derive(Clone, Debug)]
 pub struct Served {
+    pub edition: Edition,
     pub granule: u64,
     pub plan: Vec<u16>,
     pub parts: Vec<u16>,
 }
 
-/// A serving plan for a table of up to `count` partitions, found by trying tables. The granule must
-/// not be longer than `longest`.
-pub fn served(rng: &mut Rng, granule: u64, count: usize, longest: usize) -> Served {
+/// A serving plan for a table of up to `count` partitions. The granule must not be longer than
+/// `longest`.
+pub fn served(
+    rng: &mut Rng,
+    edition: Edition,
+    granule: u64,
+    count: usize,
+    longest: usize,
+) -> Served {
+    match edition {
+        Edition::One => built(rng, granule, count, longest),
+        Edition::Two => with_switch_ticks(rng, granule, count, longest),
+    }
+}
+
+/// The builder's plan, found by trying tables.
+fn built(rng: &mut Rng, granule: u64, count: usize, longest: usize) -> Served {
     loop {
         let parts = tables::some_harmonic(rng, granule, count, longest);
         if let Some(plan) = serving(rng, granule, &parts, longest) {
             return Served {
+                edition: Edition::One,
                 granule,
                 plan,
                 parts,
@@ -87,14 +105,84 @@ pub fn served(rng: &mut Rng, granule: u64, count: usize, longest: usize) -> Serv
     }
 }
 
-/// A plan of one run, of runs of one tick, or of any runs; each partition has a tick in it.
-fn of_some_runs(rng: &mut Rng, frame: usize) -> (Vec<u16>, usize) {
+/// A run for each partition that leaves it a granule behind the switch tick, and any other runs
+/// between them: the builder's plans have switch ticks that their tables can't spare.
+fn with_switch_ticks(rng: &mut Rng, granule: u64, count: usize, longest: usize) -> Served {
+    let shortest = granule as usize + 1;
+    let partitions = rng.between(1, count.min(longest / shortest));
+    let frame = rng.between(partitions * shortest, longest);
+    let mut runs: Vec<Vec<u16>> = (1..=partitions as u16).map(|p| vec![p; shortest]).collect();
+    let mut left = frame.saturating_sub(partitions * shortest);
+    while left > 0 {
+        let length = rng.between(1, left);
+        runs.push(vec![rng.between(0, partitions) as u16; length]);
+        left -= length;
+    }
+    rng.shuffle(&mut runs);
+    let mut plan = runs.concat();
+    plan.rotate_left(rng.between(0, frame - 1));
+    if partitions == 1 && (longest < shortest || rng.one_in(4)) {
+        plan = vec![1; frame.min(longest)];
+    }
+    by_its_service(rng, Edition::Two, granule, plan, partitions)
+}
+
+/// A plan with a table that it serves; each partition has a granule of service ticks.
+fn by_its_service(
+    rng: &mut Rng,
+    edition: Edition,
+    granule: u64,
+    plan: Vec<u16>,
+    partitions: usize,
+) -> Served {
+    let service = Service::new(edition, &plan);
+    Served {
+        edition,
+        granule,
+        parts: tables::served_by(rng, granule, &service, partitions),
+        plan,
+    }
+}
+
+/// Sixteen partitions in the longest frame, and a plan that repeats within it.
+pub fn of_sixteen(rng: &mut Rng, edition: Edition) -> Served {
+    let parts = tables::sixteen(rng);
+    let short = serving(rng, 1, &parts, 128).unwrap_or_default();
+    if edition == Edition::One {
+        return Served {
+            edition,
+            granule: 1,
+            plan: short.repeat(32),
+            parts,
+        };
+    }
+    // Of each tick two, so that each run has more than its switch tick.
+    let longer = short.iter().flat_map(|&owner| [owner; 2]).collect();
+    let served = by_its_service(rng, edition, 1, longer, 16);
+    Served {
+        plan: served.plan.repeat(16),
+        ..served
+    }
+}
+
+/// How many service ticks that partition has in a frame which has the fewest.
+fn fewest(edition: Edition, plan: &[u16], partitions: usize) -> usize {
+    let service = Service::new(edition, plan);
+    let of = |p: usize| service.held(p as u16, 0, plan.len() as u32) as usize;
+    (1..=partitions).map(of).min().unwrap_or(0)
+}
+
+/// A plan of one run, of runs of one length (one tick, or two where a tick is spent on switching),
+/// or of any runs.
+fn of_some_runs(rng: &mut Rng, edition: Edition, frame: usize) -> (Vec<u16>, usize) {
     let partitions = rng.between(1, frame.min(4));
     match rng.between(0, 2) {
         0 => (vec![1; frame], 1),
         1 => {
             let idle = rng.between(0, 1);
-            let owners: Vec<u16> = (0..=partitions as u16).skip(idle).collect();
+            let owners = (0..=partitions as u16).skip(idle);
+            let length = edition.number() as usize;
+            let owners: Vec<u16> = owners.flat_map(|owner| vec![owner; length]).collect();
             let frame = frame.max(owners.len());
             (repeating(&owners, frame), partitions)
         }
@@ -109,31 +197,22 @@ fn of_some_runs(rng: &mut Rng, frame: usize) -> (Vec<u16>, usize) {
     }
 }
 
-/// A granule of which each partition has at least one in the plan.
-fn within(rng: &mut Rng, plan: &[u16], partitions: usize) -> u64 {
-    let own = |p: usize| {
-        plan.iter()
-            .filter(|owner| usize::from(**owner) == p)
-            .count()
-    };
-    let fewest = (1..=partitions).map(own).min();
-    granules::up_to(rng, fewest.unwrap_or(1))
-}
-
-/// A plan of one of several shapes, and a table that it serves.
+/// A plan of one of several shapes, and a table that it serves. Plans in which a partition has no
+/// service are passed over.
 pub fn of_some_shape(rng: &mut Rng, longest: usize) -> Served {
+    let edition = editions::good(rng);
     let frame = rng.between(1, longest);
     if rng.one_in(4) {
         let granule = granules::up_to(rng, frame);
-        return served(rng, granule, 4, frame);
+        return served(rng, edition, granule, 4, frame);
     }
-    let (plan, partitions) = of_some_runs(rng, frame);
-    let granule = within(rng, &plan, partitions);
-    let parts = tables::served_by(rng, granule, &plan, partitions);
-    Served {
-        granule,
-        plan,
-        parts,
+    loop {
+        let (plan, partitions) = of_some_runs(rng, edition, frame);
+        let fewest = fewest(edition, &plan, partitions);
+        if fewest > 0 {
+            let granule = granules::up_to(rng, fewest);
+            return by_its_service(rng, edition, granule, plan, partitions);
+        }
     }
 }
 

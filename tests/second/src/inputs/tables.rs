@@ -1,7 +1,7 @@
 //! Tables of good partitions and tasks.
 
-use crate::plan;
 use crate::rng::Rng;
+use crate::service::Service;
 use crate::shares;
 
 /// A share, in small numbers more often than up to the limit.
@@ -83,14 +83,14 @@ pub fn sixteen(rng: &mut Rng) -> Vec<u16> {
     parts
 }
 
-/// A table that the plan serves, for partitions that have a granule of ticks in it; often a
-/// partition has none beyond its share. The frame is at most 1,000 ticks.
-pub fn served_by(rng: &mut Rng, granule: u64, plan: &[u16], partitions: usize) -> Vec<u16> {
-    let frame = plan.len();
+/// A table that a plan of this service serves, for partitions that have a granule of service ticks
+/// in it; often a partition has none beyond its share. The frame is at most 1,000 ticks.
+pub fn served_by(rng: &mut Rng, granule: u64, service: &Service, partitions: usize) -> Vec<u16> {
+    let frame = service.frame();
     let granule = granule as usize;
     let mut parts = Vec::new();
     for p in 1..=partitions {
-        let granules = |m: usize| plan::least(plan, p as u16, m as u32) as usize / granule;
+        let granules = |m: usize| service.least(p as u16, m as u32) as usize / granule;
         let some = rng.between(1, frame);
         let m = if granules(some) > 0 { some } else { frame };
         let all = granules(m);

@@ -1,20 +1,20 @@
 //! Tasks for a plan: budgets about what it leaves, and deadlines and periods about its frame.
 
 use crate::limits::PERIOD;
-use crate::plan;
 use crate::rng::Rng;
+use crate::service::Service;
 
 /// What the higher tasks of a partition leave of least(D).
-fn left(plan: &[u16], tasks: &[u16], p: u16, d: usize) -> usize {
+fn left(service: &Service, tasks: &[u16], p: u16, d: usize) -> usize {
     let higher = tasks.chunks(4).filter(|task| task[0] == p);
     let demand = higher.map(|task| usize::from(task[1]) * d.div_ceil(task[3].into()));
-    let least = plan::least(plan, p, d as u32) as usize;
+    let least = service.least(p, d as u32) as usize;
     least.saturating_sub(demand.sum())
 }
 
 /// Adds a task whose budget is small, or all that is left, or a tick beside that.
-pub fn add(rng: &mut Rng, plan: &[u16], tasks: &mut Vec<u16>, [p, d, t]: [usize; 3]) {
-    let all = left(plan, tasks, p as u16, d);
+pub fn add(rng: &mut Rng, service: &Service, tasks: &mut Vec<u16>, [p, d, t]: [usize; 3]) {
+    let all = left(service, tasks, p as u16, d);
     let c = match rng.between(0, 6) {
         0 => all + 1,
         1 => all,

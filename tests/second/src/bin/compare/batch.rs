@@ -33,10 +33,13 @@ pub enum Entry {
 /// So many plain numbers stand in each call; those that it isn't given are 0.
 const PLAIN_NUMBERS: usize = 4;
 
+/// The answer's number and its five values.
+pub const ANSWER_NUMBERS: usize = 6;
+
 /// The numbers of a call: entry, given, answer, and how many slices.
 pub const GIVEN: usize = 8;
 pub const ANSWER: usize = GIVEN + PLAIN_NUMBERS * 8;
-pub const SLICES: usize = ANSWER + 5 * 8;
+pub const SLICES: usize = ANSWER + ANSWER_NUMBERS * 8;
 pub const HEAD: usize = SLICES + 8;
 
 /// What can be lent.
@@ -102,6 +105,7 @@ const UNANSWERED: Answer = Answer {
     second: u64::MAX,
     third: u64::MAX,
     fourth: u64::MAX,
+    fifth: u64::MAX,
 };
 
 /// A batch begins with its length, which stands in both from the first.

@@ -41,14 +41,14 @@ pub fn compare(
     (answer, after)
 }
 
-/// Lends just enough ticks and the most, and what was written is accepted by the checker; the
-/// refusal's number, 0 for a plan.
+/// Lends just enough ticks and the most, and what was written is accepted by the checker in edition
+/// 1; the refusal's number, 0 for a plan.
 fn compare_checked(trial: &mut Trial, granule: u64, parts: &[u16]) -> u64 {
     compare(trial, granule, parts, largest_cycle(parts));
     let (answer, out) = compare(trial, granule, parts, 4096);
     if answer.number == 0 {
         let written = &out[..answer.first as usize];
-        let checked = plan::check(granule, written, parts);
+        let checked = plan::check(1, granule, written, parts);
         trial.same((granule, parts, written), checked.number, 0);
     }
     answer.number

@@ -49,7 +49,7 @@ const PLANS: [&str; 4] = [
 ];
 
 fn note_plan(seen: &mut Seen, lent: &Lent) {
-    let serves = plan::check(1, &lent.plan, &lent.parts).number == 0;
+    let serves = plan::check(1, 1, &lent.plan, &lent.parts).number == 0;
     let is = [serves, !serves, lent.frame() == 1, lent.partitions() == 16];
     for (_, kind) in is.iter().zip(PLANS).filter(|(is, _)| **is) {
         seen.count(kind.to_string());

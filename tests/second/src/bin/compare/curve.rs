@@ -1,12 +1,13 @@
 //! The curve of least service: the library against the second program.
 
 use second::inputs::faults::EDGES;
-use second::inputs::{plans, tables};
+use second::inputs::{editions, plans, tables};
 use second::rng::Rng;
 use second::{curve, plan, Answer};
 
 use crate::batch::Entry;
 use crate::seen::{kind, Seen};
+use crate::service::compare_least;
 use crate::trial::{Named, Trial};
 
 pub const TRIALS: &[Named] = &[
@@ -41,32 +42,46 @@ fn before(rng: &mut Rng, numbers: usize) -> Vec<u32> {
 }
 
 /// Lends a list of so many numbers to both programs; the answer, and what then stands in it.
-fn compare(trial: &mut Trial, plan: &[u16], p: u16, n: u32, numbers: usize) -> (Answer, Vec<u32>) {
+pub fn compare(
+    trial: &mut Trial,
+    edition: u64,
+    plan: &[u16],
+    p: u16,
+    n: u32,
+    numbers: usize,
+) -> (Answer, Vec<u32>) {
     let before = before(&mut trial.rng, numbers + BEHIND);
     let mut after = before.clone();
-    let answer = curve::curve(plan, p, n, &mut after[..numbers]);
+    let answer = curve::curve(edition, plan, p, n, &mut after[..numbers]);
     let ticks = [plan, &[p; BEHIND]].concat();
-    let call = trial.call(Entry::Curve, &[p.into(), n.into()], answer);
+    let call = trial.call(Entry::Curve, &[edition, p.into(), n.into()], answer);
     let call = call.writes(plan.len(), &ticks, &ticks);
     call.writes(numbers, &before, &after);
     (answer, after)
 }
 
 /// Lends a list that is exact; the curve.
-fn compare_exact(trial: &mut Trial, plan: &[u16], p: u16, n: usize) -> Vec<u32> {
-    let (answer, mut list) = compare(trial, plan, p, n as u32, n + 1);
-    trial.same((plan, p, n), answer.number, 0);
+pub fn compare_exact(trial: &mut Trial, edition: u64, plan: &[u16], p: u16, n: usize) -> Vec<u32> {
+    let (answer, mut list) = compare(trial, edition, plan, p, n as u32, n + 1);
+    trial.same((edition, plan, p, n), answer.number, 0);
     list.truncate(n + 1);
     list
 }
 
-/// A list that is exact has least of each t, counted anew.
-fn compare_counted(trial: &mut Trial, plan: &[u16], p: u16, n: usize) {
-    let list = compare_exact(trial, plan, p, n);
-    for (t, number) in (0..).zip(list) {
-        let counted = plan::least(plan, p, t);
-        trial.same((plan, p, t), u64::from(number), counted);
+/// A list that is exact has least of each t, counted anew; in both editions.
+pub fn compare_counted(trial: &mut Trial, plan: &[u16], p: u16, n: usize) {
+    for edition in [1, 2] {
+        let list = compare_exact(trial, edition, plan, p, n);
+        for (t, number) in (0..).zip(list) {
+            let counted = plan::least(edition, plan, p, t).first;
+            trial.same((edition, plan, p, t), u64::from(number), counted);
+        }
     }
+}
+
+/// An edition that is good.
+fn some_edition(trial: &mut Trial) -> u64 {
+    editions::good(&mut trial.rng).number()
 }
 
 fn all_small(trial: &mut Trial) {
@@ -77,7 +92,9 @@ fn all_small(trial: &mut Trial) {
                     let needed = n as usize + 1;
                     compare_counted(trial, &plan, p, n as usize);
                     for numbers in [0, needed - 1, needed + 1, needed + 4] {
-                        compare(trial, &plan, p, n, numbers);
+                        for edition in 1..=3 {
+                            compare(trial, edition, &plan, p, n, numbers);
+                        }
                     }
                 }
             }
@@ -101,7 +118,9 @@ fn one_owner(trial: &mut Trial) {
         for owner in [0, 1, 2, 16, 65_535] {
             for p in [0, 1, 2, 3, 255, 65_535] {
                 for n in [0, 1, frame, frame + 1, 3 * frame + 2] {
-                    compare_exact(trial, &vec![owner; frame], p, n);
+                    for edition in [1, 2] {
+                        compare_exact(trial, edition, &vec![owner; frame], p, n);
+                    }
                 }
             }
         }
@@ -116,7 +135,8 @@ fn one_run(trial: &mut Trial) {
                 let other = trial.rng.pick(&[0, 2]);
                 let plan = plans::one_run(frame, start, length, other);
                 compare_counted(trial, &plan, 1, 3 * frame + 1);
-                compare_exact(trial, &plan, other, 2 * frame);
+                let edition = some_edition(trial);
+                compare_exact(trial, edition, &plan, other, 2 * frame);
             }
         }
     }
@@ -161,11 +181,12 @@ fn every_start_of_the_frame(trial: &mut Trial) {
         let mut plan = some_plan(&mut trial.rng, ticks);
         let p = trial.rng.between(0, 2) as u16;
         let n = trial.rng.between(ticks, 3 * ticks);
-        let wanted = compare_exact(trial, &plan, p, n);
+        let edition = some_edition(trial);
+        let wanted = compare_exact(trial, edition, &plan, p, n);
         for _ in 1..ticks {
             plan.rotate_left(1);
-            let found = compare_exact(trial, &plan, p, n);
-            trial.same((&plan, p, n), &found, &wanted);
+            let found = compare_exact(trial, edition, &plan, p, n);
+            trial.same((edition, &plan, p, n), &found, &wanted);
         }
     }
 }
@@ -203,11 +224,13 @@ fn any_plan(trial: &mut Trial) {
         let p = rng.pick(&[0, 1, 1, 1, 2, 3, 4, 65_535]);
         let n = some_n(rng, ticks);
         let numbers = some_numbers(rng, n + 1);
-        let (answer, _) = compare(trial, &plan, p, n as u32, numbers);
+        let edition = editions::some(rng);
+        let (answer, _) = compare(trial, edition, &plan, p, n as u32, numbers);
         let longer = if numbers > n + 1 { ", longer" } else { "" };
         seen.count(kind(answer) + longer);
     }
     seen.share(trial, &["0", "0, longer", "12"], [1, 8]);
+    seen.share(trial, &["2", "2, longer"], [1, 200]);
 }
 
 /// Runs up to the frame's length.
@@ -219,7 +242,8 @@ fn long_runs(trial: &mut Trial) {
         let plan = plans::in_runs_up_to(rng, ticks, 1, longest);
         let n = some_n(rng, ticks);
         let p = rng.between(0, 1) as u16;
-        compare_exact(trial, &plan, p, n);
+        let edition = some_edition(trial);
+        compare_exact(trial, edition, &plan, p, n);
     }
 }
 
@@ -228,15 +252,16 @@ fn serving_and_damaged(trial: &mut Trial) {
         let rng = &mut trial.rng;
         let longest = rng.between(1, 40);
         let count = rng.pick(&[1, 2, 3, 5, 16]);
+        let edition = editions::good(rng);
         let plans::Served {
             mut plan, parts, ..
-        } = plans::served(rng, 1, count, longest);
+        } = plans::served(rng, edition, 1, count, longest);
         let partitions = parts.len() / 3;
         let p = rng.between(0, partitions + 1) as u16;
         let n = some_n(rng, plan.len());
-        compare_exact(trial, &plan, p, n);
+        compare_exact(trial, edition.number(), &plan, p, n);
         plans::damage(&mut trial.rng, &mut plan, partitions);
-        compare_exact(trial, &plan, p, n);
+        compare_exact(trial, edition.number(), &plan, p, n);
     }
 }
 
@@ -248,8 +273,9 @@ fn any_owner(trial: &mut Trial) {
         let [ticks, n] = [rng.between(1, 12), rng.between(0, 30)];
         let plan: Vec<u16> = (0..ticks).map(|_| rng.pick(&owners)).collect();
         let owner = rng.pick(&owners);
-        for p in [owner, owner ^ 256, owner ^ 32_768, !owner, 65_535] {
-            compare_exact(trial, &plan, p, n);
+        let edition = some_edition(trial);
+        for p in [owner, owner ^ 256, owner ^ 32_768, !owner, 65_535, 0] {
+            compare_exact(trial, edition, &plan, p, n);
         }
     }
 }
@@ -261,10 +287,10 @@ fn least_beside_it(trial: &mut Trial) {
         let plan = some_plan(&mut trial.rng, ticks);
         let p = trial.rng.between(0, 3) as u16;
         let n = some_n(&mut trial.rng, ticks);
-        for (t, number) in (0..).zip(compare_exact(trial, &plan, p, n)) {
-            let least = Answer::good([number.into(), 0, 0, 0]);
-            let call = trial.call(Entry::Least, &[p.into(), t], least);
-            call.reads(&plan);
+        let edition = some_edition(trial);
+        for (t, number) in (0..).zip(compare_exact(trial, edition, &plan, p, n)) {
+            let least = compare_least(trial, edition, &plan, p, t);
+            trial.same((edition, &plan, p, t), least.first, number.into());
         }
     }
 }
@@ -273,7 +299,9 @@ fn every_length_of_the_list(trial: &mut Trial) {
     for n in trial.each(0..=20) {
         for plan in [&[][..], &[1], &[1, 0, 2], &[0, 1, 1, 1, 2, 1, 1]] {
             for numbers in 0..=n as usize + 6 {
-                compare(trial, plan, 1, n, numbers);
+                for edition in 1..=3 {
+                    compare(trial, edition, plan, 1, n, numbers);
+                }
             }
         }
     }
@@ -286,8 +314,11 @@ fn n_far_past_the_list(trial: &mut Trial) {
         for n in [n - 1, n, n + 1, n + 5].map(|n| n.min(u32::MAX.into()) as u32) {
             for plan in [&[][..], &[1], &[1, 0, 0], &[1; 4097]] {
                 for numbers in [0, 1, 2, 5, 6, 7, 100] {
-                    let (answer, _) = compare(trial, plan, 1, n, numbers);
-                    trial.same((n, numbers), answer, Answer::refused(12));
+                    for (edition, number) in [(1, 12), (2, 12), (3, 2)] {
+                        let (answer, _) = compare(trial, edition, plan, 1, n, numbers);
+                        let refused = Answer::refused(number);
+                        trial.same((edition, n, numbers), answer, refused);
+                    }
                 }
             }
         }
@@ -299,10 +330,11 @@ fn n_past_16_bits(trial: &mut Trial) {
     for n in trial.each([65_534, 65_535, 65_536, 70_000]) {
         for plan in [&[][..], &[1], &[1, 0], &[0, 1, 1, 1, 1]] {
             for p in [0, 1] {
-                compare_exact(trial, plan, p, n);
-                compare(trial, plan, p, n as u32, n + 4);
-                compare(trial, plan, p, n as u32, n);
-                compare(trial, plan, p, 3, n);
+                let edition = some_edition(trial);
+                compare_exact(trial, edition, plan, p, n);
+                compare(trial, edition, plan, p, n as u32, n + 4);
+                compare(trial, edition, plan, p, n as u32, n);
+                compare(trial, edition, plan, p, 3, n);
             }
         }
     }
@@ -331,7 +363,8 @@ fn long_frames(trial: &mut Trial) {
         let plan = some_long_plan(&mut trial.rng, case, ticks);
         let p = trial.rng.pick(&[0, 1, 1]);
         let n = [4096, 4095, 4097, 8193, 1000][case as usize % 5];
-        compare_exact(trial, &plan, p, n);
+        let edition = some_edition(trial);
+        compare_exact(trial, edition, &plan, p, n);
     }
 }
 
@@ -342,12 +375,14 @@ fn past_the_longest_frame(trial: &mut Trial) {
         let any = trial.rng.between(0, ticks - 1);
         for gap in [0, 1, ticks / 2, ticks - 2, ticks - 1, any] {
             let plan = plans::one_run(ticks, gap + 1, ticks - 1, 0);
-            compare_exact(trial, &plan, 1, 9);
-            compare_exact(trial, &plan, 0, 3);
+            let edition = some_edition(trial);
+            compare_exact(trial, edition, &plan, 1, 9);
+            compare_exact(trial, edition, &plan, 0, 3);
         }
         for n in [0, 1, 60] {
             let plan = some_plan(&mut trial.rng, ticks);
-            compare_exact(trial, &plan, 1, n);
+            let edition = some_edition(trial);
+            compare_exact(trial, edition, &plan, 1, n);
         }
     }
 }

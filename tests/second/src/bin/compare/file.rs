@@ -1,7 +1,7 @@
 //! The reader, the sections and the writer: the library against the second program.
 
-use second::inputs::faults;
 use second::inputs::files::{self, get, put, Tables};
+use second::inputs::{editions, faults};
 use second::rng::Rng;
 use second::{file, Answer};
 
@@ -29,7 +29,7 @@ const W1: [u8; 44] = [
 
 /// The reader and every section; the refusal's number. Of a refused file the sections tell what
 /// the reader does, whichever is asked for.
-fn compare_read(trial: &mut Trial, bytes: &[u8]) -> u64 {
+pub fn compare_read(trial: &mut Trial, bytes: &[u8]) -> u64 {
     let answer = read(trial, bytes);
     for which in [0, 1, 2, 3, 1 << 32, u64::MAX] {
         let part = section(trial, bytes, which);
@@ -54,8 +54,9 @@ fn section(trial: &mut Trial, bytes: &[u8], which: u64) -> Answer {
 }
 
 /// Lends so many bytes to both writers; the answer, and the bytes lent.
-fn compare_write(trial: &mut Trial, tables: &Tables, out_bytes: usize) -> (Answer, Vec<u8>) {
+pub fn compare_write(trial: &mut Trial, tables: &Tables, out_bytes: usize) -> (Answer, Vec<u8>) {
     let Tables {
+        edition,
         frame,
         parts,
         tasks,
@@ -63,8 +64,9 @@ fn compare_write(trial: &mut Trial, tables: &Tables, out_bytes: usize) -> (Answe
     } = tables;
     let before = vec![PATTERN; out_bytes + BEHIND];
     let mut after = before.clone();
-    let answer = file::write(*frame, parts, tasks, runs, &mut after[..out_bytes]);
-    let call = trial.call(Entry::Write, &[*frame], answer);
+    let out = &mut after[..out_bytes];
+    let answer = file::write(*edition, *frame, parts, tasks, runs, out);
+    let call = trial.call(Entry::Write, &[*edition, *frame], answer);
     let call = call.reads(parts).reads(tasks).reads(runs);
     call.writes(out_bytes, &before, &after);
     after.truncate(out_bytes);
@@ -72,7 +74,7 @@ fn compare_write(trial: &mut Trial, tables: &Tables, out_bytes: usize) -> (Answe
 }
 
 /// The length of the file with these tables.
-fn length(tables: &Tables) -> usize {
+pub fn length(tables: &Tables) -> usize {
     16 + 2 * (tables.parts.len() + tables.tasks.len() + tables.runs.len())
 }
 
@@ -96,20 +98,23 @@ fn bodies(trial: &mut Trial, bytes: &[u8]) -> [Vec<u16>; 3] {
     })
 }
 
-/// Read after write gives the tables, write after read gives the bytes.
-fn there_and_back(trial: &mut Trial, tables: &Tables) {
+/// Read after write gives the tables, write after read gives the bytes, which are told.
+pub fn there_and_back(trial: &mut Trial, tables: &Tables) -> Vec<u8> {
     let (answer, out) = compare_write(trial, tables, length(tables));
     trial.same(tables, answer.first, out.len() as u64);
     let [parts, tasks, runs] = bodies(trial, &out);
+    let said = read(trial, &out);
     let again = Tables {
-        frame: read(trial, &out).first,
+        edition: said.fifth,
+        frame: said.first,
         parts,
         tasks,
         runs,
     };
     trial.same(&out, &again, tables);
     let (_, bytes) = compare_write(trial, &again, out.len());
-    trial.same(tables, bytes, out);
+    trial.same(tables, &bytes, &out);
+    out
 }
 
 fn good_files(trial: &mut Trial) {
@@ -140,7 +145,7 @@ fn break_rule(rng: &mut Rng, bytes: &mut Vec<u8>, number: u64) {
     let [tasks, runs] = [8, 12].map(|at| usize::from(get(bytes, at)));
     match number {
         1 => bytes.truncate(rng.between(0, 15)),
-        2 => put(bytes, 0, rng.pick(&[0, 2, 256, 257, 65535])),
+        2 => put(bytes, 0, rng.pick(&[0, 3, 4, 256, 257, 258, 65535])),
         3 => {
             let (at, number) = rng.pick(&[(2, 0), (2, 4097), (6, 0), (6, 17), (10, 129), (14, 0)]);
             put(bytes, at, number);
@@ -237,11 +242,12 @@ fn spoil(rng: &mut Rng, tables: &mut Tables) {
     let partitions = tables.partitions();
     let frame = tables.frame;
     let far = [0, 1, 65536, 1 << 32, u64::MAX].map(|more| frame.wrapping_add(more));
-    match rng.between(0, 7) {
+    match rng.between(0, 8) {
         0 => tables.frame = rng.pick(&[0, 4096, 4097, 65535, 65536, frame << 32]),
         1 => tables.frame = rng.pick(&far),
         2 | 3 => faults::partitions(rng, &mut tables.parts, frame.min(4096) as usize),
         4 | 5 => faults::tasks(rng, &mut tables.tasks, partitions),
+        6 => tables.edition = rng.pick(&editions::OUTSIDE),
         _ => faults::runs(rng, &mut tables.runs),
     }
 }

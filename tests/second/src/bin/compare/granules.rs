@@ -2,7 +2,7 @@
 //! of these calls draw granules too.
 
 use second::inputs::plans::Served;
-use second::inputs::{faults, granules, plans, tables};
+use second::inputs::{editions, faults, granules, plans, tables};
 use second::limits::GRANULE;
 use second::rng::Rng;
 use second::Answer;
@@ -35,8 +35,15 @@ fn good(granule: u64) -> bool {
 }
 
 /// The checker and both engines.
-fn compare_all(trial: &mut Trial, input: &Input, place: usize) -> [Answer; 3] {
-    let checked = compare_check(trial, input.granule, &input.plan, &input.parts);
+pub fn compare_all(trial: &mut Trial, input: &Input, place: usize) -> [Answer; 3] {
+    let Input {
+        edition,
+        granule,
+        plan,
+        parts,
+        ..
+    } = input;
+    let checked = compare_check(trial, *edition, *granule, plan, parts);
     let [verdict, plain] = [VERDICT, PLAIN].map(|engine| ask(trial, engine, input, place));
     [checked, verdict, plain]
 }
@@ -82,8 +89,9 @@ fn a_plan_with_each_other(trial: &mut Trial) {
     for _ in trial.cases(600) {
         let rng = &mut trial.rng;
         let longest = rng.pick(&[8, 24, 60]);
+        let edition = editions::good(rng);
         let granule = granules::up_to(rng, longest);
-        let served = plans::served(rng, granule, 4, longest);
+        let served = plans::served(rng, edition, granule, 4, longest);
         let mut input = Input::from(served);
         input.tasks = tables::tasks(rng, 2, input.partitions(), 40);
         for other in granules::each() {
@@ -120,6 +128,7 @@ fn any_table_with_each(trial: &mut Trial) {
         let frame = rng.between(1, 40);
         let count = rng.between(1, 3);
         let mut input = Input::from(Served {
+            edition: editions::good(rng),
             granule: 1,
             plan: plans::in_runs_up_to(rng, frame, count, 30),
             parts: tables::partitions(rng, count, frame),
@@ -174,9 +183,10 @@ fn refused_beside_a_table(trial: &mut Trial) {
     }
 }
 
-/// A plan that serves with every granule, and a task that passes.
-fn all_good() -> Input {
+/// A plan of one run that serves with every granule, and a task that passes, in both editions.
+pub fn all_good() -> Input {
     Input {
+        edition: 1,
         granule: 1,
         plan: vec![1; 16],
         parts: vec![16, 1, 16],
@@ -185,7 +195,7 @@ fn all_good() -> Input {
 }
 
 /// The kind of an answer, whether the checker can give it for this, and how to bring it about.
-type Fault = (&'static str, bool, fn(&mut Input, &mut usize));
+pub type Fault = (&'static str, bool, fn(&mut Input, &mut usize));
 
 /// In the order of the refusals. The later ones are put in first, so that none undoes another.
 const FAULTS: [Fault; 9] = [
@@ -204,7 +214,7 @@ const FAULTS: [Fault; 9] = [
 ];
 
 /// The kind of the first fault, with "21, after 3".
-fn first<'a>(granule: u64, mut faults: impl Iterator<Item = &'a Fault>) -> &'static str {
+pub fn first<'a>(granule: u64, mut faults: impl Iterator<Item = &'a Fault>) -> &'static str {
     match faults.next().map_or("0", |(kind, ..)| kind) {
         "3" => "3",
         kind if good(granule) => kind,
@@ -213,7 +223,7 @@ fn first<'a>(granule: u64, mut faults: impl Iterator<Item = &'a Fault>) -> &'sta
 }
 
 /// No fault, each one, and every two.
-fn up_to_two() -> Vec<Vec<Fault>> {
+pub fn up_to_two() -> Vec<Vec<Fault>> {
     let mut faults = vec![Vec::new()];
     for one in 0..FAULTS.len() {
         faults.push(vec![FAULTS[one]]);
@@ -231,6 +241,7 @@ fn refused_beside_a_plan(trial: &mut Trial) {
         }
         for granule in granules::all() {
             input.granule = granule;
+            input.edition = editions::good(&mut trial.rng).number();
             let [checked, verdict, plain] = compare_all(trial, &input, place).map(kind);
             let wanted = first(granule, faults.iter());
             trial.same((&input, place), [&verdict[..], &plain], [wanted; 2]);
@@ -253,6 +264,7 @@ fn more_than_a_cycle(trial: &mut Trial) {
                 let number = if wanted > m { 11 } else { 0 };
                 trial.same((granule, parts), built.number, number);
                 let input = Input {
+                    edition: editions::good(&mut trial.rng).number(),
                     granule,
                     plan: vec![1; m as usize + num as usize % 3],
                     parts: parts.to_vec(),
@@ -289,6 +301,7 @@ fn of_two(granule: u64, m: u64, owners: [u16; 2], missing: bool) -> Input {
     }
     let numbers = records.concat();
     Input {
+        edition: 1,
         granule,
         plan,
         parts: numbers.iter().map(|&number| number as u16).collect(),

@@ -1,7 +1,7 @@
 //! The listing: the library against the second program.
 
 use second::inputs::files::{self, Tables};
-use second::inputs::tables;
+use second::inputs::{editions, tables};
 use second::listing;
 use second::rng::Rng;
 
@@ -140,6 +140,7 @@ fn long_listings(trial: &mut Trial) {
 fn long_frame(rng: &mut Rng) -> Tables {
     let owned = rng.between(1500, 2500) as u16;
     Tables {
+        edition: editions::good(rng).number(),
         frame: 4096,
         parts: vec![4096, 1, 3, 4096, 1, 3],
         tasks: vec![1, rng.between(1, 1400) as u16, 4096, 4096],

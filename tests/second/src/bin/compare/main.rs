@@ -6,9 +6,11 @@ mod build;
 mod counts;
 mod curve;
 mod desk;
+mod editions;
 mod file;
 mod granules;
 mod library;
+mod line;
 mod listing;
 mod plan;
 mod programs;
@@ -43,6 +45,7 @@ fn trials() -> Vec<Named> {
         build::TRIALS,
         verdict::TRIALS,
         granules::TRIALS,
+        editions::TRIALS,
         file::TRIALS,
         listing::TRIALS,
         desk::TRIALS,

@@ -1,4 +1,4 @@
-//! The planner: the program against the second one, from a share table's text to a plan file.
+//! The planner: the program against the second one, from words and a share table's text to a plan file.
 
 use second::inputs::{faults, granules, tables, texts};
 use second::limits::TEXT;
@@ -6,8 +6,7 @@ use second::rng::Rng;
 use second::share_table::ShareTable;
 use second::{file, plan, planner, ticks, Answer};
 
-use crate::batch::Entry;
-use crate::programs::Ended;
+use crate::programs::{Ended, Words};
 use crate::seen::Seen;
 use crate::trial::{Named, Trial};
 
@@ -15,6 +14,7 @@ pub const TRIALS: &[Named] = &[
     ("plan, by hand", by_hand),
     ("plan, good tables", good_tables),
     ("plan, full and one tick more", full_and_one_tick_more),
+    ("plan, one run", one_run),
     ("plan, faults", faults),
     ("plan, damaged texts", damaged_texts),
     ("plan, words that don't belong", words_that_dont_belong),
@@ -24,6 +24,7 @@ pub const TRIALS: &[Named] = &[
     ("plan, long texts", long_texts),
     ("plan, granule in a long text", granule_in_a_long_text),
     ("plan, far lines", far_lines),
+    ("plan, words that name no edition", words_that_name_none),
     ("plan, a process each", a_process_each),
 ];
 
@@ -34,35 +35,63 @@ const BEHIND: usize = 64;
 /// All at once: more bytes than any text or plan file has.
 const WHOLE: u64 = 1 << 20;
 
-/// Gives the text to both programs; reads and writes may come to only so many bytes at a time.
-fn compare_in_pieces(trial: &mut Trial, text: &[u8], read: u64, written: u64) -> Vec<u8> {
-    let wanted = planner::answer(text);
+/// A process of the planner is started for each list of words that a trial comes to.
+const ONE: [Words; 2] = [&[], &["1"]];
+const TWO: Words = &["2"];
+const NONE: [Words; 4] = [&["3"], &["0"], &["x"], &["22"]];
+
+/// Words that name an edition, the first in half of all cases.
+fn some_words(rng: &mut Rng) -> Words {
+    rng.pick(&[ONE[0], ONE[1], TWO, TWO])
+}
+
+/// The same, or now and then words that name none.
+fn any_words(rng: &mut Rng) -> Words {
+    let words = some_words(rng);
+    if rng.one_in(30) {
+        rng.pick(&NONE)
+    } else {
+        words
+    }
+}
+
+fn answer(words: Words, text: &[u8]) -> Vec<u8> {
+    planner::answer(planner::edition(words), text)
+}
+
+/// Gives words and text to both programs; reads and writes may come to only so many bytes at a time.
+fn compare_in_pieces(
+    trial: &mut Trial,
+    words: Words,
+    text: &[u8],
+    read: u64,
+    written: u64,
+) -> Vec<u8> {
+    let wanted = answer(words, text);
     let before = vec![PATTERN; wanted.len() + BEHIND];
     let after = [&wanted[..], &[PATTERN; BEHIND]].concat();
     let answer = Answer::good([wanted.len() as u64, 0, 0, 0]);
-    let call = trial.call(Entry::Plan, &[read, written], answer);
+    let call = trial.plan(words, &[read, written], answer);
     call.reads(text).writes(before.len(), &before, &after);
     wanted
 }
 
-fn compare(trial: &mut Trial, text: &[u8]) -> Vec<u8> {
+fn compare(trial: &mut Trial, words: Words, text: &[u8]) -> Vec<u8> {
     let [read, written] = [0; 2].map(|_| trial.rng.pick(&[WHOLE, WHOLE, WHOLE, 1, 7, 1000]));
-    compare_in_pieces(trial, text, read, written)
+    compare_in_pieces(trial, words, text, read, written)
 }
 
-/// A plan that was written serves its table.
+/// A plan that was written serves its table, by its own edition.
 fn serves(trial: &Trial, table: &ShareTable, answer: &[u8]) {
     if let Ok(written) = file::parse(answer) {
         let ticks = ticks::of_runs(&written.runs);
-        trial.same(
-            table,
-            plan::check(table.g(), &ticks, &table.parts).number,
-            0,
-        );
+        let edition = written.edition.number();
+        let checked = plan::check(edition, table.g(), &ticks, &table.parts);
+        trial.same(table, checked.number, 0);
     }
 }
 
-const BY_HAND: [&str; 31] = [
+const BY_HAND: [&str; 35] = [
     "",
     "\n",
     "\r\n\t \n",
@@ -94,13 +123,20 @@ const BY_HAND: [&str; 31] = [
     "granule 2\n\ngranule 2\npartition 4 1/4\n",
     "granule\npartition 4 1/4\n",
     "granules 2\npartition 4 1/4\n",
+    // Plans of one run, with tasks and without, and one that is a tick short of it.
+    "partition 1 1/1000\n",
+    "partition 4 1/1\ntask 1 1 4 4\n",
+    "granule 4\npartition 4 1/9\ntask 1 1 4 4\n",
+    "partition 12 11/12\n",
 ];
 
 fn by_hand(trial: &mut Trial) {
     for text in trial.each(BY_HAND) {
         for read in [WHOLE, 1, 2, 3] {
             for written in [WHOLE, 1, 2, 3] {
-                compare_in_pieces(trial, text.as_bytes(), read, written);
+                for words in [ONE[0], ONE[1], TWO, NONE[0]] {
+                    compare_in_pieces(trial, words, text.as_bytes(), read, written);
+                }
             }
         }
     }
@@ -114,14 +150,15 @@ fn good_tables(trial: &mut Trial) {
         let tasks = trial.rng.pick(&[0, 1, 2, 5, 20]);
         let table = texts::table(&mut trial.rng, partitions, longest, tasks);
         let text = texts::laid_out(&mut trial.rng, &table);
-        let answer = compare(trial, &text);
+        let words = some_words(&mut trial.rng);
+        let answer = compare(trial, words, &text);
         seen.note(&answer);
         // The second program's checker costs a frame times a cycle.
         if longest <= 200 {
             serves(trial, &table, &answer);
         }
     }
-    seen.share(trial, &["a plan"], [2, 5]);
+    seen.share(trial, &["a plan", "refused 9"], [1, 10]);
     let shapes = [
         "one run",
         "many runs",
@@ -144,9 +181,52 @@ fn full_and_one_tick_more(trial: &mut Trial) {
             parts: tables::full(rng, granule, count, longest, above),
             tasks: Vec::new(),
         };
-        seen.note(&compare(trial, &texts::plain(&table)));
+        let words = some_words(&mut trial.rng);
+        seen.note(&compare(trial, words, &texts::plain(&table)));
     }
-    seen.share(trial, &["a plan", "refused 11"], [1, 20]);
+    seen.share(trial, &["a plan", "refused 9", "refused 11"], [1, 20]);
+}
+
+/// A cycle that one partition wants all of, which is what a plan of edition 2 is built for; and all but
+/// one tick of it, of which another one is spent on switching.
+fn one_run(trial: &mut Trial) {
+    let mut seen = Seen::default();
+    for case in trial.cases(3000) {
+        let rng = &mut trial.rng;
+        let granule = granules::good(rng);
+        let most = if case % 100 == 0 { 4096 } else { 160 };
+        let cycle = granule as usize * rng.between(1, most / granule as usize);
+        let [num, den] = if cycle as u64 == granule {
+            tables::share(rng)
+        } else {
+            [1, 1]
+        };
+        let tasks = rng.pick(&[0, 1, 3]);
+        let mut table = ShareTable {
+            granule: texts::said(rng, granule),
+            parts: vec![cycle as u16, num, den],
+            tasks: tables::tasks(rng, tasks, 1, 4096),
+        };
+        both_editions(trial, &texts::plain(&table), &mut seen);
+        let m = trial.rng.between(2, 1000) as u16;
+        table.granule = None;
+        table.parts = vec![m, m - 1, m];
+        let short = compare(trial, TWO, &texts::plain(&table));
+        let values = format!("start 0 held {} wanted {}", m - 2, m - 1);
+        let line = format!("refused 9 partition 1 {values}\n").into_bytes();
+        trial.same(&table, short, line);
+    }
+    seen.share(trial, &["a plan of edition 2"], [4, 5]);
+}
+
+/// A plan of one run: the two files differ in their first number alone.
+fn both_editions(trial: &mut Trial, text: &[u8], seen: &mut Seen) {
+    let [one, two] = [ONE[0], TWO].map(|words| compare(trial, words, text));
+    seen.note(&two);
+    let said = [&one[..2], &two[..2]];
+    let shown = text.escape_ascii().to_string();
+    trial.same(&shown, said, [&[0, 1][..], &[0, 2]]);
+    trial.same(&shown, &one[2..], &two[2..]);
 }
 
 /// Numbers that break the rules of the tables, and cycles that don't divide one another.
@@ -170,9 +250,10 @@ fn faults(trial: &mut Trial) {
         let granule = granules::or_other(rng, table.g());
         table.granule = texts::said(rng, granule);
         let text = texts::laid_out(rng, &table);
-        seen.note(&compare(trial, &text));
+        let words = any_words(rng);
+        seen.note(&compare(trial, words, &text));
     }
-    seen.share(trial, &["refused 21"], [1, 200]);
+    seen.share(trial, &["refused 2", "refused 9", "refused 21"], [1, 200]);
     let refusals = ["refused 3", "refused 6", "refused 7", "refused 10"];
     seen.share(trial, &refusals, [1, 50]);
     seen.share(trial, &["a plan"], [1, 20]);
@@ -206,7 +287,8 @@ fn damaged_texts(trial: &mut Trial) {
     let mut seen = Seen::default();
     for _ in trial.cases(40_000) {
         let text = damaged_text(&mut trial.rng);
-        seen.note(&compare(trial, &text));
+        let words = any_words(&mut trial.rng);
+        seen.note(&compare(trial, words, &text));
     }
     seen.share(trial, &EXPECTED, [1, 100]);
     seen.share(trial, &["a plan"], [1, 20]);
@@ -221,7 +303,8 @@ fn words_that_dont_belong(trial: &mut Trial) {
         let mut lines = texts::lines(&table);
         rng.shuffle(&mut lines);
         texts::spoil_words(rng, &mut lines);
-        seen.note(&compare(trial, &texts::joined(&lines)));
+        let words = any_words(rng);
+        seen.note(&compare(trial, words, &texts::joined(&lines)));
     }
     seen.share(trial, &EXPECTED, [1, 50]);
     seen.share(trial, &["a plan"], [1, 20]);
@@ -242,7 +325,8 @@ fn each_word_at_each_place(trial: &mut Trial) {
                     let rest = words.get(rest..).unwrap_or_default();
                     let mut lines = good.clone();
                     lines[at] = [&words[..place], &[odd.to_vec()], rest].concat();
-                    compare(trial, &texts::joined(&lines));
+                    let named = some_words(&mut trial.rng);
+                    compare(trial, named, &texts::joined(&lines));
                 }
             }
         }
@@ -309,7 +393,8 @@ fn granule_lines(trial: &mut Trial) {
     let words = plain.chain(NEARLY_GRANULES.map(String::from));
     let cases = words.flat_map(|word| tables.iter().map(move |lines| lines.replace('G', &word)));
     for text in trial.each(cases) {
-        seen.note(&compare(trial, text.as_bytes()));
+        let words = some_words(&mut trial.rng);
+        seen.note(&compare(trial, words, text.as_bytes()));
     }
     seen.share(trial, &EXPECTED[1..3], [1, 20]);
     let refusals = [3, 6, 7, 10, 11, 21].map(|number| format!("refused {number}"));
@@ -324,7 +409,9 @@ fn granule_in_a_long_text(trial: &mut Trial) {
             let said = format!("granule {granule}\npartition 8 1/8\n#");
             let mut text = said.into_bytes();
             text.resize(bytes, b' ');
-            compare_in_pieces(trial, &text, WHOLE, WHOLE);
+            for words in [ONE[0], TWO, NONE[0]] {
+                compare_in_pieces(trial, words, &text, WHOLE, WHOLE);
+            }
         }
     }
 }
@@ -347,7 +434,7 @@ fn at_the_limits(trial: &mut Trial) {
     for partitions in trial.each([16, 17, 0, 1, 2, 15, 18, 32, 256, 272]) {
         for tasks in [0, 1, 127, 128, 129, 130, 255, 256, 257, 384] {
             let text = texts::plain(&many(partitions, tasks));
-            longest = longest.max(compare(trial, &text).len());
+            longest = longest.max(compare(trial, ONE[0], &text).len());
             // A wrong line comes first, a granule behind too many records, a bad record last.
             for line in [
                 "partition 4 1",
@@ -355,8 +442,9 @@ fn at_the_limits(trial: &mut Trial) {
                 "task 1 2 1 1",
                 "granule 17",
             ] {
-                compare(trial, &[&text[..], line.as_bytes()].concat());
-                compare(trial, &[line.as_bytes(), b"\n", &text[..]].concat());
+                let words = some_words(&mut trial.rng);
+                compare(trial, words, &[&text[..], line.as_bytes()].concat());
+                compare(trial, words, &[line.as_bytes(), b"\n", &text[..]].concat());
             }
         }
     }
@@ -381,7 +469,8 @@ fn long_texts(trial: &mut Trial) {
     for (place, filler) in trial.each(cases) {
         for bytes in [TEXT - 1, TEXT, TEXT + 1, TEXT + 2, 70_000, 2 * TEXT] {
             let text = filled(bytes, filler, place);
-            compare_in_pieces(trial, &text, WHOLE, WHOLE);
+            let words = any_words(&mut trial.rng);
+            compare_in_pieces(trial, words, &text, WHOLE, WHOLE);
         }
     }
 }
@@ -392,24 +481,54 @@ fn far_lines(trial: &mut Trial) {
     let digits = [9, 10, 11, 99, 100, 101, 255, 256, 257, 9999, 10_000];
     for blank in trial.each([edges.to_vec(), digits.to_vec()].concat()) {
         let text = [vec![b'\n'; blank], vec![b'x']].concat();
-        compare_in_pieces(trial, &text, WHOLE, WHOLE);
+        let words = some_words(&mut trial.rng);
+        compare_in_pieces(trial, words, &text, WHOLE, WHOLE);
     }
 }
+
+/// "2 now means neither 1 nor 2, in a call too": whatever the text, an overlong one too.
+fn words_that_name_none(trial: &mut Trial) {
+    let overlong = [b' ', b'x'].map(|filler| vec![filler; TEXT + 1]);
+    let texts = BY_HAND.map(|text| text.as_bytes().to_vec());
+    for text in trial.each(texts.into_iter().chain(overlong)) {
+        for words in NONE {
+            let found = compare(trial, words, &text);
+            let wanted = b"refused 2\n".to_vec();
+            trial.same((words, text.len()), found, wanted);
+        }
+    }
+}
+
+/// Two words, and an empty one, name no edition either.
+const ALONE: [Words; 9] = [
+    ONE[0],
+    TWO,
+    ONE[1],
+    NONE[0],
+    NONE[1],
+    NONE[2],
+    NONE[3],
+    &["2", "2"],
+    &[""],
+];
 
 /// As people run it: over a pipe.
 fn a_process_each(trial: &mut Trial) {
     for case in trial.cases(60) {
+        let words = ALONE[case as usize % ALONE.len()];
         let text = match case % 4 {
             0 => filled(TEXT + case as usize % 3 - 1, b' ', 0),
             1 => damaged_text(&mut trial.rng),
+            2 => b"partition 4 1/1\ntask 1 1 4 4\n".to_vec(),
             _ => some_text(&mut trial.rng),
         };
-        let found = trial.plan_alone(&text);
+        let found = trial.plan_alone(words, &text);
         let wanted = Ended {
             status: Some(0),
-            out: planner::answer(&text).escape_ascii().to_string(),
+            out: answer(words, &text).escape_ascii().to_string(),
             said: String::new(),
         };
-        trial.same(text.escape_ascii().to_string(), found, wanted);
+        let shown = (words, text.escape_ascii().to_string());
+        trial.same(shown, found, wanted);
     }
 }

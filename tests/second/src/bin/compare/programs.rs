@@ -5,8 +5,6 @@ use std::io::{self, Write};
 use std::path::{self, Path, PathBuf};
 use std::process::{Child, Command, Stdio};
 
-use crate::batch::Entry;
-
 pub const ADVICE: &str = "`sh tests/compare.sh` builds it";
 const PLAN_ADVICE: &str = "`rt check plan` builds it";
 
@@ -19,11 +17,23 @@ pub struct Programs {
     again: Program,
 }
 
-/// A program, what runs it, and the words for that.
+/// The words that the planner is started with.
+pub type Words = &'static [&'static str];
+
+/// What answers a call. The planner's words are those of its process.
+#[derive(Clone, Copy, Debug, PartialEq)]
+pub enum Asked {
+    Library,
+    Planner(Words),
+}
+
+/// A program, what runs it, and the words for both.
 #[derive(Clone)]
 pub struct Program {
     x86: PathBuf,
-    words: Vec<PathBuf>,
+    before: Vec<PathBuf>,
+    path: PathBuf,
+    words: Words,
 }
 
 /// How a process ended, and what it wrote, with other bytes than printed ones as escapes.
@@ -49,28 +59,29 @@ impl Programs {
         let calls = there(&named("SECOND_CALLS", "target/calls"), ADVICE)?;
         let plan = there(&named("SECOND_PLAN", "target/bin/plan"), PLAN_ADVICE)?;
         let before = there(&root.join("target/again.so"), ADVICE)?;
-        let program = |words: &[&PathBuf]| Program {
+        let program = |before: &[&Path], path: &Path| Program {
             x86: root.join("tools/x86"),
-            words: words.iter().copied().cloned().collect(),
+            before: before.iter().map(PathBuf::from).collect(),
+            path: path.to_path_buf(),
+            words: &[],
         };
         Ok(Programs {
-            calls: program(&[&calls]),
-            plan: program(&[&plan]),
-            again: program(&[&PathBuf::from("--preload"), &before, &plan]),
+            calls: program(&[], &calls),
+            again: program(&[Path::new("--preload"), &before], &plan),
+            plan: program(&[], &plan),
         })
     }
 
-    /// What answers the calls of an entry.
-    pub fn answering(&self, entry: Entry) -> &Program {
-        match entry {
-            Entry::Plan => &self.again,
-            _ => &self.calls,
+    pub fn answering(&self, asked: Asked) -> Program {
+        match asked {
+            Asked::Library => self.calls.clone(),
+            Asked::Planner(words) => self.again.with(words),
         }
     }
 
     /// The planner in a process of its own, with the text over a pipe.
-    pub fn plan(&self, text: &[u8]) -> Result<Ended, String> {
-        let mut child = self.plan.start(Stdio::piped())?;
+    pub fn plan(&self, words: Words, text: &[u8]) -> Result<Ended, String> {
+        let mut child = self.plan.with(words).start(Stdio::piped())?;
         if let Some(mut to) = child.stdin.take() {
             // An overlong text need not be read to its end.
             let _ = to.write_all(text);
@@ -93,14 +104,22 @@ fn there(file: &Path, advice: &str) -> Result<PathBuf, String> {
 }
 
 impl Program {
+    fn with(&self, words: Words) -> Program {
+        Program {
+            words,
+            ..self.clone()
+        }
+    }
+
     pub fn name(&self) -> String {
-        let last = self.words.last();
-        last.map_or(String::new(), |word| word.display().to_string())
+        let path = self.path.display().to_string();
+        [&[&path[..]], self.words].concat().join(" ")
     }
 
     pub fn start(&self, said: Stdio) -> Result<Child, String> {
         let mut command = Command::new(&self.x86);
-        command.arg("run").args(&self.words);
+        command.arg("run").args(&self.before);
+        command.arg(&self.path).args(self.words);
         command.stdin(Stdio::piped()).stdout(Stdio::piped());
         let failed = |error: io::Error| format!("{} can't be started: {error}", self.x86.display());
         command.stderr(said).spawn().map_err(failed)

@@ -2,6 +2,7 @@
 
 use std::collections::BTreeMap;
 
+use second::editions::Edition;
 use second::{file, Answer};
 
 use crate::trial::Trial;
@@ -42,17 +43,20 @@ pub fn kind(answer: Answer) -> String {
     }
 }
 
-/// What was expected, or the refusal; of a plan the shapes that its runs can have.
+/// What was expected, or the refusal; of a plan its edition and the shapes that its runs can have.
 fn kinds(answer: &[u8]) -> Vec<String> {
     let Ok(plan) = file::parse(answer) else {
         let line = String::from_utf8_lossy(answer);
-        let words = line.trim_end().split(": expected ").last();
-        return vec![words.unwrap_or_default().to_string()];
+        let said = line.trim_end().split(": expected ").last();
+        // Of 9 without its values.
+        let said = said.and_then(|said| said.split(" partition ").next());
+        return vec![said.unwrap_or_default().to_string()];
     };
     let runs = plan.runs.len();
     let last_is_idle = plan.runs[runs - 1].owner == 0;
     let shapes = [
         (true, "a plan"),
+        (plan.edition == Edition::Two, "a plan of edition 2"),
         (runs == 1, "one run"),
         (runs > 50, "many runs"),
         (last_is_idle, "idle at the end"),

@@ -2,7 +2,7 @@
 
 use std::fmt::Write;
 
-use crate::batch::{number, ANSWER, GIVEN, HEAD, SLICES};
+use crate::batch::{number, ANSWER, ANSWER_NUMBERS, GIVEN, HEAD, SLICES};
 
 /// What an entry is called, the plain numbers that it is given, and what is lent to it.
 type Names = (
@@ -17,17 +17,21 @@ const LINE: &str = "plan file or line";
 
 const ENTRIES: [Names; 19] = [
     ("wants", &["granule", "m", "num", "den"], &[]),
-    ("held", &["p", "s", "n"], &["plan"]),
-    ("least", &["p", "t"], &["plan"]),
-    ("curve", &["p", "n"], &["plan", "list"]),
-    ("check", &["granule"], &["plan", "parts"]),
+    ("held", &["edition", "p", "s", "n"], &["plan"]),
+    ("least", &["edition", "p", "t"], &["plan"]),
+    ("curve", &["edition", "p", "n"], &["plan", "list"]),
+    ("check", &["edition", "granule"], &["plan", "parts"]),
     ("build", &["granule"], &["parts", "out"]),
     (
         "verdict",
-        &["granule", "place"],
+        &["edition", "granule", "place"],
         &["plan", "parts", "tasks"],
     ),
-    ("plain", &["granule", "place"], &["plan", "parts", "tasks"]),
+    (
+        "plain",
+        &["edition", "granule", "place"],
+        &["plan", "parts", "tasks"],
+    ),
     ("counts_fill", &[], &["plan", "parts", "list"]),
     (
         "counts_held",
@@ -46,7 +50,11 @@ const ENTRIES: [Names; 19] = [
     ),
     ("read", &[], &["file"]),
     ("section", &["which"], &["file"]),
-    ("write", &["frame"], &["parts", "tasks", "runs", "out"]),
+    (
+        "write",
+        &["edition", "frame"],
+        &["parts", "tasks", "runs", "out"],
+    ),
     ("list", &[], &["file", TEXT]),
     ("open", &[], &["desk", "jobs"]),
     ("request", &["t", "c", "d"], &["desk", "jobs"]),
@@ -88,9 +96,9 @@ pub fn complaint(asked: &[u8], library: &[u8], second: &[u8]) -> String {
 }
 
 fn answer(bytes: &[u8]) -> String {
-    let numbers = [0, 1, 2, 3, 4].map(|place| number(bytes, ANSWER + 8 * place));
-    let [number, values @ ..] = numbers;
-    format!("number {number}, values {values:?}")
+    let numbers = (0..ANSWER_NUMBERS).map(|place| number(bytes, ANSWER + 8 * place));
+    let numbers: Vec<u64> = numbers.collect();
+    format!("number {}, values {:?}", numbers[0], &numbers[1..])
 }
 
 /// Where the two differ first, if it is not in the answer.
@@ -222,8 +230,8 @@ mod tests {
     fn an_answer_that_differs() {
         let lent = "\n  out [1, 1, 7], behind it [7 x 6]";
         let input = "input build granule 1\n  parts [2, 1, 1]\n  out [7, 7, 7], behind it [7 x 6]";
-        let library = format!("\nlibrary number 0, values [3, 0, 0, 0]{lent}");
-        let second = format!("\nsecond number 0, values [2, 0, 0, 0]{lent}");
+        let library = format!("\nlibrary number 0, values [3, 0, 0, 0, 0]{lent}");
+        let second = format!("\nsecond number 0, values [2, 0, 0, 0, 0]{lent}");
         assert_eq!(shown(48), [input, &library, &second].concat());
     }
 
@@ -238,9 +246,9 @@ mod tests {
 
     #[test]
     fn memory_that_differs() {
-        assert!(shown(112).ends_with("\nfirst difference: parts, element 0"));
-        assert!(shown(118)
-            .ends_with("\nfirst difference: outside of all that was lent, byte 118 of the call"));
-        assert!(shown(152).ends_with("\nfirst difference: out, element 4"));
+        assert!(shown(120).ends_with("\nfirst difference: parts, element 0"));
+        assert!(shown(126)
+            .ends_with("\nfirst difference: outside of all that was lent, byte 126 of the call"));
+        assert!(shown(160).ends_with("\nfirst difference: out, element 4"));
     }
 }

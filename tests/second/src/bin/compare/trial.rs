@@ -4,25 +4,20 @@ use std::fmt::Debug;
 use std::ops::Range;
 use std::panic;
 use std::rc::Rc;
-use std::time::{Duration, Instant};
+use std::time::Instant;
 
 use second::rng::Rng;
 use second::Answer;
 
-use crate::batch::{Batch, Call, Entry};
-use crate::library::Library;
-use crate::programs::{Ended, Programs};
+use crate::batch::{Call, Entry};
+use crate::line::Line;
+use crate::programs::{Asked, Ended, Programs, Words};
 use crate::progress::{InTime, Progress};
 use crate::settings::Settings;
-use crate::show::{self, Tally};
+use crate::show::Tally;
 
 /// A trial and its name.
 pub type Named = (&'static str, fn(&mut Trial));
-
-/// A batch takes about so long, and not many more bytes: long enough that waiting for the pipe
-/// counts for little, and no longer.
-const LONG: Duration = Duration::from_millis(20);
-const MANY_BYTES: usize = 1 << 20;
 
 /// Of fewer cases a share says little.
 const FEW_CASES: u64 = 500;
@@ -34,11 +29,8 @@ pub struct Trial {
     progress: Rc<Progress>,
     shares_left_out: bool,
     programs: Programs,
-    /// What answers the calls; the first one chooses it.
-    library: Option<Library>,
-    batch: Batch,
-    reply: Vec<u8>,
-    most_calls: usize,
+    /// The library, or a planner for each list of words; none before its first call.
+    lines: Vec<Line>,
     tally: Tally,
     pub rng: Rng,
 }
@@ -62,10 +54,7 @@ impl Trial {
             progress: Progress::new(until),
             shares_left_out: false,
             programs: settings.programs.clone(),
-            library: None,
-            batch: Batch::new(),
-            reply: Vec::new(),
-            most_calls: 1,
+            lines: Vec::new(),
             tally: Tally::default(),
             rng: Rng::new(name.bytes().fold(seed, mix)),
         }
@@ -81,57 +70,46 @@ impl Trial {
         InTime::new(cases.into_iter(), &self.progress)
     }
 
-    /// A call, with the answer that the second program gave. What is lent is to be added.
+    /// A call of the library, with the answer that the second program gave. What is lent is to be
+    /// added.
     pub fn call(&mut self, entry: Entry, given: &[u64], answer: Answer) -> Call<'_> {
-        if self.batch.calls() >= self.most_calls || self.batch.asked.len() >= MANY_BYTES {
-            self.send();
+        self.call_of(Asked::Library, entry, given, answer)
+    }
+
+    /// The same of the planner with these words.
+    pub fn plan(&mut self, words: Words, given: &[u64], answer: Answer) -> Call<'_> {
+        self.call_of(Asked::Planner(words), Entry::Plan, given, answer)
+    }
+
+    fn call_of(&mut self, asked: Asked, entry: Entry, given: &[u64], answer: Answer) -> Call<'_> {
+        let at = self.line(asked);
+        if self.lines[at].full() {
+            let sent = self.lines[at].send();
+            sent.unwrap_or_else(|why| self.fail(&why));
         }
-        let program = self.programs.answering(entry);
-        self.library.get_or_insert_with(|| Library::new(program));
         self.tally[entry as usize] += 1;
-        self.batch.call(entry, given, answer)
+        self.lines[at].call(entry, given, answer)
+    }
+
+    fn line(&mut self, asked: Asked) -> usize {
+        let there = self.lines.iter().position(|line| line.asked == asked);
+        there.unwrap_or_else(|| {
+            self.lines.push(Line::new(&self.programs, asked));
+            self.lines.len() - 1
+        })
     }
 
     /// Runs the planner by itself.
-    pub fn plan_alone(&mut self, text: &[u8]) -> Ended {
+    pub fn plan_alone(&mut self, words: Words, text: &[u8]) -> Ended {
         self.tally[Entry::Plan as usize] += 1;
-        let ended = self.programs.plan(text);
+        let ended = self.programs.plan(words, text);
         ended.unwrap_or_else(|why| self.fail(&why))
-    }
-
-    /// Sends the batch, and compares what comes back with what the second program expects.
-    fn send(&mut self) {
-        let Some(library) = &mut self.library else {
-            return;
-        };
-        let begun = Instant::now();
-        self.reply.resize(self.batch.asked.len(), 0);
-        let answered = library.answer(&self.batch.asked, &mut self.reply);
-        answered.unwrap_or_else(|why| self.fail(&why));
-        if self.reply != self.batch.expected {
-            self.complain();
-        }
-        self.most_calls = if begun.elapsed() < LONG {
-            self.most_calls.saturating_mul(2)
-        } else {
-            self.most_calls.div_ceil(2)
-        };
-        self.batch.clear();
     }
 
     /// Ends the trial with a complaint.
     fn fail(&self, why: &str) -> ! {
         eprintln!("{}: seed {}\n{why}\n", self.name, self.seed);
         panic::resume_unwind(Box::new(()))
-    }
-
-    fn complain(&self) -> ! {
-        let Some(call) = self.batch.differing(&self.reply) else {
-            self.fail("the batch came back with another length");
-        };
-        let all = [&self.batch.asked, &self.reply, &self.batch.expected];
-        let [asked, library, second] = all.map(|bytes| &bytes[call.clone()]);
-        self.fail(&show::complaint(asked, library, second))
     }
 
     /// What has to hold of values that the library and the second program agree on.
@@ -157,10 +135,7 @@ impl Trial {
 
     /// Sends the last calls.
     pub fn end(mut self) -> Passed {
-        if self.batch.calls() > 0 {
-            self.send();
-        }
-        let ended = self.library.as_mut().map_or(Ok(()), Library::end);
+        let ended = self.lines.iter_mut().try_for_each(Line::end);
         ended.unwrap_or_else(|why| self.fail(&why));
         let cases = self.progress.ran();
         let mut left_out = String::new();

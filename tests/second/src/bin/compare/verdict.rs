@@ -6,7 +6,7 @@ mod long;
 mod plain;
 mod shapes;
 
-use second::inputs::{faults, granules, plans};
+use second::inputs::{editions, faults, granules, plans};
 use second::{records, runs};
 
 use crate::seen::Seen;
@@ -70,6 +70,7 @@ fn all_small(trial: &mut Trial) {
                 let frame = plan.len() as u16;
                 let own = plan.iter().filter(|owner| **owner == 1).count();
                 let input = Input {
+                    edition: editions::some(&mut trial.rng),
                     granule: granules::up_to(&mut trial.rng, own.max(1)),
                     plan: plan.clone(),
                     parts: vec![frame, 1, frame],
@@ -144,6 +145,7 @@ fn faults(trial: &mut Trial) {
             plans::damage(rng, &mut input.plan, partitions);
         }
         input.granule = granules::or_other(rng, input.granule);
+        input.edition = editions::or_other(rng, input.edition);
         let listed = input.listed();
         let outside = rng.pick(&[0, listed + 1, 1 << 32, (1 << 32) + 1, usize::MAX]);
         let place = if rng.one_in(3) {
@@ -155,7 +157,7 @@ fn faults(trial: &mut Trial) {
     }
     let refused = ["3", "6", "7", "7 with place 0", "8", "9"];
     seen.share(trial, &refused, [1, 50]);
-    seen.share(trial, &["21"], [1, 100]);
+    seen.share(trial, &["2", "21"], [1, 100]);
     seen.share(trial, &["pass", "fail", BELOW], [1, 50]);
 }
 
@@ -195,13 +197,13 @@ fn play(trial: &mut Trial, input: &Input, place: usize, deadline: u64) {
     };
     tasks[place - 1].d = deadline;
     for _ in 0..3 {
-        let missed = runs::misses(&input.plan, &tasks, place, 250, &mut trial.rng);
+        let missed = runs::misses(&input.service(), &tasks, place, 250, &mut trial.rng);
         trial.same((input, place, deadline, "missed"), missed, false);
     }
 }
 
-/// In no legal run does a task that passes ever miss. By the plain engine's rule it passes with its
-/// tick for a deadline too.
+/// In no legal run does a task that passes ever miss, in either edition. By the plain engine's rule it
+/// passes with its tick for a deadline too.
 fn legal_runs(trial: &mut Trial) {
     let mut seen = Seen::default();
     for _ in trial.cases(8000) {

@@ -1,5 +1,6 @@
 //! What is lent to the calls about the running counts, and the calls of both programs.
 
+use second::editions::Edition;
 use second::inputs::counts::Ask;
 use second::inputs::{plans, tables};
 use second::records::Question;
@@ -50,7 +51,7 @@ pub fn some_lent(rng: &mut Rng, longest: usize) -> Lent {
     let count = rng.pick(&[1, 2, 3, 5, 16]);
     let (plan, parts) = match rng.between(0, 2) {
         0 => {
-            let served = plans::served(rng, 1, count, frame);
+            let served = plans::served(rng, Edition::One, 1, count, frame);
             (served.plan, served.parts)
         }
         1 => {

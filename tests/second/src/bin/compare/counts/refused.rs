@@ -191,7 +191,7 @@ pub fn faults(trial: &mut Trial) {
 /// A list that is long enough where the call goes so far.
 fn at_a_limit(trial: &mut Trial, ticks: usize, parts: Vec<u16>) {
     let plan = vec![1; ticks];
-    let refused = plan::check(1, &plan, &parts).number;
+    let refused = plan::check(1, 1, &plan, &parts).number;
     let mut lent = match refused {
         0 | 9 => Lent::filled(plan, parts, 0),
         _ => Lent {

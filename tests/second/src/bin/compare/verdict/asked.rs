@@ -1,9 +1,11 @@
 //! A task that is asked about, and the calls of both engines in both programs.
 
+use second::editions::Edition;
 use second::inputs::files::Tables;
 use second::inputs::plans::Served;
-use second::inputs::{granules, plans, tables};
+use second::inputs::{editions, granules, plans, tables};
 use second::rng::Rng;
+use second::service::Service;
 use second::{ticks, verdict, Answer};
 
 use crate::batch::Entry;
@@ -13,6 +15,7 @@ use crate::trial::Trial;
 
 #[derive(Clone, Debug)]
 pub struct Input {
+    pub edition: u64,
     pub granule: u64,
     pub plan: Vec<u16>,
     pub parts: Vec<u16>,
@@ -23,6 +26,7 @@ impl From<Served> for Input {
     /// No tasks yet.
     fn from(served: Served) -> Input {
         Input {
+            edition: served.edition.number(),
             granule: served.granule,
             plan: served.plan,
             parts: served.parts,
@@ -46,9 +50,16 @@ impl Input {
         &mut self.tasks[4 * (place - 1)..][..4]
     }
 
+    /// Whom the plan's ticks serve; in edition 1, where its own is refused.
+    pub fn service(&self) -> Service {
+        let edition = Edition::of(self.edition).unwrap_or(Edition::One);
+        Service::new(edition, &self.plan)
+    }
+
     /// The bytes of the plan file.
     pub fn file(&self) -> Vec<u8> {
         let tables = Tables {
+            edition: self.edition,
             frame: self.plan.len() as u64,
             parts: self.parts.clone(),
             tasks: self.tasks.clone(),
@@ -59,7 +70,7 @@ impl Input {
 }
 
 /// An entry, and what the second program makes of its call.
-type Engine = (Entry, fn(u64, &[u16], &[u16], &[u16], usize) -> Answer);
+type Engine = (Entry, fn(u64, u64, &[u16], &[u16], &[u16], usize) -> Answer);
 
 pub const VERDICT: Engine = (Entry::Verdict, verdict::verdict);
 pub const PLAIN: Engine = (Entry::Plain, verdict::plain);
@@ -76,13 +87,15 @@ pub enum Judged {
 pub fn ask(trial: &mut Trial, engine: Engine, input: &Input, place: usize) -> Answer {
     let (entry, judged) = engine;
     let Input {
+        edition,
         granule,
         plan,
         parts,
         tasks,
     } = input;
-    let answer = judged(*granule, plan, parts, tasks, place);
-    let call = trial.call(entry, &[*granule, place as u64], answer);
+    let answer = judged(*edition, *granule, plan, parts, tasks, place);
+    let given = [*edition, *granule, place as u64];
+    let call = trial.call(entry, &given, answer);
     call.reads(plan).reads(parts).reads(tasks);
     answer
 }
@@ -153,8 +166,9 @@ fn note(seen: &mut Seen, input: &Input, judged: Judged) {
 
 /// A plan that serves a table of up to `count` partitions, within `longest` ticks, and no tasks.
 pub fn without_tasks(rng: &mut Rng, count: usize, longest: usize) -> Input {
+    let edition = editions::good(rng);
     let granule = granules::up_to(rng, longest);
-    Input::from(plans::served(rng, granule, count, longest))
+    Input::from(plans::served(rng, edition, granule, count, longest))
 }
 
 /// A plan that serves a small table, and tasks with periods up to `period`.

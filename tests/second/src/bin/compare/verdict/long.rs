@@ -1,7 +1,7 @@
 //! Deadlines up to 4,096 in short frames and in the longest. A plain engine walks the plan for every
 //! tick that it tries, so it is asked less often.
 
-use second::inputs::{granules, plans, tables};
+use second::inputs::{editions, granules, plans};
 use second::rng::Rng;
 
 use super::asked::{ask, compare, without_tasks, Input, Judged, VERDICT};
@@ -36,13 +36,10 @@ pub fn plain_many_frames(trial: &mut Trial) {
 
 /// Sixteen partitions in the longest frame, and a task of one of them behind a higher one.
 fn of_sixteen(rng: &mut Rng, c: u16, d: u16) -> Input {
-    let parts = tables::sixteen(rng);
-    let plan = plans::serving(rng, 1, &parts, 128).unwrap_or_default();
+    let edition = editions::good(rng);
     Input {
-        granule: 1,
-        plan: plan.repeat(32),
-        parts,
         tasks: vec![3, 40, 1500, 1500, 2, 1, 7, 7, 3, c, d, 4096],
+        ..Input::from(plans::of_sixteen(rng, edition))
     }
 }
 
@@ -73,6 +70,7 @@ fn of_one_run(rng: &mut Rng, frame: usize, own: usize, asked: usize) -> Input {
     let higher = rng.between(1, asked - 1);
     let budgets = [higher, asked - higher].map(|c| [1, c as u16, 4096, 4096]);
     Input {
+        edition: editions::good(rng).number(),
         granule: granules::good(rng),
         plan,
         parts: [frame as u16, 1, 5].repeat(2),
@@ -81,20 +79,24 @@ fn of_one_run(rng: &mut Rng, frame: usize, own: usize, asked: usize) -> Input {
 }
 
 /// One tick less than the longest frame holds, all of them, and one more. A frame of 4,096 ticks
-/// is as long as the deadline, one of 4,095 is a tick shorter.
+/// is as long as the deadline, one of 4,095 is a tick shorter. In edition 2 the first tick of the run
+/// is no service.
 pub fn all_that_a_frame_holds(trial: &mut Trial) {
     for case in trial.cases(6) {
         let frame = [4095, 4096][case as usize % 2];
         let own = trial.rng.between(1000, 3000);
         let asked = own - 1 + case as usize / 2 % 3;
-        let input = of_one_run(&mut trial.rng, frame, own, asked);
-        let judged = compare(trial, &input, 2);
-        let wanted = if asked <= own {
-            let tick = (frame - own + asked) as u64;
-            Judged::Pass { point: 4096, tick }
-        } else {
-            Judged::Fail
-        };
-        trial.same((frame, own, asked), judged, wanted);
+        let mut input = of_one_run(&mut trial.rng, frame, own, asked);
+        for (edition, served) in [(1, own), (2, own - 1)] {
+            input.edition = edition;
+            let judged = compare(trial, &input, 2);
+            let wanted = if asked <= served {
+                let tick = (frame - served + asked) as u64;
+                Judged::Pass { point: 4096, tick }
+            } else {
+                Judged::Fail
+            };
+            trial.same((edition, frame, own, asked), judged, wanted);
+        }
     }
 }

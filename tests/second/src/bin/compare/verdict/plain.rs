@@ -1,6 +1,6 @@
 //! Where the plain engine's ticks lie: at the ends of what a task may ask, and away from the points.
 
-use second::inputs::{granules, tables};
+use second::inputs::{editions, granules, tables};
 use second::rng::Rng;
 
 use super::asked::{
@@ -16,11 +16,13 @@ fn nearly_own(rng: &mut Rng, tasks: usize) -> Input {
     }
     let frame = rng.between(1, 24);
     let mut plan = vec![1; frame];
-    if frame > 1 && rng.one_in(3) {
+    // An idle tick costs a switch tick too.
+    if frame > 2 && rng.one_in(3) {
         plan[rng.between(0, frame - 1)] = 0;
     }
     Input {
-        granule: granules::up_to(rng, (frame - 1).max(1)),
+        edition: editions::good(rng).number(),
+        granule: granules::up_to(rng, frame.saturating_sub(2).max(1)),
         plan,
         parts: vec![frame as u16, 1, frame as u16],
         tasks: tables::tasks(rng, tasks, 1, 30),
@@ -73,6 +75,7 @@ pub fn one_tick(trial: &mut Trial) {
         let tasks = rng.between(0, 5);
         let period = rng.pick(&[1, 4, 20, 60]);
         let input = Input {
+            edition: editions::some(rng),
             granule: granules::or_other(rng, 1),
             plan: vec![rng.pick(&[1, 1, 1, 1, 0, 2])],
             parts: tables::partitions(rng, partitions, 1),
