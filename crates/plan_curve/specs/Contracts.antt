@@ -31,8 +31,8 @@ lowerAt rule plan p s list t = pick (startTried rule plan p s) (lowerFrom rule p
 abbrev pub Framed : ℕ → ℕ → Type 0
 Framed f n = 0 < f → n ≤ f + 1
 
--- as far as p is concerned the frame is some rounds of m ticks (none but the empty frame is rounds of 0); a round by itself has its own last tick before
--- its first, which has to serve p all the same
+-- as far as p is concerned the frame is some rounds of m ticks (none but the empty frame is rounds of 0); and a round by itself, whose last tick then
+-- stands before its first, serves p in its first tick just if the frame does
 pub record Repeats (rule : Rule) (plan : List ℕ) (p m : ℕ) : Type 0 where
   pub whole : length plan % m ≡ 0
   pub some : 0 < length plan → 0 < m

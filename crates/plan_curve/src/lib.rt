@@ -149,8 +149,8 @@ fn draw_frames(rule: Rule, plan: &[u16], p: usize, list: &mut [u32], n: usize)
     }
 }
 
-// Whether the ticks that serve p repeat after m ticks, as often as these go into the frame, and do so in the first m by
-// themselves: their first tick has their last before it there. Only a yes promises something.
+// Whether the ticks that serve p repeat after m ticks, as often as these go into the frame, and the first m serve p alike by
+// themselves, where the last of them stands before the first. Only a yes promises something.
 fn repeats(rule: Rule, plan: &[u16], p: usize, m: usize) -> bool
     requires { ⌜ (0 < m) × (m ≤ length (now plan)) ⌝ }
     ensures { λ r. ⌜ (r ≡ true → Repeats rule (now (plan .entry)) p m) ⌝ }
