@@ -9,7 +9,8 @@ use lib.ListN.{length, set, drop}
 use Rattle.rules.specs.Walk.{pick, first, fails}
 use Rattle.rules.specs.Limits.{questionWidth}
 use Rattle.rules.specs.Table.{partitions}
-use Rattle.rules.specs.Refusals.{told, placed, toldFinding, toldFilling}
+use Rattle.rules.specs.Terms.{goodEdition}
+use Rattle.rules.specs.Refusals.{told, placed, toldFinding, toldFilling, toldHolding}
 use Rattle.rules.specs.declared.Told.{Told}
 use Rattle.rules.specs.declared.Refusal.{Refusal}
 use Rattle.rules.specs.declared.Refusal.the-variants.{Limits, Output, Asked, Counts, Beyond}
@@ -19,14 +20,15 @@ use Rattle.rules.specs.declared.Filling.{Filling}
 use Rattle.rules.specs.declared.Filling.the-variants as filling
 use Rattle.rules.proofs.Known.{not-0, filling-fills, tells-one}
 use Rattle.tables.specs.Tables.{lowest, unless}
-use Rattle.theory.specs.Plan.{own, held}
-use Rattle.counts.specs.declared.Holding.{Holding}
-use Rattle.counts.specs.declared.Holding.the-variants as holding
-use Rattle.counts.specs.Counts.{needed, longEnough, runningCounts, countsJudged, goodName, goodStretch, fillOf, FillsCounts, heldOf, HoldsOne, toldHolding, questions, namesOne, withinFrame, manyOf, HoldsMany, changeOf, changedBy, Changes}
+use Rattle.rules.specs.declared.Rule.the-variants.{Own}
+use Rattle.theory.specs.Plan.{held}
+use Rattle.rules.specs.declared.Holding.{Holding}
+use Rattle.rules.specs.declared.Holding.the-variants as holding
+use Rattle.counts.specs.Counts.{needed, longEnough, runningCounts, countsJudged, goodName, goodStretch, fillOf, FillsCounts, heldOf, HoldsOne, questions, namesOne, withinFrame, manyOf, HoldsMany, changeOf, changedBy, Changes}
 use Rattle.counts.specs.Theorems.{Named, Within, HeldBy, held-plan, held-name, held-length, held-counts, held-stretch, held-done}
 use Rattle.counts.proofs.Orders.{plan-holds, call-holds}
 use Rattle.counts.proofs.Changes.{proved}
-use Rattle.api.specs.Answers.{TellsFill, TellsHeld, TellsMany, TellsChange}
+use Rattle.api.specs.Answers.{TellsHeld, TellsFill, TellsCounted, TellsMany, TellsChange}
 use Rattle.demands.specs.Demands.{Numbered, Refused}
 
 -- ---- from what is told to the rule's answer
@@ -34,7 +36,7 @@ use Rattle.demands.specs.Demands.{Numbered, Refused}
 pub fill-is : (plan ps list o : List ℕ) (t : Told) → TellsFill plan ps list o t → t ≡ toldFilling (fillOf plan ps (length list))
 fill-is plan ps list o t p = tells-one toldFilling (FillsCounts plan ps list o) (fillOf plan ps (length list)) (λ r e. e .0) t p
 
-pub held-is : (plan ps list : List ℕ) (p s n : ℕ) (t : Told) → TellsHeld plan ps list p s n t → t ≡ toldHolding (heldOf plan ps list p s n)
+pub held-is : (plan ps list : List ℕ) (p s n : ℕ) (t : Told) → TellsCounted plan ps list p s n t → t ≡ toldHolding (heldOf plan ps list p s n)
 held-is plan ps list p s n t q = tells-one toldHolding (HoldsOne plan ps list p s n) (heldOf plan ps list p s n) (λ r e. e) t q
 
 pub many-is : (plan ps list qs out o : List ℕ) (t : Told) → TellsMany plan ps list qs out o t → t ≡ toldFilling (manyOf plan ps list qs (length out))
@@ -67,7 +69,7 @@ fill-numbers plan ps list o t p =
     room true = refl
     room false = refl
 
-pub held-numbers : (plan ps list : List ℕ) (p s n : ℕ) (t : Told) → TellsHeld plan ps list p s n t → Numbered numbers t
+pub held-numbers : (plan ps list : List ℕ) (p s n : ℕ) (t : Told) → TellsCounted plan ps list p s n t → Numbered numbers t
 unfolding heldOf
 held-numbers plan ps list p s n t q =
     rw (held-is plan ps list p s n t q)
@@ -118,13 +120,14 @@ change-one plan ps list plan₁ plan₂ o₁ o₂ tick owner t t′ (r, p, e) (r
 
 -- ---- what is answered
 
-pub walked : (plan ps list : List ℕ) (p s n : ℕ) (t : Told) → TellsHeld plan ps list p s n t → t .number ≡ 0 → t .first ≡ held own plan p n s
-walked plan ps list p s n t q z = rw e (go (heldOf plan ps list p s n) (proved .held-answers plan ps list p s n) (rw e at z))
+pub walked : (plan ps list : List ℕ) (p s n : ℕ) (t : Told) → TellsCounted plan ps list p s n t → t .number ≡ 0 → TellsHeld 1 plan p s n t
+unfolding goodEdition
+walked plan ps list p s n t q z = (holding.Holds (held Own plan p n s), refl, e ∙ go (heldOf plan ps list p s n) (proved .held-answers plan ps list p s n) (rw e at z))
   where
     e : t ≡ toldHolding (heldOf plan ps list p s n)
     e = held-is plan ps list p s n t q
 
-    go : (r : Holding) → HeldBy plan ps list p s n r → toldHolding r .number ≡ 0 → toldHolding r .first ≡ held own plan p n s
+    go : (r : Holding) → HeldBy plan ps list p s n r → toldHolding r .number ≡ 0 → toldHolding r ≡ placed 0 (held Own plan p n s)
     go r (held-plan x f) z = absurd (not-0 x z)
     go r (held-name g m) z = absurd (not-0 (Asked 0) z)
     go r (held-length g m l) z = absurd (not-0 Output z)
@@ -133,8 +136,8 @@ walked plan ps list p s n t q z = rw e (go (heldOf plan ps list p s n) (proved .
     go r (held-done g m c w) z = refl
 
 pub follow : (plan ps list o plan′ o′ : List ℕ) (tick owner p s n : ℕ) (t u v : Told) → TellsFill plan ps list o t → t .number ≡ 0
-    → TellsChange plan ps o tick owner plan′ o′ u → owner ≤ partitions ps → tick < length plan → TellsHeld plan′ ps o′ p s n v → Named ps p → Within plan s n
-    → (u ≡ placed 0 0) × (v ≡ placed 0 (held own (set plan tick owner) p n s))
+    → TellsChange plan ps o tick owner plan′ o′ u → owner ≤ partitions ps → tick < length plan → TellsCounted plan′ ps o′ p s n v → Named ps p → Within plan s n
+    → (u ≡ placed 0 0) × (v ≡ placed 0 (held Own (set plan tick owner) p n s))
 follow plan ps list o plan′ o′ tick owner p s n t u v (f, pf, ef) z (c, pc, ec) l m (h, ph, eh) a b =
     let g : f ≡ filling.Fills (toldFilling f .first) = filling-fills f (rw ef at z) in
     let w = proved .fill-change-held plan ps list o plan′ o′ (toldFilling f .first) tick owner c (subst (FillsCounts plan ps list o) g pf) pc l m in

@@ -11,19 +11,23 @@ use lib.ListN.{length, take, drop, getD}
 use Rattle.rules.specs.Walk.{pick}
 use Rattle.rules.specs.Limits.{longest}
 use Rattle.rules.specs.Table.{partitions}
-use Rattle.rules.specs.Terms.{granules, wanted}
+use Rattle.rules.specs.Terms.{goodEdition, given, granules, ruleOf, wanted}
+use Rattle.rules.specs.declared.Rule.{Rule}
 use Rattle.tables.specs.Tables.{unless}
 use Rattle.tables.specs.Contracts.{firstBadTick}
 use Rattle.rules.specs.declared.Told.{Told}
 use Rattle.rules.specs.declared.Refusal.{Refusal}
-use Rattle.rules.specs.declared.Refusal.the-variants.{Tick, Shortfall, Unharmonic, Want, Output, Rules, Numbers, Past, Busy, Full, NoPlace, TooFar}
-use Rattle.rules.specs.Refusals.{told, toldFinding, toldFilling, Tells}
+use Rattle.rules.specs.declared.Refusal.the-variants.{Edition, Tick, Shortfall, Unharmonic, Want, Output, Rules, Numbers, Past, Busy, Full, NoPlace, TooFar}
+use Rattle.rules.specs.Refusals.{told, toldFinding, toldFilling, toldHolding, Tells}
 use Rattle.rules.specs.Filling.{leftBy}
 use Rattle.rules.proofs.Known.{not-0, filling-fills, tells-one}
-use Rattle.rules.proofs.Tests.{and-parts}
-use Rattle.tables.proofs.Chain.{unless-parts-hold}
+use Rattle.rules.proofs.Tests.{and-parts, pick-first}
+use Rattle.rules.proofs.Answers.{no-filling}
+use Rattle.rules.specs.declared.Holding.{Holding}
+use Rattle.rules.specs.declared.Holding.the-variants as holding
+use Rattle.tables.proofs.Chain.{unless-parts-hold, not-2}
 use Rattle.output.proofs.Proved as output
-use Rattle.theory.specs.Plan.{own}
+use Rattle.theory.specs.Plan.{held, countIn, HeldIs, least, LeastIs}
 use Rattle.theory.specs.Harmonic.{frame, allWanted, harmonicPlan}
 use Rattle.theory.specs.Task.{taskPoint, taskTick}
 use Rattle.theory.proofs.Proved as theory
@@ -37,11 +41,11 @@ use Rattle.rules.specs.declared.Filling.the-variants as filling
 use Rattle.plan_build.specs.Build.{unharmonic, laidOf, buildOf, Builds}
 use Rattle.plan_build.proofs.Answers as builder
 use Rattle.rules.specs.Walk.{listed}
-use Rattle.counts.specs.Counts.{runningCounts, FillsCounts, HoldsOne, toldHolding, answerAt, questions, HoldsMany}
+use Rattle.counts.specs.Counts.{runningCounts, FillsCounts, HoldsOne, answerAt, questions, HoldsMany}
 use Rattle.counts.proofs.Changes as counts
 use Rattle.task_verdict.specs.Verdict.{Judges, JudgesPlainly, toldJudged}
 use Rattle.task_verdict.proofs.Engines as verdict
-use Rattle.file_tables.proofs.Chain.{file-holds}
+use Rattle.file_tables.proofs.Chain.{file-2, file-holds}
 use Rattle.file_read.specs.declared.Reading.{Reading}
 use Rattle.file_read.specs.declared.Reading.the-variants as reading
 use Rattle.file_read.specs.declared.Body.the-variants.{Partitions, Tasks, Runs}
@@ -67,21 +71,21 @@ use Rattle.desk.proofs.Proved as desk
 use Rattle.desk_lent.proofs.Proved as lent
 use Rattle.plan_curve.specs.Curve.{leastCurve, curveOf, DrawsCurve}
 use Rattle.plan_curve.proofs.Answers as curve
-use Rattle.api.specs.Answers.{TellsCurve, TellsBuild, TellsRead, TellsSection, TellsWrite, TellsList, TellsRequest}
+use Rattle.api.specs.Answers.{TellsHeld, TellsLeast, TellsCurve, TellsBuild, TellsRead, TellsSection, TellsWrite, TellsList, TellsRequest}
 use Rattle.answers.specs.Parts.{toldPart}
-use Rattle.demands.specs.Demands.{among, ToldAs, Numbered, Demand1, OneOutcome, Afresh, lower, Demand2, Demand3, Demands}
+use Rattle.demands.specs.Demands.{among, ToldAs, Numbered, Known, Demand1, OneOutcome, Afresh, lower, Demand2, Demand3, Demands}
 use Rattle.demands.proofs.Entries.{entries}
 use Rattle.demands.proofs.Counting as counting
-use Rattle.demands.proofs.Granules.{granule-exactly, granule-one}
+use Rattle.demands.proofs.Granules.{not-known, known-good, edition-exactly, granule-exactly, granule-one}
 use Rattle.demands.proofs.Judging as judging
 
 -- ---- the numbers, whatever the tests give: one case for each answer
 
 -- what holds of each of the checker's 8 and 9, and of the builder's 10, 11 and 12
-of-plan : (P : Finding → Type 0) (q : ℕ → ℕ) (plan ps : List ℕ) → P found.Good → ((t : ℕ) → P (found.Refused (Tick t))) → ((p s h w : ℕ) → P (found.Refused (Shortfall p s h w)))
-    → P (planCheckOf q plan ps)
+of-plan : (P : Finding → Type 0) (rule : Rule) (q : ℕ → ℕ) (plan ps : List ℕ) → P found.Good → ((t : ℕ) → P (found.Refused (Tick t))) → ((p s h w : ℕ) → P (found.Refused (Shortfall p s h w)))
+    → P (planCheckOf rule q plan ps)
 unfolding planCheckOf scanOf
-of-plan P q plan ps good eight nine = at (ltb (firstBadTick (partitions ps) plan) (length plan)) (ltb (shortPart q plan ps) (partitions ps)) _ _ _ _ _
+of-plan P rule q plan ps good eight nine = at (ltb (firstBadTick (partitions ps) plan) (length plan)) (ltb (shortPart rule q plan ps) (partitions ps)) _ _ _ _ _
   where
     at : (c d : Bool) (t p s h w : ℕ) → P (unless found.Refused (pick c (found.Refused (Tick t)) found.Good) (pick d (found.Refused (Shortfall p s h w)) found.Good))
     at true d t p s h w = eight t
@@ -99,7 +103,7 @@ of-laid P q ps room ten eleven twelve fills = at (unharmonic ps) (ltb (frame ps)
     at false false true = twelve
     at false false false = fills (frame ps)
 
-write-told : (e : Bool) (n : ℕ) → Numbered (3 ∷ 6 ∷ 7 ∷ 8 ∷ 12 ∷ []) (toldFilling (pick e (filling.Refused Output) (filling.Fills n)))
+write-told : (e : Bool) (n : ℕ) → Numbered (2 ∷ 3 ∷ 6 ∷ 7 ∷ 8 ∷ 12 ∷ []) (toldFilling (pick e (filling.Refused Output) (filling.Fills n)))
 write-told true n = refl
 write-told false n = refl
 
@@ -153,11 +157,17 @@ read-is b t p = tells-one toldReading (Reads b) (readOf b) (λ r e. e) t p
 section-is : (b : List ℕ) (which : ℕ) (t : Told) → TellsSection b which t → t ≡ toldPart which (readOf b)
 section-is b which t p = tells-one (toldPart which) (Reads b) (readOf b) (λ r e. e) t p
 
-write-is : (f : ℕ) (ps ts rs out o : List ℕ) (t : Told) → TellsWrite f ps ts rs out o t → t ≡ toldFilling (writeOf f ps ts rs (length out))
-write-is f ps ts rs out o t p = tells-one toldFilling (Writes f ps ts rs out o) (writeOf f ps ts rs (length out)) (λ r e. e .0) t p
+write-is : (i f : ℕ) (ps ts rs out o : List ℕ) (t : Told) → TellsWrite i f ps ts rs out o t → t ≡ toldFilling (writeOf i f ps ts rs (length out))
+write-is i f ps ts rs out o t p = tells-one toldFilling (Writes i f ps ts rs out o) (writeOf i f ps ts rs (length out)) (λ r e. e .0) t p
 
-curve-is : (plan : List ℕ) (p n : ℕ) (list o : List ℕ) (t : Told) → TellsCurve plan p n list o t → t ≡ toldFilling (curveOf n (length list))
-curve-is plan p n list o t c = tells-one toldFilling (DrawsCurve plan p n list o) (curveOf n (length list)) (λ r e. e .0) t c
+curve-is : (i : ℕ) (plan : List ℕ) (p n : ℕ) (list o : List ℕ) (t : Told) → TellsCurve i plan p n list o t → t ≡ toldFilling (curveOf i n (length list))
+curve-is i plan p n list o t c = tells-one toldFilling (DrawsCurve i plan p n list o) (curveOf i n (length list)) (λ r e. e .0) t c
+
+held-is : (i : ℕ) (plan : List ℕ) (p s n : ℕ) (t : Told) → TellsHeld i plan p s n t → t ≡ toldHolding (countIn i (held (ruleOf i) plan p n s))
+held-is i plan p s n t q = tells-one toldHolding (HeldIs i plan p s n) _ (λ r e. e) t q
+
+least-is : (i : ℕ) (plan : List ℕ) (p u : ℕ) (t : Told) → TellsLeast i plan p u t → t ≡ toldHolding (countIn i (least (ruleOf i) plan p u))
+least-is i plan p u t q = tells-one toldHolding (LeastIs i plan p u) _ (λ r e. e) t q
 
 list-is : (b out o : List ℕ) (t : Told) → TellsList b out o t → t ≡ toldFilling (listOf b (length out))
 list-is b out o t p = tells-one toldFilling (Lists b out o) (listOf b (length out)) (λ r e. e .0) t p
@@ -181,6 +191,33 @@ module _ (o : Outcome) (k′ : Desk) (l′ : List Job) (t : Told) (p : Tells sai
 
   afresh-is : (¬ (said (o .answer) .number ≡ 13) → flexes (take (o .count) (o .jobs)) ≡ take (o .count) (o .jobs)) → ¬ (t .number ≡ 13) → Afresh k′ l′
   afresh-is h n = rw (p .1 .1, p .1 .2) (h (λ e. n (rw desk-is e)))
+
+-- ---- 2, of a call that judges the edition by itself
+
+-- a test of the edition, with 2 where it fails
+module _ {A : Type 0} (i : ℕ) (number : A → ℕ) (next two : A) (z : number two ≡ 2) (after : ¬ (number next ≡ 2)) where
+  by-edition : (number (pick (goodEdition i) next two) ≡ 2) ↔ (¬ Known i)
+  by-edition = (λ h k. at (goodEdition i) refl h k, λ n. rw (not-known i n) z)
+    where
+      at : (b : Bool) → goodEdition i ≡ b → number (pick b next two) ≡ 2 → ¬ Known i
+      at true e h k = after h
+      at false e h k = known-good i k e
+
+count-told : (i n : ℕ) → Numbered (2 ∷ []) (toldHolding (countIn i n))
+count-told i n = at (goodEdition i)
+  where
+    at : (b : Bool) → Numbered (2 ∷ []) (toldHolding (pick b (holding.Holds n) (holding.Refused Edition)))
+    at true = refl
+    at false = refl
+
+curve-told : (a b : Bool) (n : ℕ) → Numbered (2 ∷ 12 ∷ []) (toldFilling (pick a (pick b (filling.Refused Output) (filling.Fills n)) (filling.Refused Edition)))
+curve-told true true n = refl
+curve-told true false n = refl
+curve-told false b n = refl
+
+filled-told : (b : Bool) (n : ℕ) → ¬ (toldFilling (pick b (filling.Refused Output) (filling.Fills n)) .number ≡ 2)
+filled-told true n z = absurd (omega arith)
+filled-told false n z = absurd (omega arith)
 
 -- ---- what a refusal leaves
 
@@ -311,14 +348,14 @@ no-part : (b : List ℕ) (which : ℕ) → Partly (readOf b) which
 no-part b which = at (readOf b)
   where
     at : (c : Reading) → Partly c which
-    at (reading.Contents f p t r) n = absurd (n refl)
+    at (reading.Contents i f p t r) n = absurd (n refl)
     at (reading.Refused x) n = refl
 
 a-part : (b : List ℕ) (which : ℕ) → toldReading (readOf b) .number ≡ 0 → toldPart which (readOf b) .number ≡ 0
 a-part b which = at (readOf b)
   where
     at : (c : Reading) → toldReading c .number ≡ 0 → toldPart which c .number ≡ 0
-    at (reading.Contents f p t r) e = refl
+    at (reading.Contents i f p t r) e = refl
     at (reading.Refused x) e = absurd (not-0 x e)
 
 first : Demand1
@@ -326,29 +363,31 @@ unfolding curveOf checkOf buildOf readOf writeOf listOf openOf
 first = record {
   build-numbers = λ g ps out o t p.
       rw (build-is g ps out o t p)
-      (unless-parts-hold (granules g) longest ps (λ (r : Filling). Numbered (3 ∷ 21 ∷ 6 ∷ 10 ∷ 11 ∷ 12 ∷ []) (toldFilling r)) filling.Refused (laidOf (wanted (granules g) ps) ps (length out)) refl (λ e. refl) (λ k. refl)
+      (unless-parts-hold (granules g) longest ps (λ (r : Filling). Numbered (3 ∷ 21 ∷ 6 ∷ 10 ∷ 11 ∷ 12 ∷ []) (toldFilling r)) filling.Refused (laidOf (wanted (granules g) ps) ps (length out)) not-2 refl (λ e. refl) (λ k. refl)
       (of-laid (λ (r : Filling). Numbered (3 ∷ 21 ∷ 6 ∷ 10 ∷ 11 ∷ 12 ∷ []) (toldFilling r)) (wanted (granules g) ps) ps (length out) refl refl refl (λ h. refl)));
-  curve-numbers = λ plan p n list o t c. rw (curve-is plan p n list o t c) (list-told (ltb (length list) (n + 1)) _);
-  check-numbers = λ g plan ps t p.
-      rw (judging.check-is g plan ps t p)
-      (unless-parts-hold (granules g) (length plan) ps (λ (r : Finding). Numbered (3 ∷ 21 ∷ 6 ∷ 8 ∷ 9 ∷ []) (toldFinding r)) found.Refused (planCheckOf (wanted (granules g) ps) plan ps) refl (λ e. refl) (λ k. refl)
-      (of-plan (λ (r : Finding). Numbered (3 ∷ 21 ∷ 6 ∷ 8 ∷ 9 ∷ []) (toldFinding r)) (wanted (granules g) ps) plan ps refl (λ t. refl) (λ p s h w. refl)));
+  held-numbers = λ i plan p s n t q. rw (held-is i plan p s n t q) (count-told i _);
+  least-numbers = λ i plan p u t q. rw (least-is i plan p u t q) (count-told i _);
+  curve-numbers = λ i plan p n list o t c. rw (curve-is i plan p n list o t c) (curve-told (goodEdition i) (ltb (length list) (n + 1)) _);
+  check-numbers = λ i g plan ps t p.
+      rw (judging.check-is i g plan ps t p)
+      (unless-parts-hold (given i g) (length plan) ps (λ (r : Finding). Numbered (2 ∷ 3 ∷ 21 ∷ 6 ∷ 8 ∷ 9 ∷ []) (toldFinding r)) found.Refused (planCheckOf (ruleOf i) (wanted (given i g) ps) plan ps) (λ e. refl) refl (λ e. refl) (λ k. refl)
+      (of-plan (λ (r : Finding). Numbered (2 ∷ 3 ∷ 21 ∷ 6 ∷ 8 ∷ 9 ∷ []) (toldFinding r)) (ruleOf i) (wanted (given i g) ps) plan ps refl (λ t. refl) (λ p s h w. refl)));
   fill-numbers = counting.fill-numbers;
   counts-held-numbers = counting.held-numbers;
   many-numbers = counting.many-numbers;
   change-numbers = counting.change-numbers;
-  verdict-numbers = judging.judged-numbers (taskPoint own);
-  plain-numbers = judging.judged-numbers (taskTick own);
+  verdict-numbers = judging.judged-numbers taskPoint;
+  plain-numbers = judging.judged-numbers taskTick;
   read-numbers = λ b t p.
       rw (read-is b t p)
       (contents-hold b (λ (c : Reading). Numbered (1 ∷ 2 ∷ 3 ∷ 4 ∷ 5 ∷ 6 ∷ 7 ∷ 8 ∷ []) (toldReading (judgedBy c b))) refl refl refl refl refl
-      (λ f p t r. file-holds f (tableBy (reading.Contents f p t r) b Partitions) (tableBy (reading.Contents f p t r) b Tasks) (tableBy (reading.Contents f p t r) b Runs)
-      (λ (c : Reading). Numbered (1 ∷ 2 ∷ 3 ∷ 4 ∷ 5 ∷ 6 ∷ 7 ∷ 8 ∷ []) (toldReading c)) reading.Refused (reading.Contents f p t r) refl (λ k. refl) (λ j. refl) (λ r. refl) refl));
+      (λ i f p t r. file-holds i f (tableBy (reading.Contents i f p t r) b Partitions) (tableBy (reading.Contents i f p t r) b Tasks) (tableBy (reading.Contents i f p t r) b Runs)
+      (λ (c : Reading). Numbered (1 ∷ 2 ∷ 3 ∷ 4 ∷ 5 ∷ 6 ∷ 7 ∷ 8 ∷ []) (toldReading c)) reading.Refused (reading.Contents i f p t r) (λ e. refl) refl (λ k. refl) (λ j. refl) (λ r. refl) refl));
   section-refused = λ b which t u p q n. section-is b which t p ∙ no-part b which (λ z. n (rw (read-is b u q) z)) ∙ sym (read-is b u q);
   section-good = λ b which t u p q e. rw (section-is b which t p) (a-part b which (rw (read-is b u q) at e));
-  write-numbers = λ f ps ts rs out o t p.
-      rw (write-is f ps ts rs out o t p)
-      (file-holds f ps ts rs (λ (w : Filling). Numbered (3 ∷ 6 ∷ 7 ∷ 8 ∷ 12 ∷ []) (toldFilling w)) filling.Refused _ refl (λ k. refl) (λ j. refl) (λ r. refl)
+  write-numbers = λ i f ps ts rs out o t p.
+      rw (write-is i f ps ts rs out o t p)
+      (file-holds i f ps ts rs (λ (w : Filling). Numbered (2 ∷ 3 ∷ 6 ∷ 7 ∷ 8 ∷ 12 ∷ []) (toldFilling w)) filling.Refused _ (λ e. refl) refl (λ k. refl) (λ j. refl) (λ r. refl)
       (write-told (ltb (length out) (sizeFor ps ts rs)) _));
   list-numbers = λ b out o t p. rw (list-is b out o t p) (list-told (ltb (length out) (length (listingOf b))) _);
   open-numbers = λ k k′ l l′ t p. rw (desk-is _ k′ l′ t p) (open-told (tableOk (k .count) l) _ _ (k .count) (k .clock));
@@ -356,19 +395,38 @@ first = record {
     rw (desk-is _ k′ l′ t p) (request-holds (λ o. Numbered (13 ∷ 14 ∷ 15 ∷ 16 ∷ 17 ∷ 18 ∷ 19 ∷ []) (said (o .answer))) (k .clock) (k .count) l time c d refl refl refl refl refl refl refl (λ i s. refl)),
     λ e. absurd (desk.proved .never-too-far (k .clock) (k .count) l time c d (rw (desk-is _ k′ l′ t p) at e)),
   );
+  held-edition = λ i plan p s n t q.
+      rw (held-is i plan p s n t q) (by-edition i (λ (r : Holding). toldHolding r .number) (holding.Holds (held (ruleOf i) plan p n s)) (holding.Refused Edition) refl (λ z. absurd (omega arith)));
+  least-edition = λ i plan p u t q.
+      rw (least-is i plan p u t q) (by-edition i (λ (r : Holding). toldHolding r .number) (holding.Holds (least (ruleOf i) plan p u)) (holding.Refused Edition) refl (λ z. absurd (omega arith)));
+  curve-edition = λ i plan p n list o t c.
+      rw (curve-is i plan p n list o t c) (by-edition i (λ (r : Filling). toldFilling r .number) _ (filling.Refused Edition) refl (filled-told (ltb (length list) (n + 1)) _));
+  check-edition = λ i g plan ps t p.
+      rw (judging.check-is i g plan ps t p)
+      (edition-exactly i g (length plan) ps [] (λ (r : Finding). toldFinding r .number) found.Refused (planCheckOf (ruleOf i) (wanted (given i g) ps) plan ps) (λ r. refl)
+      (of-plan (λ (r : Finding). ¬ (toldFinding r .number ≡ 2)) (ruleOf i) (wanted (given i g) ps) plan ps (λ z. absurd (omega arith)) (λ t z. absurd (omega arith)) (λ p s h w z. absurd (omega arith))));
+  verdict-edition = judging.judged-edition taskPoint;
+  plain-edition = judging.judged-edition taskTick;
+  write-edition = λ i f ps ts rs out o t p.
+      rw (write-is i f ps ts rs out o t p) (
+        λ h k.
+            file-holds i f ps ts rs (λ (w : Filling). ¬ (toldFilling w .number ≡ 2)) filling.Refused _ (known-good i k) (λ z. absurd (omega arith)) (λ j z. absurd (omega arith)) (λ j z. absurd (omega arith)) (λ r z. absurd (omega arith))
+            (filled-told (ltb (length out) (sizeFor ps ts rs)) _) h,
+        λ n. rw (← file-2 i f ps ts rs (not-known i n)),
+      );
   build-granule = λ g ps out o t p.
       rw (build-is g ps out o t p)
-      (granule-exactly g longest ps [] (λ (r : Filling). toldFilling r .number) filling.Refused (laidOf (wanted (granules g) ps) ps (length out)) (λ r. refl)
+      (granule-exactly 1 g longest ps [] (λ (r : Filling). toldFilling r .number) filling.Refused (laidOf (wanted (granules g) ps) ps (length out)) (λ r. refl)
       (of-laid (λ (r : Filling). ¬ (toldFilling r .number ≡ 21)) (wanted (granules g) ps) ps (length out) (λ z. absurd (omega arith)) (λ z. absurd (omega arith)) (λ z. absurd (omega arith)) (λ h z. absurd (omega arith))));
-  check-granule = λ g plan ps t p.
-      rw (judging.check-is g plan ps t p)
-      (granule-exactly g (length plan) ps [] (λ (r : Finding). toldFinding r .number) found.Refused (planCheckOf (wanted (granules g) ps) plan ps) (λ r. refl)
-      (of-plan (λ (r : Finding). ¬ (toldFinding r .number ≡ 21)) (wanted (granules g) ps) plan ps (λ z. absurd (omega arith)) (λ t z. absurd (omega arith)) (λ p s h w z. absurd (omega arith))));
-  verdict-granule = judging.judged-granule (taskPoint own);
-  plain-granule = judging.judged-granule (taskTick own);
+  check-granule = λ i g plan ps t p.
+      rw (judging.check-is i g plan ps t p)
+      (granule-exactly i g (length plan) ps [] (λ (r : Finding). toldFinding r .number) found.Refused (planCheckOf (ruleOf i) (wanted (given i g) ps) plan ps) (λ r. refl)
+      (of-plan (λ (r : Finding). ¬ (toldFinding r .number ≡ 21)) (ruleOf i) (wanted (given i g) ps) plan ps (λ z. absurd (omega arith)) (λ t z. absurd (omega arith)) (λ p s h w z. absurd (omega arith))));
+  verdict-granule = judging.judged-granule taskPoint;
+  plain-granule = judging.judged-granule taskTick;
   build-refused = λ g ps out o t p n. p .1 .1 ∙ left-refused (p .0) (harmonicPlan (wanted (granules g) ps) ps) out (λ z. n (rw (p .2) z));
-  write-refused = λ f ps ts rs out o t p n. p .1 .1 ∙ left-refused (writeOf f ps ts rs (length out)) (fileOf f ps ts rs) out (λ z. n (rw (write-is f ps ts rs out o t p) z));
-  curve-refused = λ plan p n list o t c r. c .1 .1 ∙ left-refused (c .0) (leastCurve own plan p n) list (λ z. r (rw (c .2) z));
+  write-refused = λ i f ps ts rs out o t p n. p .1 .1 ∙ left-refused (writeOf i f ps ts rs (length out)) (fileOf i f ps ts rs) out (λ z. n (rw (write-is i f ps ts rs out o t p) z));
+  curve-refused = λ i plan p n list o t c r. c .1 .1 ∙ left-refused (c .0) (leastCurve (ruleOf i) plan p n) list (λ z. r (rw (c .2) z));
   list-refused = λ b out o t p n. p .1 .1 ∙ left-refused (listOf b (length out)) (listingOf b) out (λ z. n (rw (list-is b out o t p) z));
   fill-refused = λ plan ps list o t p n. p .1 .1 ∙ left-refused (p .0) (runningCounts plan ps) list (λ z. n (rw (p .2) z));
   many-refused = λ plan ps list qs out o t p n. p .1 .1 ∙ left-refused (p .0) (listed (answerAt plan qs) (questions qs)) out (λ z. n (rw (p .2) z));
@@ -397,22 +455,29 @@ desk-one o k₁ k₂ l₁ l₂ t t′ (r, p, e) (r′, p′, e′) =
 
 one-outcome : OneOutcome
 one-outcome = record {
-  curve-one = λ plan p n list. same-left toldFilling (DrawsCurve plan p n list) (curve.proved .curve-one plan p n list);
-  check-one = λ g plan ps. same-told toldFinding (Checks (granules g) plan ps) (checker.proved .check-one (granules g) plan ps);
+  held-one = λ i plan p s n. same-told toldHolding (HeldIs i plan p s n) (theory.proved .held-one i plan p s n);
+  least-one = λ i plan p u. same-told toldHolding (LeastIs i plan p u) (theory.proved .least-one i plan p u);
+  curve-one = λ i plan p n list. same-left toldFilling (DrawsCurve i plan p n list) (curve.proved .curve-one i plan p n list);
+  check-one = λ i g plan ps. same-told toldFinding (Checks (given i g) plan ps) (checker.proved .check-one (given i g) plan ps);
   build-one = λ g ps out. same-left toldFilling (Builds (granules g) ps out) (builder.proved .build-one (granules g) ps out);
   fill-one = λ plan ps list. same-left toldFilling (FillsCounts plan ps list) (counts.proved .fill-one plan ps list);
   counts-held-one = λ plan ps list p s n. same-told toldHolding (HoldsOne plan ps list p s n) (counts.proved .held-one plan ps list p s n);
   many-one = λ plan ps list qs out. same-left toldFilling (HoldsMany plan ps list qs out) (counts.proved .many-one plan ps list qs out);
   change-one = counting.change-one;
-  verdict-one = λ g plan ps ts place. same-told toldJudged (Judges (granules g) plan ps ts place) (verdict.proved .verdict-one (granules g) plan ps ts place);
-  plain-one = λ g plan ps ts place. same-told toldJudged (JudgesPlainly (granules g) plan ps ts place) (verdict.proved .plain-one (granules g) plan ps ts place);
+  verdict-one = λ i g plan ps ts place. same-told toldJudged (Judges (given i g) plan ps ts place) (verdict.proved .verdict-one (given i g) plan ps ts place);
+  plain-one = λ i g plan ps ts place. same-told toldJudged (JudgesPlainly (given i g) plan ps ts place) (verdict.proved .plain-one (given i g) plan ps ts place);
   read-one = λ b. same-told toldReading (Reads b) (reader.proved .one-read b);
   section-one = λ b which. same-told (toldPart which) (Reads b) (reader.proved .one-read b);
-  write-one = λ f ps ts rs out. same-left toldFilling (Writes f ps ts rs out) (writer.proved .one-write f ps ts rs out);
+  write-one = λ i f ps ts rs out. same-left toldFilling (Writes i f ps ts rs out) (writer.proved .one-write i f ps ts rs out);
   list-one = λ b out. same-left toldFilling (Lists b out) (listing.proved .listing-one b out);
   open-one = λ k k₁ k₂ l l₁ l₂ t t′. desk-one (openOf (k .clock) (k .count) l) k₁ k₂ l₁ l₂ t t′;
   request-one = λ k k₁ k₂ l l₁ l₂ time c d t t′. desk-one (requestOf (k .clock) (k .count) l time c d) k₁ k₂ l₁ l₂ t t′;
 }
+
+-- a curve that is drawn is of a known edition
+drawn : (i n room m : ℕ) → curveOf i n room ≡ filling.Fills m → goodEdition i ≡ true
+unfolding curveOf
+drawn i n room m e = pick-first (goodEdition i) _ _ (filling.Fills m) (no-filling m Edition) e .0
 
 second : Demand2
 second = record {
@@ -434,12 +499,18 @@ second = record {
   granule-one = granule-one;
   read-write = writer.proved .read-write;
   write-read = writer.proved .write-read;
-  curve-least = λ plan p n list o t (r, c, e) z u l.
+  curve-least = λ i plan p n list o t (r, c, e) z u l.
       let h : r ≡ filling.Fills (t .first) = rw e (filling-fills r (rw e at z)) in
-      curve.proved .curve-leaves plan p n (t .first) list o (subst (DrawsCurve plan p n list o) h c) .2 u l;
+      let w = curve.proved .curve-leaves i plan p n (t .first) list o (subst (DrawsCurve i plan p n list o) h c) .2 u l in
+      let g = drawn i n (length list) (t .first) (sym (c .0) ∙ h) in
+      (holding.Holds (least (ruleOf i) plan p u), rw g, rw w);
   counts-walked = counting.walked;
   counts-follow = counting.follow;
   engines-alike = judging.engines-alike;
+  accepted-before = λ i g plan ps t u p e q.
+      rw (judging.check-is 1 g plan ps u q, checker.proved .accepted-before (given i g) plan ps (judging.accepted-is i g plan ps t p e));
+  passed-before = judging.passed-before taskPoint (verdict.proved .by-points) judging.point-from-1;
+  plain-passed-before = judging.passed-before taskTick (verdict.proved .by-ticks) judging.tick-from-1;
   open-afresh = λ k k′ l l′ t p. afresh-is _ k′ l′ t p (desk.proved .open-afresh (k .clock) (k .count) l);
   request-afresh = λ k k′ l l′ time c d t p. afresh-is _ k′ l′ t p (desk.proved .request-afresh (k .clock) (k .count) l time c d);
   lower-exactly = lower-told;
@@ -451,19 +522,19 @@ second = record {
 
 third : Demand3
 third = record {
-  ends-in-time = judging.ends-in-time (taskPoint own) (verdict.proved .by-points);
-  ends-in-time-for-ever = judging.ends-in-time-for-ever (taskPoint own) (verdict.proved .by-points);
-  plain-ends-in-time = judging.ends-in-time (taskTick own) (verdict.proved .by-ticks);
-  plain-ends-in-time-for-ever = judging.ends-in-time-for-ever (taskTick own) (verdict.proved .by-ticks);
+  ends-in-time = judging.ends-in-time taskPoint (verdict.proved .by-points);
+  ends-in-time-for-ever = judging.ends-in-time-for-ever taskPoint (verdict.proved .by-points);
+  plain-ends-in-time = judging.ends-in-time taskTick (verdict.proved .by-ticks);
+  plain-ends-in-time-for-ever = judging.ends-in-time-for-ever taskTick (verdict.proved .by-ticks);
   runs-exist = theory.proved .legal-exists;
   runs-unique = theory.proved .legal-one;
   built-serves = λ g ps out o t u (r, b, e) n q.
       let h : r ≡ filling.Fills (t .first) = rw e (filling-fills r (rw e at n)) in
-      rw (judging.check-is g (take (t .first) o) ps u q, builder.built-serves (granules g) ps out o (t .first) (subst (Builds (granules g) ps out o) h b));
+      rw (judging.check-is 1 g (take (t .first) o) ps u q, builder.built-serves (granules g) ps out o (t .first) (subst (Builds (granules g) ps out o) h b));
   want-exactly = λ g ps out o t p. rw (build-is g ps out o t p) (builder.want-exactly (granules g) ps (length out));
   want-none = λ g ps out o t p e. builder.want-none (granules g) ps (length out) (rw (build-is g ps out o t p) at e);
-  want-checked = λ g ps out o t p e plan u q n.
-      builder.want-checked (granules g) ps (length out) (rw (build-is g ps out o t p) at e) plan (judging.accepted-is g plan ps u q n);
+  want-checked = λ g ps out o t p e i plan u q n.
+      builder.want-checked (granules g) ps (length out) (rw (build-is g ps out o t p) at e) i plan (judging.accepted-is i g plan ps u q n);
 }
 
 pub demands : Demands

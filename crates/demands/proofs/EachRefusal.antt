@@ -4,9 +4,10 @@ use mathlib.Core.Path.{refl}
 use mathlib.Core.List.{List}
 use Rattle.rules.specs.Walk.{only, fails, first, sum, count, smallest, largest, walk, gathered, listed, roundUp}
 use Rattle.rules.specs.Table.{wants, goodShare, goodTimes}
-use Rattle.rules.specs.Terms.{goodGranule}
-use Rattle.tables.specs.Tables.{countedIn, withinLimits, tablesOf}
-use Rattle.theory.specs.Plan.{own, owner, owned, least}
+use Rattle.rules.specs.declared.Rule.{Rule}
+use Rattle.rules.specs.Terms.{goodEdition, goodGranule}
+use Rattle.tables.specs.Tables.{countedIn, withinLimits, inEdition, tablesOf}
+use Rattle.theory.specs.Plan.{owner, ownerBefore, switchTick, unswitched, service, owned, least}
 use Rattle.theory.specs.Harmonic.{pairs, frame, allWanted, sooner, rank, give, turn, planned}
 use Rattle.plan_curve.specs.Curve.{curveOf}
 use Rattle.plan_check.specs.Check.{shortAt, scanOf, planCheckOf, checkOf}
@@ -14,7 +15,7 @@ use Rattle.plan_build.specs.Build.{unharmonic, laidOf, buildOf}
 use Rattle.counts.specs.Counts.{countAt, agreesAt, planJudged, listJudged, countsJudged, goodName, goodStretch, fillOf, heldOf, namesOne, withinFrame, answerAt, manyOf, changeOf}
 use Rattle.theory.specs.Load.{asked, demand, multiple, point, holds, earliest}
 use Rattle.theory.specs.Task.{rival, taskLoad, taskPoint, taskTick}
-use Rattle.task_verdict.specs.Verdict.{placeOf, answerableOf, verdictBy}
+use Rattle.task_verdict.specs.Verdict.{placeOf, answerableOf, passAt, verdictBy}
 use Rattle.file_codec.specs.Bytes.{numsOf, bytesOf}
 use Rattle.file_tables.specs.Runs.{runOwner, runLength, repeats, goodRun, runsJudged, fileTablesOf}
 use Rattle.file_read.specs.Reader.{tableBy, countsOf, contentsOf, readOf}
@@ -28,18 +29,23 @@ use Rattle.share_words.specs.Words.{blank, stops, stopsAt, width, wordOf, restO
 use Rattle.share_line.specs.Rows.{granuleRow, partRow, taskRow, recordOf, rowOf}
 use Rattle.share_line.specs.Expected.{expectedLine}
 use Rattle.share_text.specs.Table.{lineOf, afterLine, fromLine, rowAt, closesAt, wrongAt, numsAt, recordsOf, seenOf, sizedOf, readTextOf}
-use Rattle.share_plan.specs.Answer.{planFile, writeBuiltOf, writePlanOf, fileOrLine, answerOf}
+use Rattle.share_plan.specs.Answer.{planFile, writeBuiltOf, writePlanOf, shortLine, whyLine, fileOrLine, answerOf}
 use Rattle.file_listing.specs.Listing.{tablesLines, listingOf, listOf}
 use Rattle.desk.specs.Table.{openOf}
 use Rattle.desk.specs.Request.{requestOf}
 use Rattle.demands.proofs.Judging.{TellsBy}
-use Rattle.demands.specs.EachRefusal.{EachPlan, EachVerdict, EachCount, EachFile, EachText, EachDesk, EachLimit, EachRefusal}
+use Rattle.demands.specs.EachRefusal.{EachPlan, EachVerdict, EachCount, EachFile, EachText, EachEdition, EachDesk, EachLimit, EachRefusal}
 
 plans : EachPlan
-unfolding only fails first sum count smallest largest walk gathered roundUp wants countedIn withinLimits goodGranule tablesOf goodShare owner owned least pairs frame allWanted sooner rank give turn planned listed curveOf shortAt scanOf planCheckOf checkOf unharmonic laidOf buildOf
+unfolding only fails first sum count smallest largest walk gathered roundUp wants countedIn withinLimits goodGranule goodEdition inEdition tablesOf goodShare service owner owned least pairs frame allWanted sooner rank give turn planned listed curveOf shortAt scanOf planCheckOf checkOf unharmonic laidOf buildOf
 plans = record {
+  held-2 = ((_, refl, refl), (_, refl, refl));
+  least-2 = ((_, refl, refl), (_, refl, refl));
   curve-0 = (_, (refl, refl), refl);
   curve-12 = (_, (refl, refl), refl);
+  curve-2 = (_, (refl, refl), refl);
+  check-2 = (_, refl, refl);
+  check-2-first = (_, refl, refl);
   check-3 = (_, refl, refl);
   check-21 = (_, refl, refl);
   check-21-past = (_, refl, refl);
@@ -64,9 +70,11 @@ plans = record {
 }
 
 -- a refusal is told before the engine is asked
-verdicts : (engine : List ℕ → List ℕ → ℕ → ℕ) → EachVerdict (TellsBy engine)
-unfolding only fails first sum count roundUp wants countedIn withinLimits goodGranule tablesOf goodShare goodTimes owner owned shortAt scanOf planCheckOf placeOf answerableOf verdictBy
+verdicts : (engine : Rule → List ℕ → List ℕ → ℕ → ℕ) → EachVerdict (TellsBy engine)
+unfolding only fails first sum count roundUp wants countedIn withinLimits goodGranule goodEdition inEdition tablesOf goodShare goodTimes service owner owned shortAt scanOf planCheckOf placeOf answerableOf verdictBy
 verdicts engine = record {
+  verdict-2 = (_, refl, refl);
+  verdict-2-first = (_, refl, refl);
   verdict-3 = (_, refl, refl);
   verdict-21 = (_, refl, refl);
   verdict-21-first = (_, refl, refl);
@@ -82,7 +90,7 @@ verdicts engine = record {
 }
 
 counts : EachCount
-unfolding only fails first sum count listed countedIn withinLimits goodGranule tablesOf goodShare owner owned countAt agreesAt planJudged listJudged countsJudged goodName goodStretch fillOf heldOf namesOne withinFrame answerAt manyOf changeOf
+unfolding only fails first sum count listed countedIn withinLimits goodGranule goodEdition inEdition tablesOf goodShare service owner owned countAt agreesAt planJudged listJudged countsJudged goodName goodStretch fillOf heldOf namesOne withinFrame answerAt manyOf changeOf
 counts = record {
   fill-0 = (_, (refl, refl), refl);
   fill-3 = (_, (refl, refl), refl);
@@ -129,10 +137,11 @@ counts = record {
 }
 
 files : EachFile
-unfolding only fails first sum count smallest largest gathered roundUp wants countedIn withinLimits goodGranule tablesOf goodShare goodTimes owner owned shortAt scanOf planCheckOf checkOf numsOf bytesOf runOwner runLength repeats goodRun runsJudged fileTablesOf tableBy countsOf contentsOf readOf fileOf writeOf ticksOf digits decimal refusedLine least rival taskLoad asked demand multiple point holds earliest frameLine partitionLine passLine partLine taskLine pageOf tablesLines listingOf listOf
+unfolding only fails first sum count smallest largest gathered roundUp wants countedIn withinLimits goodGranule goodEdition inEdition tablesOf goodShare goodTimes service owner owned shortAt scanOf planCheckOf checkOf numsOf bytesOf runOwner runLength repeats goodRun runsJudged fileTablesOf tableBy countsOf contentsOf readOf fileOf writeOf ticksOf digits decimal refusedLine least rival taskLoad asked demand multiple point holds earliest frameLine partitionLine passLine partLine taskLine pageOf tablesLines listingOf listOf
 files = record {
   read-1 = (_, refl, refl);
   read-2 = (_, refl, refl);
+  read-2-none = (_, refl, refl);
   read-3 = (_, refl, refl);
   read-4 = (_, refl, refl);
   read-5 = (_, refl, refl);
@@ -150,6 +159,8 @@ files = record {
   sections = ((_, refl, refl), (_, refl, refl), (_, refl, refl));
   section-other = (_, refl, refl);
   write-0 = (_, (refl, refl), refl);
+  write-2 = (_, (refl, refl), refl);
+  write-2-first = (_, (refl, refl), refl);
   write-3 = (_, (refl, refl), refl);
   write-6 = (_, (refl, refl), refl);
   write-7 = (_, (refl, refl), refl);
@@ -168,8 +179,10 @@ files = record {
 }
 
 texts : EachText
-unfolding only fails first sum count smallest largest gathered roundUp wants countedIn withinLimits goodGranule tablesOf goodShare goodTimes pairs frame allWanted unharmonic laidOf buildOf digits decimal value refusedLine expectedLine blank stops stopsAt width wordOf restOf differs same isNumber numeral granuleRow partRow taskRow recordOf rowOf lineOf afterLine fromLine rowAt closesAt wrongAt numsAt recordsOf seenOf sizedOf readTextOf joined runsOf repeats runOwner runLength goodRun runsJudged fileTablesOf owner owned sooner rank give turn planned listed walk writeOf planFile writeBuiltOf writePlanOf fileOrLine answerOf
+unfolding only fails first sum count smallest largest gathered roundUp wants countedIn withinLimits goodGranule goodEdition inEdition tablesOf goodShare goodTimes pairs frame allWanted unharmonic laidOf buildOf digits decimal value refusedLine expectedLine blank stops stopsAt width wordOf restOf differs same isNumber numeral granuleRow partRow taskRow recordOf rowOf lineOf afterLine fromLine rowAt closesAt wrongAt numsAt recordsOf seenOf sizedOf readTextOf joined runsOf repeats runOwner runLength goodRun runsJudged fileTablesOf service owner owned sooner rank give turn planned listed walk writeOf shortAt scanOf planCheckOf checkOf planFile writeBuiltOf writePlanOf whyLine fileOrLine answerOf
 texts = record {
+  plan-2 = record { place = refl; bytes = refl };
+  plan-2-past = record { place = refl; bytes = refl };
   plan-3 = record { place = refl; bytes = refl };
   plan-21 = record { place = refl; bytes = refl };
   plan-3-first = record { place = refl; bytes = refl };
@@ -182,6 +195,25 @@ texts = record {
   plan-late = record { place = refl; bytes = refl };
   plan-twice = record { place = refl; bytes = refl };
   plan-12 = record { place = refl; bytes = refl };
+}
+
+editions : EachEdition
+unfolding only fails first sum count smallest largest walk gathered roundUp wants countedIn withinLimits goodGranule goodEdition inEdition tablesOf goodShare goodTimes owner ownerBefore switchTick unswitched service owned least curveOf shortAt scanOf planCheckOf checkOf rival taskLoad asked demand multiple point holds earliest placeOf answerableOf passAt verdictBy numsOf bytesOf runOwner runLength repeats goodRun runsJudged fileTablesOf tableBy countsOf contentsOf readOf fileOf writeOf ticksOf digits decimal value refusedLine tablesLines listingOf listOf pairs frame allWanted sooner rank give turn planned listed unharmonic laidOf buildOf blank stops stopsAt width wordOf restOf differs same isNumber numeral granuleRow partRow taskRow recordOf rowOf lineOf afterLine fromLine rowAt closesAt wrongAt numsAt recordsOf seenOf sizedOf readTextOf joined runsOf planFile writeBuiltOf writePlanOf shortLine whyLine fileOrLine answerOf
+editions = record {
+  held = ((_, refl, refl), (_, refl, refl));
+  held-joined = ((_, refl, refl), (_, refl, refl));
+  held-switch = ((_, refl, refl), (_, refl, refl), (_, refl, refl));
+  least = ((_, refl, refl), (_, refl, refl), (_, refl, refl));
+  curve = (_, (refl, refl), refl);
+  check = (_, refl, refl);
+  check-9 = (_, refl, refl);
+  verdict-9 = ((_, refl, refl), (_, refl, refl));
+  verdict-pass = ((_, refl, refl), (_, refl, refl));
+  verdict-fail = ((_, refl, refl), (_, refl, refl));
+  read = (_, refl, refl);
+  write = (_, (refl, refl), refl);
+  list = (_, (refl, refl), refl);
+  plan = record { place = refl; bytes = refl };
 }
 
 desks : EachDesk
@@ -198,7 +230,7 @@ desks = record {
 }
 
 limits : EachLimit
-unfolding only fails first sum count smallest largest gathered roundUp wants countedIn withinLimits goodGranule tablesOf goodShare goodTimes pairs frame allWanted unharmonic laidOf buildOf numsOf runOwner runLength repeats goodRun runsJudged fileTablesOf countsOf contentsOf readOf writeOf openOf requestOf
+unfolding only fails first sum count smallest largest gathered roundUp wants countedIn withinLimits goodGranule goodEdition inEdition tablesOf goodShare goodTimes pairs frame allWanted unharmonic laidOf buildOf numsOf runOwner runLength repeats goodRun runsJudged fileTablesOf countsOf contentsOf readOf writeOf openOf requestOf
 limits = record {
   partitions-16 = (_, (refl, refl), refl);
   partitions-17 = (_, (refl, refl), refl);
@@ -229,4 +261,4 @@ limits = record {
 }
 
 pub each-refusal : EachRefusal
-each-refusal = record { plans = plans; verdicts = verdicts (taskPoint own); plain-verdicts = verdicts (taskTick own); counts = counts; files = files; texts = texts; desks = desks; limits = limits }
+each-refusal = record { plans = plans; verdicts = verdicts taskPoint; plain-verdicts = verdicts taskTick; counts = counts; files = files; texts = texts; editions = editions; desks = desks; limits = limits }

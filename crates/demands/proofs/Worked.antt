@@ -2,9 +2,9 @@
 use mathlib.Core.Path.{refl}
 use Rattle.rules.specs.Walk.{only, fails, first, sum, count, smallest, largest, walk, gathered, listed, roundUp}
 use Rattle.rules.specs.Table.{wants, goodShare, goodTimes}
-use Rattle.rules.specs.Terms.{goodGranule}
-use Rattle.tables.specs.Tables.{countedIn, withinLimits, tablesOf}
-use Rattle.theory.specs.Plan.{owner, owned, least}
+use Rattle.rules.specs.Terms.{goodEdition, goodGranule}
+use Rattle.tables.specs.Tables.{countedIn, withinLimits, inEdition, tablesOf}
+use Rattle.theory.specs.Plan.{owner, service, owned, least}
 use Rattle.theory.specs.Harmonic.{pairs, frame, allWanted, sooner, rank, give, turn, planned}
 use Rattle.theory.specs.Load.{asked, demand, multiple, point, holds, earliest}
 use Rattle.theory.specs.Task.{rival, taskLoad}
@@ -24,7 +24,7 @@ use Rattle.desk.specs.Request.{requestOf}
 use Rattle.demands.specs.Document01.{Document01}
 
 pub worked : Document01
-unfolding only fails first sum count smallest largest walk gathered roundUp wants countedIn withinLimits goodGranule tablesOf goodShare goodTimes owner owned least pairs frame allWanted sooner rank give turn planned listed rival taskLoad asked demand multiple point holds earliest shortAt scanOf planCheckOf checkOf unharmonic laidOf buildOf placeOf answerableOf passAt verdictBy numsOf runOwner runLength repeats goodRun runsJudged fileTablesOf tableBy countsOf contentsOf readOf ticksOf digits decimal frameLine partitionLine passLine partLine taskLine pageOf tablesLines listingOf listOf openOf requestOf
+unfolding only fails first sum count smallest largest walk gathered roundUp wants countedIn withinLimits goodGranule goodEdition inEdition tablesOf goodShare goodTimes service owner owned least pairs frame allWanted sooner rank give turn planned listed rival taskLoad asked demand multiple point holds earliest shortAt scanOf planCheckOf checkOf unharmonic laidOf buildOf placeOf answerableOf passAt verdictBy numsOf runOwner runLength repeats goodRun runsJudged fileTablesOf tableBy countsOf contentsOf readOf ticksOf digits decimal frameLine partitionLine passLine partLine taskLine pageOf tablesLines listingOf listOf openOf requestOf
 worked = record {
   p1-wants = (refl, refl, refl);
   p1 = (_, (refl, refl), refl);
@@ -33,7 +33,7 @@ worked = record {
   p3 = (refl, (_, (refl, refl), refl));
   p4 = (_, (refl, refl), refl);
   p5 = (_, refl, refl);
-  s1 = (refl, refl, refl, refl);
+  s1 = ((_, refl, refl), (_, refl, refl), (_, refl, refl), (_, refl, refl));
   v1 = (_, refl, refl);
   v2 = ((_, refl, refl), (_, refl, refl));
   v1-plain = (_, refl, refl);

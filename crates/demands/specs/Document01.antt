@@ -1,5 +1,5 @@
 -- The worked examples of document 01, D6 and W1's last line as document 02 has them, and V1 and V2 by the plain engine too, under one statement: each is what its
--- entry tells and leaves, with granule 1 where it takes one. Assumes nothing.
+-- entry tells and leaves, in edition 1 and with granule 1 where it takes them. Assumes nothing.
 use Prim.Native.Nat.{ℕ}
 use mathlib.Core.Path.{_≡_}
 use mathlib.Core.List.{List, [], _∷_, _++_}
@@ -7,14 +7,14 @@ use lib.ListN.{replicate}
 use Rattle.rules.specs.Table.{WantsIs}
 use Rattle.rules.specs.Terms.{usual, wanted}
 use Rattle.rules.specs.Refusals.{placed, telling}
+use Rattle.rules.specs.declared.Told.{Told}
 use Rattle.output.specs.Text.{bytes}
-use Rattle.theory.specs.Plan.{LeastIs}
 use Rattle.theory.specs.Harmonic.{frame, allWanted}
 use Rattle.desk.specs.declared.Job.{Job}
 use Rattle.desk.specs.declared.Desk.{Desk}
 use Rattle.desk.specs.Table.{job, filled}
 use Rattle.desk.specs.Request.{room}
-use Rattle.api.specs.Answers.{TellsCheck, TellsBuild, TellsVerdict, TellsPlain, TellsRead, TellsList, TellsOpen, TellsRequest}
+use Rattle.api.specs.Answers.{TellsLeast, TellsCheck, TellsBuild, TellsVerdict, TellsPlain, TellsRead, TellsList, TellsOpen, TellsRequest}
 
 -- "Cycles 4, 8, 8, shares 1/4, 3/8" and a third share
 abbrev pub three : ℕ → ℕ → List ℕ
@@ -54,6 +54,10 @@ opened = filled (job 10 3 20 6 ∷ job 15 5 24 4 ∷ job 30 2 40 8 ∷ [])
 abbrev pub file : List ℕ
 file = 0 ∷ 1 ∷ 0 ∷ 4 ∷ 0 ∷ 16 ∷ 0 ∷ 2 ∷ 0 ∷ 28 ∷ 0 ∷ 1 ∷ 0 ∷ 36 ∷ 0 ∷ 2 ∷ 0 ∷ 4 ∷ 0 ∷ 1 ∷ 0 ∷ 2 ∷ 0 ∷ 4 ∷ 0 ∷ 1 ∷ 0 ∷ 3 ∷ 0 ∷ 1 ∷ 0 ∷ 1 ∷ 0 ∷ 4 ∷ 0 ∷ 4 ∷ 0 ∷ 1 ∷ 0 ∷ 2 ∷ 0 ∷ 2 ∷ 0 ∷ 2 ∷ []
 
+-- what is told of a file that is read: its edition behind the frame and the counts
+abbrev pub contained : ℕ → ℕ → ℕ → ℕ → ℕ → Told
+contained e frame np nt nr = record { number = 0; first = frame; second = np; third = nt; fourth = nr; fifth = e }
+
 -- an output as long as the listing, that holds something
 abbrev pub page : List ℕ
 page = replicate 107 7
@@ -70,7 +74,7 @@ pub record Document01 : Type 0 where
   -- "q = 1, 3, 1; plan 1 2 2 2 1 3 0 0"
   pub p1-wants : WantsIs 1 4 1 4 1 × WantsIs 1 8 3 8 3 × WantsIs 1 8 1 100 1
   pub p1 : TellsBuild 1 (three 1 100) eight plan1 (placed 0 8)
-  pub p1-serves : TellsCheck 1 plan1 (three 1 100) (placed 0 0)
+  pub p1-serves : TellsCheck 1 1 plan1 (three 1 100) (placed 0 0)
   -- "Third share 3/8: plan 1 2 2 2 1 3 3 3, full."
   pub p2 : TellsBuild 1 (three 3 8) eight plan2 (placed 0 8)
   -- "Third share 1/2: 2 + 3 + 4 = 9 > 8, refusal 11."
@@ -78,15 +82,15 @@ pub record Document01 : Type 0 where
   -- "Cycles 4 and 6: refusal 10."
   pub p4 : TellsBuild 1 (4 ∷ 1 ∷ 2 ∷ 6 ∷ 1 ∷ 2 ∷ []) eight eight (placed 10 0)
   -- "One partition, cycle 4, share 1/2, plan 1 1 0 0 0 0 1 1: refusal 9 at start 1, which holds 1 and wants 2."
-  pub p5 : TellsCheck 1 plan5 (4 ∷ 1 ∷ 2 ∷ []) (telling 9 1 1 1 2)
+  pub p5 : TellsCheck 1 1 plan5 (4 ∷ 1 ∷ 2 ∷ []) (telling 9 1 1 1 2)
   -- "In P1, partition 2 has least(5) = 0, least(8) = 3, least(13) = 3, least(14) = 4."
-  pub s1 : LeastIs plan1 2 5 0 × LeastIs plan1 2 8 3 × LeastIs plan1 2 13 3 × LeastIs plan1 2 14 4
+  pub s1 : TellsLeast 1 plan1 2 5 (placed 0 0) × TellsLeast 1 plan1 2 8 (placed 0 3) × TellsLeast 1 plan1 2 13 (placed 0 3) × TellsLeast 1 plan1 2 14 (placed 0 4)
   -- "first task .. passes at 8. Second .. with D 13 it fails (4 > 3), with D 14 it passes at 14."
-  pub v1 : TellsVerdict 1 plan1 (three 1 100) (two 14) 1 (placed 0 8)
-  pub v2 : TellsVerdict 1 plan1 (three 1 100) (two 13) 2 (placed 0 0) × TellsVerdict 1 plan1 (three 1 100) (two 14) 2 (placed 0 14)
+  pub v1 : TellsVerdict 1 1 plan1 (three 1 100) (two 14) 1 (placed 0 8)
+  pub v2 : TellsVerdict 1 1 plan1 (three 1 100) (two 13) 2 (placed 0 0) × TellsVerdict 1 1 plan1 (three 1 100) (two 14) 2 (placed 0 14)
   -- by the plain engine: least(7) is 2, a tick before the first task's point
-  pub v1-plain : TellsPlain 1 plan1 (three 1 100) (two 14) 1 (placed 0 7)
-  pub v2-plain : TellsPlain 1 plan1 (three 1 100) (two 13) 2 (placed 0 0) × TellsPlain 1 plan1 (three 1 100) (two 14) 2 (placed 0 14)
+  pub v1-plain : TellsPlain 1 1 plan1 (three 1 100) (two 14) 1 (placed 0 7)
+  pub v2-plain : TellsPlain 1 1 plan1 (three 1 100) (two 13) 2 (placed 0 0) × TellsPlain 1 1 plan1 (three 1 100) (two 14) 2 (placed 0 14)
   -- "Opened with (10, 3, 20), (15, 5, 24), (30, 2, 40), x is 6, 4, 8."
   pub d1 : TellsOpen (desk 77 3) lent (desk 0 3) opened (placed 0 0)
   -- "t 8, C 6, d 16: start 8. Starts become 8, 14, 17, 30, x 2, 2, 2, 8."
@@ -101,5 +105,5 @@ pub record Document01 : Type 0 where
   -- "From D1, t 25, C 4, d 29"; document 02, ask 1: "D6 starts at 25."
   pub d6 : TellsRequest (desk 0 3) opened 25 4 29 (desk 25 2) (filled (job 25 4 29 0 ∷ job 30 2 40 8 ∷ [])) (telling 0 0 25 0 0)
   -- the whole example's contents, and "Its listing"; document 02, ask 4: "W1's last line becomes `task 1 partition 1 pass 4 tick 3`"
-  pub w1-read : TellsRead file (telling 0 4 2 1 2)
+  pub w1-read : TellsRead file (contained 1 4 2 1 2)
   pub w1 : TellsList file page listing (placed 0 107)

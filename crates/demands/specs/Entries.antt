@@ -25,7 +25,7 @@ use Rattle.file_listing.specs.Listing.{Lists}
 use Rattle.share_text.specs.Table.{ReadsText}
 use Rattle.share_plan.specs.Answer.{Plans}
 use Rattle.desk.specs.Call.{callOf, Leaves}
-use Rattle.api.specs.Answers.{TellsCurve, TellsCheck, TellsBuild, TellsFill, TellsHeld, TellsMany, TellsChange, TellsVerdict, TellsPlain, TellsRead, TellsSection, TellsWrite, TellsList, TellsOpen, TellsRequest}
+use Rattle.api.specs.Answers.{TellsHeld, TellsLeast, TellsCurve, TellsCheck, TellsBuild, TellsFill, TellsCounted, TellsMany, TellsChange, TellsVerdict, TellsPlain, TellsRead, TellsSection, TellsWrite, TellsList, TellsOpen, TellsRequest}
 use Rattle.api.proofs.merkazobi_wants as c-wants
 use Rattle.api.proofs.merkazobi_held as c-held
 use Rattle.api.proofs.merkazobi_least as c-least
@@ -76,37 +76,37 @@ module _ {M : Type 1} (𝓤 : URA M) (H : Heap 𝓤) (A : Atoms 𝓤) (mem : Mem
   pub record Entries : Type 1 where
     -- the C surface
     pub of-c-wants : Ensures c-wants.ended (c-wants.clauses 𝓤 H A mem run) (λ κs a r e. WantsIs (a .0) (a .1 .0) (a .1 .1 .0) (a .1 .1 .1 .0) r)
-    pub of-c-held : Ensures c-held.ended (c-held.clauses 𝓤 H A mem run) (λ κs a r e. HeldIs (a .0 .now) (a .1 .0) (a .1 .1 .0) (a .1 .1 .1 .0) r)
-    pub of-c-least : Ensures c-least.ended (c-least.clauses 𝓤 H A mem run) (λ κs a r e. LeastIs (a .0 .now) (a .1 .0) (a .1 .1 .0) r)
+    pub of-c-held : Ensures c-held.ended (c-held.clauses 𝓤 H A mem run) (λ κs a r e. TellsHeld (a .0) (a .1 .0 .now) (a .1 .1 .0) (a .1 .1 .1 .0) (a .1 .1 .1 .1 .0) r)
+    pub of-c-least : Ensures c-least.ended (c-least.clauses 𝓤 H A mem run) (λ κs a r e. TellsLeast (a .0) (a .1 .0 .now) (a .1 .1 .0) (a .1 .1 .1 .0) r)
     pub of-c-curve : Ensures c-curve.ended (c-curve.clauses 𝓤 H A mem run)
-        (λ κs a r e. TellsCurve (a .0 .now) (a .1 .0) (a .1 .1 .0) (a .1 .1 .1 .0 .now) (e .1 .1 .1 .0 .now) r)
-    pub of-c-check : Ensures c-check.ended (c-check.clauses 𝓤 H A mem run) (λ κs a r e. TellsCheck (a .0) (a .1 .0 .now) (a .1 .1 .0 .now) r)
+        (λ κs a r e. TellsCurve (a .0) (a .1 .0 .now) (a .1 .1 .0) (a .1 .1 .1 .0) (a .1 .1 .1 .1 .0 .now) (e .1 .1 .1 .1 .0 .now) r)
+    pub of-c-check : Ensures c-check.ended (c-check.clauses 𝓤 H A mem run) (λ κs a r e. TellsCheck (a .0) (a .1 .0) (a .1 .1 .0 .now) (a .1 .1 .1 .0 .now) r)
     pub of-c-build : Ensures c-build.ended (c-build.clauses 𝓤 H A mem run) (λ κs a r e. TellsBuild (a .0) (a .1 .0 .now) (a .1 .1 .0 .now) (e .1 .1 .0 .now) r)
     pub of-c-fill : Ensures c-fill.ended (c-fill.clauses 𝓤 H A mem run) (λ κs a r e. TellsFill (a .0 .now) (a .1 .0 .now) (a .1 .1 .0 .now) (e .1 .1 .0 .now) r)
     pub of-c-counts-held : Ensures c-counts-held.ended (c-counts-held.clauses 𝓤 H A mem run)
-        (λ κs a r e. TellsHeld (a .0 .now) (a .1 .0 .now) (a .1 .1 .0 .now) (a .1 .1 .1 .0) (a .1 .1 .1 .1 .0) (a .1 .1 .1 .1 .1 .0) r)
+        (λ κs a r e. TellsCounted (a .0 .now) (a .1 .0 .now) (a .1 .1 .0 .now) (a .1 .1 .1 .0) (a .1 .1 .1 .1 .0) (a .1 .1 .1 .1 .1 .0) r)
     pub of-c-many : Ensures c-many.ended (c-many.clauses 𝓤 H A mem run)
         (λ κs a r e. TellsMany (a .0 .now) (a .1 .0 .now) (a .1 .1 .0 .now) (a .1 .1 .1 .0 .now) (a .1 .1 .1 .1 .0 .now) (e .1 .1 .1 .1 .0 .now) r)
     pub of-c-change : Ensures c-change.ended (c-change.clauses 𝓤 H A mem run)
         (λ κs a r e. TellsChange (a .0 .now) (a .1 .0 .now) (a .1 .1 .0 .now) (a .1 .1 .1 .0) (a .1 .1 .1 .1 .0) (e .0 .now) (e .1 .1 .0 .now) r)
     pub of-c-verdict : Ensures c-verdict.ended (c-verdict.clauses 𝓤 H A mem run)
-        (λ κs a r e. TellsVerdict (a .0) (a .1 .0 .now) (a .1 .1 .0 .now) (a .1 .1 .1 .0 .now) (a .1 .1 .1 .1 .0) r)
+        (λ κs a r e. TellsVerdict (a .0) (a .1 .0) (a .1 .1 .0 .now) (a .1 .1 .1 .0 .now) (a .1 .1 .1 .1 .0 .now) (a .1 .1 .1 .1 .1 .0) r)
     pub of-c-plain : Ensures c-plain.ended (c-plain.clauses 𝓤 H A mem run)
-        (λ κs a r e. TellsPlain (a .0) (a .1 .0 .now) (a .1 .1 .0 .now) (a .1 .1 .1 .0 .now) (a .1 .1 .1 .1 .0) r)
+        (λ κs a r e. TellsPlain (a .0) (a .1 .0) (a .1 .1 .0 .now) (a .1 .1 .1 .0 .now) (a .1 .1 .1 .1 .0 .now) (a .1 .1 .1 .1 .1 .0) r)
     pub of-c-read : Ensures c-read.ended (c-read.clauses 𝓤 H A mem run) (λ κs a r e. TellsRead (a .0 .now) r)
     pub of-c-section : Ensures c-section.ended (c-section.clauses 𝓤 H A mem run) (λ κs a r e. TellsSection (a .0 .now) (a .1 .0) r)
     pub of-c-write : Ensures c-write.ended (c-write.clauses 𝓤 H A mem run)
-        (λ κs a r e. TellsWrite (a .0) (a .1 .0 .now) (a .1 .1 .0 .now) (a .1 .1 .1 .0 .now) (a .1 .1 .1 .1 .0 .now) (e .1 .1 .1 .1 .0 .now) r)
+        (λ κs a r e. TellsWrite (a .0) (a .1 .0) (a .1 .1 .0 .now) (a .1 .1 .1 .0 .now) (a .1 .1 .1 .1 .0 .now) (a .1 .1 .1 .1 .1 .0 .now) (e .1 .1 .1 .1 .1 .0 .now) r)
     pub of-c-list : Ensures c-list.ended (c-list.clauses 𝓤 H A mem run) (λ κs a r e. TellsList (a .0 .now) (a .1 .0 .now) (e .1 .0 .now) r)
     pub of-c-open : Ensures c-open.ended (c-open.clauses 𝓤 H A mem run) (λ κs a r e. TellsOpen (a .0 .now) (a .1 .0 .now) (e .0 .now) (e .1 .0 .now) r)
     pub of-c-request : Ensures c-request.ended (c-request.clauses 𝓤 H A mem run)
         (λ κs a r e. TellsRequest (a .0 .now) (a .1 .0 .now) (a .1 .1 .0) (a .1 .1 .1 .0) (a .1 .1 .1 .1 .0) (e .0 .now) (e .1 .0 .now) r)
     -- the entries of the crates
     pub of-wants : Ensures wants.ended (wants.clauses 𝓤 H A mem run) (λ κs a r e. WantsIs (a .0) (a .1 .0) (a .1 .1 .0) (a .1 .1 .1 .0) r)
-    pub of-held : Ensures held.ended (held.clauses 𝓤 H A mem run) (λ κs a r e. HeldIs (a .0 .now) (a .1 .0) (a .1 .1 .0) (a .1 .1 .1 .0) r)
-    pub of-least : Ensures least.ended (least.clauses 𝓤 H A mem run) (λ κs a r e. LeastIs (a .0 .now) (a .1 .0) (a .1 .1 .0) r)
+    pub of-held : Ensures held.ended (held.clauses 𝓤 H A mem run) (λ κs a r e. HeldIs (a .0) (a .1 .0 .now) (a .1 .1 .0) (a .1 .1 .1 .0) (a .1 .1 .1 .1 .0) r)
+    pub of-least : Ensures least.ended (least.clauses 𝓤 H A mem run) (λ κs a r e. LeastIs (a .0) (a .1 .0 .now) (a .1 .1 .0) (a .1 .1 .1 .0) r)
     pub of-curve : Ensures curve.ended (curve.clauses 𝓤 H A mem run)
-        (λ κs a r e. DrawsCurve (a .0 .now) (a .1 .0) (a .1 .1 .0) (a .1 .1 .1 .0 .now) (e .1 .1 .1 .0 .now) r)
+        (λ κs a r e. DrawsCurve (a .0) (a .1 .0 .now) (a .1 .1 .0) (a .1 .1 .1 .0) (a .1 .1 .1 .1 .0 .now) (e .1 .1 .1 .1 .0 .now) r)
     pub of-check : Ensures check.ended (check.clauses 𝓤 H A mem run) (λ κs a r e. Checks (a .0) (a .1 .0 .now) (a .1 .1 .0 .now) r)
     pub of-build : Ensures build.ended (build.clauses 𝓤 H A mem run) (λ κs a r e. Builds (a .0) (a .1 .0 .now) (a .1 .1 .0 .now) (e .1 .1 .0 .now) r)
     pub of-fill : Ensures fill.ended (fill.clauses 𝓤 H A mem run) (λ κs a r e. FillsCounts (a .0 .now) (a .1 .0 .now) (a .1 .1 .0 .now) (e .1 .1 .0 .now) r)
@@ -121,12 +121,12 @@ module _ {M : Type 1} (𝓤 : URA M) (H : Heap 𝓤) (A : Atoms 𝓤) (mem : Mem
     pub of-read : Ensures read.ended (read.clauses 𝓤 H A mem run) (λ κs a r e. Reads (a .0 .now) r)
     pub of-section : Ensures section.ended (section.clauses 𝓤 H A mem run) (λ κs a r e. HandsBack (a .0 .now) (a .1 .0) (r .now))
     pub of-write : Ensures write.ended (write.clauses 𝓤 H A mem run)
-        (λ κs a r e. Writes (a .0) (a .1 .0 .now) (a .1 .1 .0 .now) (a .1 .1 .1 .0 .now) (a .1 .1 .1 .1 .0 .now) (e .1 .1 .1 .1 .0 .now) r)
+        (λ κs a r e. Writes (a .0) (a .1 .0) (a .1 .1 .0 .now) (a .1 .1 .1 .0 .now) (a .1 .1 .1 .1 .0 .now) (a .1 .1 .1 .1 .1 .0 .now) (e .1 .1 .1 .1 .1 .0 .now) r)
     pub of-ticks : Ensures ticks-of.ended (ticks-of.clauses 𝓤 H A mem run) (λ κs a r e. Put (a .1 .0 .now) 0 (ticksPut (a .0 .now)) r (e .1 .0 .now))
     pub of-runs : Ensures runs-of.ended (runs-of.clauses 𝓤 H A mem run) (λ κs a r e. Put (a .1 .0 .now) 0 (runsPut (a .0 .now)) r (e .1 .0 .now))
     pub of-listing : Ensures listing.ended (listing.clauses 𝓤 H A mem run) (λ κs a r e. Lists (a .0 .now) (a .1 .0 .now) (e .1 .0 .now) r)
     pub of-share-table : Ensures read-text.ended (read-text.clauses 𝓤 H A mem run)
         (λ κs a r e. ReadsText (a .0 .now) (a .1 .0 .now) (a .1 .1 .0 .now) (e .1 .0 .now) (e .1 .1 .0 .now) r)
-    pub of-planner : Ensures plan.ended (plan.clauses 𝓤 H A mem run) (λ κs a r e. Plans (a .0 .now) (a .1 .0 .now) (e .1 .0 .now) r)
+    pub of-planner : Ensures plan.ended (plan.clauses 𝓤 H A mem run) (λ κs a r e. Plans (a .0) (a .1 .0 .now) (a .1 .1 .0 .now) (e .1 .1 .0 .now) r)
     pub of-desk : Ensures call.ended (call.clauses 𝓤 H A mem run)
         (λ κs a r e. Leaves (callOf (a .0 .now .clock) (a .0 .now .count) (a .1 .0 .now) (a .1 .1 .0)) r (e .0 .now) (e .1 .0 .now))

@@ -6,7 +6,7 @@ use mathlib.Core.Bool.{Bool, true, false, not}
 use native.Mathlib.Omega.{arith}
 use lib.ListN.{length}
 use lib.Dec.{ltb, leb}
-use borrow.Author.Tests.{lt-ltb, le-ltb, lt-leb, le-leb, leb-true}
+use borrow.Author.Tests.{lt-ltb, le-ltb, lt-leb, le-leb}
 use Rattle.rules.specs.Limits.{mostPartitions, mostTasks, longest, newestEdition, partWidth, taskWidth, runWidth}
 use Rattle.rules.specs.Walk.{pick, fails, sum, Every}
 use Rattle.rules.specs.Table.{partitions, tasks}
@@ -17,7 +17,7 @@ use Rattle.rules.specs.declared.Refusal.the-variants.{Edition, Limits, Partitio
 use Rattle.rules.specs.declared.Finding.{Finding}
 use Rattle.rules.specs.declared.Finding.the-variants.{Good, Refused}
 use Rattle.rules.proofs.Sum.{sum-more}
-use Rattle.rules.proofs.Tests.{pick-first, and-parts}
+use Rattle.rules.proofs.Tests.{pick-first, and-parts, good-edition}
 use Rattle.tables.proofs.Chain.{not-good, both-good, lowest-good, good-lowest, counted-parts, within, tables-on, good-exactly, unless-holds, usual-not-21}
 use Rattle.file_tables.specs.Contracts.{runsCounted, firstBadRun}
 use Rattle.file_tables.specs.Runs.{runOwner, runLength, runs, repeats, reached, goodRun, runsJudged, fileTablesOf}
@@ -82,11 +82,6 @@ module _ (parts frame : ℕ) (rs : List ℕ) (r : ℕ) (er : r ≡ firstBadRun p
 -- runs that count are few
 pub counted-runs : (r : ℕ) → runsCounted r ≡ true → (r ≡ runWidth * (r / runWidth)) × (1 ≤ r / runWidth) × (r / runWidth ≤ longest)
 counted-runs r e = let a = counted-parts 1 longest runWidth r e in (omega (arith, a .0), a .1, a .2)
-
--- "2 now means neither 1 nor 2"
-edition-range : (e : ℕ) → goodEdition e ≡ true → (1 ≤ e) × (e ≤ newestEdition)
-unfolding goodEdition
-edition-range e d = let a = and-parts (leb 1 e) (leb e newestEdition) d in (leb-true 1 e (a .0), leb-true e newestEdition (a .1))
 
 module _ (ed frame : ℕ) (ps ts rs : List ℕ) where
   pub file-2 : goodEdition ed ≡ false → Refused Edition ≡ fileTablesOf ed frame ps ts rs
@@ -180,7 +175,7 @@ pub record Sizes (ed frame : ℕ) (ps ts rs : List ℕ) : Type 0 where
 
 pub sizes : (ed frame : ℕ) (ps ts rs : List ℕ) → GoodFile ed frame ps ts rs → Sizes ed frame ps ts rs
 sizes ed frame ps ts rs g =
-    let d = edition-range ed (g .tables .edition) in
+    let d = good-edition ed (g .tables .edition) in
     let w = within frame (length ps) (length ts) (g .tables .limits) in
     let c = counted-runs (length rs) (g .counted) in
     record {

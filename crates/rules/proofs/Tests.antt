@@ -6,9 +6,9 @@ use Prim.Native.Nat.{ℕ, _≤_, _<_}
 use lib.Dec.{T, leb}
 use borrow.Author.Tests.{leb-true}
 use Rattle.rules.specs.Walk.{pick, first}
-use Rattle.rules.specs.Limits.{longest, finestShare, mostGranule}
+use Rattle.rules.specs.Limits.{longest, finestShare, mostGranule, newestEdition}
 use Rattle.rules.specs.Table.{goodShare, goodTimes}
-use Rattle.rules.specs.Terms.{goodGranule}
+use Rattle.rules.specs.Terms.{goodEdition, goodGranule}
 use Rattle.rules.proofs.First.{first-at, first-past}
 use Rattle.rules.proofs.Sum.{le-or-lt}
 
@@ -57,6 +57,11 @@ any-or-none p n = go (le-or-lt n (first p n))
     go : (n ≤ first p n) ⊎ (first p n < n) → ((k : ℕ) × (k < n) × (p k ≡ true)) ⊎ ((k : ℕ) → k < n → p k ≡ false)
     go (inl h) = inr (first-past p n h)
     go (inr h) = inl (first p n, h, first-at p n h)
+
+-- an edition is 1 or 2
+pub good-edition : (e : ℕ) → goodEdition e ≡ true → (1 ≤ e) × (e ≤ newestEdition)
+unfolding goodEdition
+good-edition e h = let a = and-parts (leb 1 e) (leb e newestEdition) h in (leb-true 1 e (a .0), leb-true e newestEdition (a .1))
 
 -- "g from 1 to 16"
 pub good-granule : (g : ℕ) → goodGranule g ≡ true → (1 ≤ g) × (g ≤ mostGranule)

@@ -33,7 +33,7 @@ use Rattle.plan_check.specs.Theorems.{FallsShort}
 use Rattle.plan_check.proofs.Answers.{check-serves, check-short, accepted-without}
 use Rattle.plan_build.specs.Build.{unharmonic, laidOf, buildOf}
 use Rattle.plan_build.proofs.Answers.{built-serves, frame-exactly}
-use Rattle.plan_build.proofs.Orders.{counted-few}
+use Rattle.plan_build.proofs.Orders.{counted-few, laid}
 use Rattle.rules.specs.declared.Filling.the-variants.{Fills, Refused}
 use Rattle.rules.specs.Refusals.{told, toldFinding, toldFilling}
 use Rattle.rules.proofs.Known.{by-number, filling-as}
@@ -60,6 +60,10 @@ serves terms ps e =
     let out : List ℕ = replicate longest 0 in
     let s = built-serves terms ps out _ (frame ps) (rw (length-replicate {A = ℕ} longest 0) (sym e), refl) in
     rw (take-at (harmonicPlan (wanted terms ps) ps) (drop (frame ps) out) (frame ps) (listed-length (planned (wanted terms ps) ps (partitions ps)) (frame ps))) at s
+
+-- the same of any frame that is answered
+pub built-accepted : (terms : Terms) (ps : List ℕ) (h : ℕ) → buildOf terms ps longest ≡ Fills h → checkOf (granules (terms .granule)) (harmonicPlan (wanted terms ps) ps) ps ≡ found.Good
+built-accepted terms ps h e = serves terms ps (rw (laid terms ps longest h e .is-frame) at e)
 
 file-serves : FileServes
 unfolding planFile
@@ -133,13 +137,13 @@ build-not-9 : (terms : Terms) (ps : List ℕ) → NotNine (buildOf terms ps long
 unfolding buildOf laidOf
 build-not-9 terms ps =
     unless-parts-hold terms longest ps NotNine Refused _ (λ i q. absurd (omega arith)) (λ q. absurd (omega arith)) (λ g q. absurd (omega arith)) (λ k q. absurd (omega arith))
-    (laid (unharmonic ps) (ltb (frame ps) (allWanted (wanted terms ps) ps (frame ps))) (ltb longest (frame ps)))
+    (in-order (unharmonic ps) (ltb (frame ps) (allWanted (wanted terms ps) ps (frame ps))) (ltb longest (frame ps)))
   where
-    laid : (a b c : Bool) → NotNine (pick a (Refused Unharmonic) (pick b (Refused Want) (pick c (Refused Output) (Fills (frame ps)))))
-    laid true b c q = absurd (omega arith)
-    laid false true c q = absurd (omega arith)
-    laid false false true q = absurd (omega arith)
-    laid false false false q = absurd (omega arith)
+    in-order : (a b c : Bool) → NotNine (pick a (Refused Unharmonic) (pick b (Refused Want) (pick c (Refused Output) (Fills (frame ps)))))
+    in-order true b c q = absurd (omega arith)
+    in-order false true c q = absurd (omega arith)
+    in-order false false true q = absurd (omega arith)
+    in-order false false false q = absurd (omega arith)
 
 write-not-9 : (i frame : ℕ) (ps ts rs : List ℕ) (room : ℕ) → NotNine (writeOf i frame ps ts rs room)
 unfolding writeOf
