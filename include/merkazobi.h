@@ -42,6 +42,9 @@ extern "C" {
 /* "g from 1 to 16": the granule of a call. Ticks are wanted in multiples of it; 1 asks for whole ticks and no more. */
 #define MERKAZOBI_GRANULE_TICKS 16
 
+/* The newest edition; every one from 1 on is known. */
+#define MERKAZOBI_NEWEST_EDITION 2
+
 /* The desk: "64 jobs; times and budgets up to 1,000,000". */
 #define MERKAZOBI_PLACES 64
 #define MERKAZOBI_TIME 1000000
@@ -79,11 +82,11 @@ extern "C" {
 #define MERKAZOBI_LIST_STACK 81920
 
 /* The refusal numbers. Where several rules are broken the lowest number is told, then the lowest place; place 0, which is
-   of no record, comes after all others of its number, and 21 comes after 3 and before 6. */
+   of no record, comes after all others of its number, and 21 comes after 3 and before 6. In a call 2 comes first. */
 enum {
     MERKAZOBI_GOOD = 0,
     MERKAZOBI_FILE_SHORT = 1, /* file under 16 bytes */
-    MERKAZOBI_EDITION = 2,    /* edition */
+    MERKAZOBI_EDITION = 2,    /* the edition is neither 1 nor 2 */
     MERKAZOBI_LIMITS = 3,     /* a count or frame outside its limits */
     MERKAZOBI_OFFSET = 4,     /* an offset is wrong */
     MERKAZOBI_LENGTH = 5,     /* length differs from the contents */
@@ -108,7 +111,7 @@ enum {
                                  second: of many questions the place from 1 */
 };
 
-/* What a call answers. number is 0 where the call is not refused, else the refusal's number; first to fourth hold what is
+/* What a call answers. number is 0 where the call is not refused, else the refusal's number; first to fifth hold what is
    returned beside it, and 0 where there is nothing. */
 typedef struct {
     size_t number;
@@ -116,9 +119,18 @@ typedef struct {
     size_t second;
     size_t third;
     size_t fourth;
+    size_t fifth;
 } merkazobi_answer;
 
 /* ---- Shares and plans. Refusals 1 to 12 and 21 change no output; a success changes only what it needs.
+
+   The edition says which of the ticks that a partition owns serve it. In edition 1 all do. In edition 2 "the first tick
+   of a run is spent on switching when the tick before belongs to another partition or to idle, the frame's end joined to
+   its start": such a switch tick is owned, but serves nobody. So plan[k], where it isn't 0, is a switch tick when
+   plan[k - 1], or for k 0 the plan's last tick, is another; a plan of one run has none. No stretch is served more in
+   edition 2 than in 1: a plan that is accepted there, and a task that passes, is and does so in edition 1. The builder's
+   plans serve in edition 1 and need not in 2: check them there. An edition is taken in its whole width, and what is
+   neither 1 nor 2 is refused with 2, before everything else.
 
    Boxes that switch only at multiples of g ticks of service in a cycle give g as the granule, all others 1. It sizes the
    share and no more: windows need not start on it. A plan is checked, and its tasks are judged, with the granule that it
@@ -131,18 +143,20 @@ typedef struct {
    6. Then no plan serves. */
 size_t merkazobi_wants(size_t granule, uint16_t m, uint16_t num, uint16_t den);
 
-/* The ticks of partition p in the n ticks of the repeated plan from tick s on; ticks is the plan's length. For p 0 it
-   counts idle ticks. Of an empty plan every tick is idle. */
-size_t merkazobi_held(const uint16_t *plan, size_t ticks, uint16_t p, uint32_t s, uint32_t n);
+/* How many of the n ticks of the repeated plan from tick s on serve partition p; ticks is the plan's length. first: the
+   count. For p 0 it counts the ticks that serve nobody: idle ones, and in edition 2 switch ticks. Of an empty plan every
+   tick is idle. Refusal 2. */
+merkazobi_answer merkazobi_held(size_t edition, const uint16_t *plan, size_t ticks, uint16_t p, uint32_t s, uint32_t n);
 
-/* "the smallest number of a partition's ticks in any t consecutive ticks of the repeated plan"; p and ticks as above. */
-size_t merkazobi_least(const uint16_t *plan, size_t ticks, uint16_t p, uint32_t t);
+/* "the smallest number of a partition's ticks in any t consecutive ticks of the repeated plan", of those that serve it;
+   p, ticks and the answer as above. */
+merkazobi_answer merkazobi_least(size_t edition, const uint16_t *plan, size_t ticks, uint16_t p, uint32_t t);
 
-/* The curve of least service: list[t] is merkazobi_least(plan, ticks, p, t) for every t from 0 to n, worked out together.
-   first: n + 1, how many numbers are written; a longer list keeps its tail. A list of MERKAZOBI_CURVE_NUMBERS is long
-   enough for any deadline. Refusal 12. */
-merkazobi_answer merkazobi_curve(const uint16_t *plan, size_t ticks, uint16_t p, uint32_t n, uint32_t *list,
-                                 size_t list_numbers);
+/* The curve of least service: list[t] is what merkazobi_least tells of the same edition, plan, p and t, for every t from
+   0 to n, worked out together. first: n + 1, how many numbers are written; a longer list keeps its tail. A list of
+   MERKAZOBI_CURVE_NUMBERS is long enough for any deadline. Refusals 2, 12. */
+merkazobi_answer merkazobi_curve(size_t edition, const uint16_t *plan, size_t ticks, uint16_t p, uint32_t n,
+                                 uint32_t *list, size_t list_numbers);
 
 /* The builder: "Take partitions by rising cycle, equal cycles by place. In each cycle, counted from tick 0, give the
    partition its q earliest idle ticks." first: the frame, the largest cycle. part_numbers is 3 for each partition;
@@ -152,29 +166,33 @@ merkazobi_answer merkazobi_build(size_t granule, const uint16_t *parts, size_t p
                                  size_t out_ticks);
 
 /* The checker: whether "every stretch of m consecutive ticks of the repeated plan, from any start and across the frame's
-   end too, holds at least q ticks of that partition". ticks is the frame, part_numbers is 3 for each partition.
-   Refusals 3, 21, 6, 8, 9; an empty plan is 3. A q above its m is 9 at start 0 of that partition, unless a lower one
-   falls short. */
-merkazobi_answer merkazobi_check(size_t granule, const uint16_t *plan, size_t ticks, const uint16_t *parts,
-                                 size_t part_numbers);
+   end too, holds at least q ticks of that partition", of those that serve it. ticks is the frame, part_numbers is 3 for
+   each partition. Refusals 2, 3, 21, 6, 8, 9; an empty plan is 3. A q above its m is 9 at start 0 of that partition,
+   unless a lower one falls short. */
+merkazobi_answer merkazobi_check(size_t edition, size_t granule, const uint16_t *plan, size_t ticks,
+                                 const uint16_t *parts, size_t part_numbers);
 
 /* The verdict for the task at a place counted from 1: "Task i passes exactly when demand(t) <= least(t) for some t from 1
    to D." first: the smallest scheduling point that holds, or 0 where the task fails. ticks is the frame, part_numbers
-   is 3 for each partition, task_numbers 4 for each task. Refusals 3, 21, 6, 7, 8, 9; "a place outside the table is 7 with
-   place 0, after the other 7s". */
-merkazobi_answer merkazobi_verdict(size_t granule, const uint16_t *plan, size_t ticks, const uint16_t *parts,
-                                   size_t part_numbers, const uint16_t *tasks, size_t task_numbers, size_t place);
+   is 3 for each partition, task_numbers 4 for each task. Refusals 2, 3, 21, 6, 7, 8, 9; "a place outside the table is 7
+   with place 0, after the other 7s". Where the plan is accepted and the task passes, every job of it ends within D in
+   every legal run; jobs run in service ticks only. */
+merkazobi_answer merkazobi_verdict(size_t edition, size_t granule, const uint16_t *plan, size_t ticks,
+                                   const uint16_t *parts, size_t part_numbers, const uint16_t *tasks,
+                                   size_t task_numbers, size_t place);
 
 /* The same by the plain engine: "every tick t from 1 to D, no scheduling points". Lent, asked and refused as the verdict;
    it passes, fails and refuses exactly where that does. first: the smallest tick that holds, which is never above the
    scheduling point and may be below it, or 0 where the task fails. */
-merkazobi_answer merkazobi_plain(size_t granule, const uint16_t *plan, size_t ticks, const uint16_t *parts,
-                                 size_t part_numbers, const uint16_t *tasks, size_t task_numbers, size_t place);
+merkazobi_answer merkazobi_plain(size_t edition, size_t granule, const uint16_t *plan, size_t ticks,
+                                 const uint16_t *parts, size_t part_numbers, const uint16_t *tasks,
+                                 size_t task_numbers, size_t place);
 
 /* ---- Running counts kept beside the plan: "for each partition the count of own ticks before each tick from 0 to F, in a
    list the caller lends", partition by partition. Partition p's count before tick k stands at (p - 1) * (F + 1) + k, so
-   the list has partitions * (F + 1) numbers. What stands behind them in a longer list is neither read nor written. A plan
-   need not serve its table here (there is no 9), so half-done ones are counted too.
+   the list has partitions * (F + 1) numbers. All owned ticks count, as in edition 1. What stands behind them in a longer
+   list is neither read nor written. A plan need not serve its table here (there is no 9), so half-done ones are counted
+   too.
 
    Of each call ticks is the frame F and part_numbers is 3 for each partition. Refusals come in the order 3, 6, 8, 8 with
    first 0, 12, 20, 26. "None of them changes anything." A list that was filled and then changed only by
@@ -190,8 +208,8 @@ merkazobi_answer merkazobi_counts_fill(const uint16_t *plan, size_t ticks, const
                                        uint16_t *list, size_t list_numbers);
 
 /* How many of the length ticks from tick start on are partition's, across the frame's end too. first: the count, which is
-   that of merkazobi_held (which takes any start and length, and 0 for idle). start is 0 to F - 1, length 0 to F. Refusals
-   3, 6, 8 (first 0: no such partition; partition 0 is none), 12 (the list), 20, 26. */
+   that of merkazobi_held in edition 1 (which takes any start and length, and 0 for idle). start is 0 to F - 1, length 0 to
+   F. Refusals 3, 6, 8 (first 0: no such partition; partition 0 is none), 12 (the list), 20, 26. */
 merkazobi_answer merkazobi_counts_held(const uint16_t *plan, size_t ticks, const uint16_t *parts, size_t part_numbers,
                                        const uint16_t *list, size_t list_numbers, size_t partition, size_t start,
                                        size_t length);
@@ -216,7 +234,7 @@ merkazobi_answer merkazobi_counts_change(uint16_t *plan, size_t ticks, const uin
 /* ---- The plan file (docs/FORMAT.md). */
 
 /* The reader of a plan file. first: the frame; second, third, fourth: how many partitions, tasks, runs (records, not
-   numbers). Refusals 1 to 8. */
+   numbers); fifth: the edition. Refusals 1 to 8. */
 merkazobi_answer merkazobi_read(const uint8_t *file, size_t bytes);
 
 /* "The reader hands back each body as a part of the file itself": which is 0 for partitions, 1 for tasks, 2 for runs.
@@ -227,14 +245,14 @@ merkazobi_answer merkazobi_section(const uint8_t *file, size_t bytes, size_t whi
 
 /* The writer: "puts each body into its own stretch of the lent output". first: the file's length in bytes. part_numbers
    is 3 for each partition, task_numbers 4 for each task, run_numbers 2 for each run; MERKAZOBI_FILE_BYTES is always
-   enough for out. Refusals 3, 6, 7, 8, 12. */
-merkazobi_answer merkazobi_write(size_t frame, const uint16_t *parts, size_t part_numbers, const uint16_t *tasks,
-                                 size_t task_numbers, const uint16_t *runs, size_t run_numbers, uint8_t *out,
-                                 size_t out_bytes);
+   enough for out. Refusals 2, 3, 6, 7, 8, 12. */
+merkazobi_answer merkazobi_write(size_t edition, size_t frame, const uint16_t *parts, size_t part_numbers,
+                                 const uint16_t *tasks, size_t task_numbers, const uint16_t *runs, size_t run_numbers,
+                                 uint8_t *out, size_t out_bytes);
 
-/* The listing of a plan file's bytes, as text without a zero behind it; "Any refusal prints only one line, as
-   `refused 9`, with its number." first: the text's length. Where out is too short: 12, and nothing is written;
-   MERKAZOBI_LISTING_BYTES is always enough. */
+/* The listing of a plan file's bytes, judged by the file's own edition, as text without a zero behind it; "Any refusal
+   prints only one line, as `refused 9`, with its number." first: the text's length. Where out is too short: 12, and
+   nothing is written; MERKAZOBI_LISTING_BYTES is always enough. */
 merkazobi_answer merkazobi_list(const uint8_t *file, size_t bytes, uint8_t *out, size_t out_bytes);
 
 /* ---- The desk, which takes in late jobs. The caller keeps the job table and the desk's record, and changes nothing in

@@ -8,14 +8,14 @@ use crate::service::Service;
 use crate::share_table::{self, Wrong};
 use crate::{builder, file, plan, records, ticks};
 
-/// Without a word it is edition 1, and one word of one digit is that number; any others name none.
+/// Without a word it is edition 1, and one word of up to five digits is that number; any others name
+/// none.
 pub fn edition(words: &[&str]) -> u64 {
     match words {
         [] => 1,
-        [word] => match word.as_bytes() {
-            [digit @ b'0'..=b'9'] => u64::from(digit - b'0'),
-            _ => 0,
-        },
+        [word] if word.len() <= 5 && word.bytes().all(|byte| byte.is_ascii_digit()) => {
+            word.parse().unwrap_or(0)
+        }
         _ => 0,
     }
 }
@@ -94,7 +94,9 @@ mod tests {
         assert_eq!(edition(&[]), 1);
         let digits = ["0", "1", "2", "3", "9"].map(|word| edition(&[word]));
         assert_eq!(digits, [0, 1, 2, 3, 9]);
-        for word in ["", "x", "22", "01", "1 ", "+1", "-1", "\u{661}", "edition"] {
+        let longer = ["22", "01", "00002", "65537", "99999"].map(|word| edition(&[word]));
+        assert_eq!(longer, [22, 1, 2, 65537, 99999]);
+        for word in ["", "x", "000002", "1 ", "+1", "-1", "\u{661}", "edition"] {
             assert_eq!(edition(&[word]), 0, "{word}");
         }
         assert_eq!([edition(&["1", "1"]), edition(&["2", ""])], [0, 0]);

@@ -38,7 +38,7 @@ const WHOLE: u64 = 1 << 20;
 /// A process of the planner is started for each list of words that a trial comes to.
 const ONE: [Words; 2] = [&[], &["1"]];
 const TWO: Words = &["2"];
-const NONE: [Words; 4] = [&["3"], &["0"], &["x"], &["22"]];
+const NONE: [Words; 5] = [&["3"], &["0"], &["x"], &["000002"], &["65538"]];
 
 /// Words that name an edition, the first in half of all cases.
 fn some_words(rng: &mut Rng) -> Words {
