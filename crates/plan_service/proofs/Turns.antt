@@ -16,6 +16,7 @@ use Rattle.rules.specs.declared.Rule.{Rule}
 use Rattle.rules.specs.declared.Rule.the-variants.{Own, Switching}
 use Rattle.theory.specs.Plan.{owner, ownerBefore, switchTick, unswitched, service, owned, held}
 use Rattle.theory.proofs.Plan.{held-zero, held-more, held-around, service-around}
+use Rattle.theory.proofs.Switch.{service-within}
 use Rattle.theory.proofs.Need.{owned-split}
 
 -- ---- a tick at its place in the frame
@@ -53,6 +54,12 @@ module _ (plan : List ℕ) (at before o : ℕ) (l : at < length plan) (eb : befo
       either : Dec (o ≡ 0) → 0 ≡ pick (not (eqb o 0) && true) 0 o
       either (yes z) = rw z
       either (no z) = rw (ne-eqb o 0 z)
+
+-- by no rule does a tick of another serve a partition
+pub serves-other : (rule : Rule) (plan : List ℕ) (p at o : ℕ) → at < length plan → o ≡ getD plan at 0 → ¬ (o ≡ p) → ¬ (p ≡ 0) → 0 ≡ only (eqb (service rule plan at) p) 1
+serves-other rule plan p at o l e other some =
+    let pos : 0 < p = omega arith in
+    sym (only-ne (service rule plan at) p 1 (λ f. other (serves-owner plan at o l e ∙ service-within rule plan p at pos f)))
 
 -- ---- the count of a stretch
 

@@ -28,11 +28,16 @@ pub fn service_at(rule: Rule, plan: &[u16], at: usize) -> usize
     }
 }
 
-// 1 where the tick at a place of the frame serves p, else 0.
+// 1 where the tick at a place of the frame serves p, else 0. Most ticks are another's, so that is looked at first.
 pub fn serves_at(rule: Rule, plan: &[u16], p: usize, at: usize) -> usize
     requires { ⌜ at < length (now plan) ⌝ }
     ensures { λ r. ⌜ (r ≤ 1) × (r ≡ only (eqb (service rule (now (plan .entry)) at) p) 1) ⌝ }
 {
+    if wide(plan[at]) != p {
+        if p != 0 {
+            return 0;
+        }
+    }
     rules::numbers::one_if(service_at(rule, plan, at) == p)
 }
 
