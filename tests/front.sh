@@ -64,6 +64,17 @@ is "an old file's mode" "$(stat -c %a "$made/kept")" 640
 dashes() { cd "$made/folder" && cp "$top/$table" ./-t && "$top/box" plan -t --o && "$top/box" list --o; }
 ends "names that start with -" 0 '' dashes
 same "names that start with -" "$made/out" samples/cabin.txt
+ends "an edition behind =" 0 '' ./box plan --edition=1 "$table" -
+same "an edition behind =" "$made/out" "$plan"
+ends "an edition and --" 0 '' ./box plan --edition 1 -- "$table" -
+same "an edition and --" "$made/out" "$plan"
+for edition in 0 3 65537 x '' '1 '; do
+    ends "edition '$edition'" 1 "refused 2
+box: $edition is no edition: they are 1 and 2" ./box plan --edition "$edition" "$table" "$made/none.plan"
+    is "no file of edition '$edition'" "$(ls "$made/none.plan" 2>/dev/null)" ""
+done
+ends "--edition alone" 2 "box: usage: box plan *" ./box plan --edition
+ends "--edition without names" 2 "box: usage: box plan *" ./box plan --edition 2
 ends "behind --" 0 '' sh -c "cd '$made/folder' && '$top/box' list -- --o"
 same "behind --" "$made/out" samples/cabin.txt
 

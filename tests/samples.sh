@@ -7,7 +7,7 @@ cd "$(dirname "$0")/.." || exit 1
 listed() { tools/x86 run target/bin/list; }
 planned() { tools/x86 run target/bin/plan; }
 
-for name in w1 cabin; do
+for name in w1 cabin second; do
     ends "list $name" 0 '' ./box list "samples/$name.plan"
     same "list $name" "$made/out" "samples/$name.txt"
 done
@@ -24,6 +24,10 @@ same "byte by byte" "$made/slow.txt" samples/w1.txt
 is "nothing" "$(listed </dev/null)" "refused 1"
 is "fifteen bytes" "$(head -c 15 samples/w1.plan | listed)" "refused 1"
 is "text" "$(listed <README.md)" "refused 2"
+edition() { { printf "\\0\\$1" && tail -c +3 samples/w1.plan; } | listed; }
+is "W1 in edition 0" "$(edition 0)" "refused 2"
+is "W1 in edition 2, which leaves each partition a tick" "$(edition 2)" "refused 9"
+is "W1 in edition 3" "$(edition 3)" "refused 2"
 is "one byte less" "$(head -c 43 samples/w1.plan | listed)" "refused 5"
 is "one byte more" "$(cat samples/w1.plan README.md | head -c 45 | listed)" "refused 5"
 is "overlong" "$({ cat samples/w1.plan; head -c 20000 /dev/zero; } | listed)" "refused 5"
@@ -36,6 +40,19 @@ same "list it, with whole ticks" "$made/out" samples/twos.txt
 is "granule 17" "$(sed 's/^granule 2/granule 17/' samples/twos.shares | planned)" "refused 21"
 is "granules of four" "$(sed 's/^granule 2/granule 4/' samples/twos.shares | planned)" "refused 11"
 is "a second granule" "$({ cat samples/twos.shares && echo granule 2; } | planned)" "line 8: expected \`granule\` once, before the partitions"
+# A function that has the box for itself is never switched to; the edition is all that differs then.
+printf 'partition 4 1/1\ntask 1 1 4 4\n' >"$made/alone.shares"
+for edition in 1 2; do
+    ends "plan alone, edition $edition" 0 '' ./box plan --edition "$edition" "$made/alone.shares" "$made/alone.$edition"
+    ends "list it, edition $edition" 0 '' ./box list "$made/alone.$edition"
+    is "its edition is $edition" "$(od -An -tu1 -N2 "$made/alone.$edition" | tr -d ' ')" "0$edition"
+done
+is "editions 1 and 2 are one byte apart" "$(cmp -l "$made/alone.1" "$made/alone.2" | awk '{ print $1, $2, $3 }')" "2 1 2"
+is "without a word it is edition 1" "$(planned <"$made/alone.shares" | cmp - "$made/alone.1" && echo same)" same
+short='refused 9 partition 1 start 0 held 4 wanted 5
+box: in edition 2 the first tick of each window is spent on switching'
+ends "plan cabin in edition 2" 1 "$short" ./box plan --edition 2 samples/cabin.shares "$made/cabin.2"
+is "no file for what falls short" "$(ls "$made/cabin.2" 2>/dev/null)" ""
 ends "plan full" 1 "$(cat samples/full.txt)" ./box plan samples/full.shares "$made/full.plan"
 is "no file for a refusal" "$(ls "$made/full.plan" 2>/dev/null)" ""
 

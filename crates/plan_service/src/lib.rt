@@ -28,17 +28,23 @@ pub fn service_at(rule: Rule, plan: &[u16], at: usize) -> usize
     }
 }
 
-// 1 where the tick at a place of the frame serves p, else 0. Most ticks are another's, so that is looked at first.
+// 1 where the tick at a place of the frame serves p, else 0. Most ticks are another's, and the tick before such a one isn't
+// looked at.
 pub fn serves_at(rule: Rule, plan: &[u16], p: usize, at: usize) -> usize
     requires { ⌜ at < length (now plan) ⌝ }
     ensures { λ r. ⌜ (r ≤ 1) × (r ≡ only (eqb (service rule (now (plan .entry)) at) p) 1) ⌝ }
 {
-    if wide(plan[at]) != p {
-        if p != 0 {
-            return 0;
+    match rule {
+        Rule::Own => rules::numbers::one_if(service_at(rule, plan, at) == p),
+        Rule::Switching => {
+            if wide(plan[at]) != p {
+                if p != 0 {
+                    return 0;
+                }
+            }
+            rules::numbers::one_if(service_at(rule, plan, at) == p)
         }
     }
-    rules::numbers::one_if(service_at(rule, plan, at) == p)
 }
 
 // How many of the n ticks from place a of the frame on serve p, up to the frame's end at most, in a row.
