@@ -15,7 +15,6 @@ use Rattle.rules.specs.declared.Refusal.{Refusal}
 use Rattle.rules.specs.declared.Refusal.the-variants.{Limits, Output, Asked, Beyond}
 use Rattle.rules.specs.declared.Finding.{Finding}
 use Rattle.rules.specs.declared.Finding.the-variants.{Good, Refused}
-use Rattle.rules.specs.declared.Filling.{Filling}
 use Rattle.rules.specs.declared.Filling.the-variants as filling
 use Rattle.rules.proofs.Answers.{no-filling}
 use Rattle.rules.proofs.Tests.{pick-first}

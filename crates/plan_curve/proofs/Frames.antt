@@ -11,9 +11,9 @@ use Rattle.rules.specs.Contracts.{AsNamed}
 use Rattle.rules.specs.declared.Rule.{Rule}
 use Rattle.rules.proofs.Named.{named-turn}
 use Rattle.theory.specs.Plan.{service, held, least}
-use Rattle.theory.proofs.Plan.{held-around, least-is-least, least-attained, least-bounds}
+use Rattle.theory.proofs.Plan.{service-place, held-around, least-is-least, least-attained, least-bounds}
 use Rattle.theory.proofs.Need.{owned-split}
-use Rattle.plan_curve.proofs.Worst.{in-frame, next}
+use Rattle.plan_curve.proofs.Worst.{next}
 
 -- a pass that goes further than the one before it
 pub named-over : (o : ℕ → ℕ) (k t : ℕ) (before cur after : List ℕ) → k ≤ t → AsNamed o k before cur → AsNamed o t cur after → AsNamed o t before after
@@ -24,7 +24,7 @@ module _ (rule : Rule) (plan : List ℕ) (p : ℕ) (pos : 0 < length plan) where
   f = length plan
 
   again : (s : ℕ) → service rule plan (s + f) ≡ service rule plan s
-  again s = sym (in-frame rule plan (s + f)) ∙ ap (service rule plan) (add-mod-right s f) ∙ in-frame rule plan s
+  again s = sym (service-place rule plan (s + f)) ∙ ap (service rule plan) (add-mod-right s f) ∙ service-place rule plan s
 
   -- a frame holds the same from every start
   frame-same : (s : ℕ) → held rule plan p f s ≡ held rule plan p f 0

@@ -8,39 +8,28 @@ use native.Mathlib.Nat.{mod-mod-of-dvd, dvd-of-mod-eq-zero, mod-eq-of-lt, mod-lt
 use native.Mathlib.Decide.{ℕ-discrete}
 use native.Mathlib.Omega.{arith}
 use lib.Dec.{eqb}
-use lib.ListN.{length, getD, take}
+use lib.ListN.{length, take}
 use lib.Seq.{take-all, length-take-le, getD-take}
 use Rattle.rules.specs.Walk.{only}
 use Rattle.rules.specs.declared.Rule.{Rule}
 use Rattle.rules.specs.declared.Rule.the-variants.{Own, Switching}
 use Rattle.rules.proofs.Sum.{le-or-lt, count-ext}
 use Rattle.theory.specs.Plan.{owner, ownerBefore, switchTick, unswitched, service, owned, held, least}
-use Rattle.theory.proofs.Plan.{least-is-least, least-attained}
+use Rattle.theory.proofs.Plan.{owner-place, service-place, least-is-least, least-attained}
+use Rattle.theory.proofs.Switch.{before-next}
 use Rattle.plan_curve.specs.Contracts.{Repeats}
-use Rattle.plan_curve.proofs.Worst.{in-frame}
 
 -- ---- a plan's first m ticks by themselves: behind the first of them they serve as they do in the plan
-
-owner-within : (plan : List ℕ) (y : ℕ) → y < length plan → owner plan y ≡ getD plan y 0
-unfolding owner
-owner-within plan y l = ap (λ (z : ℕ). getD plan z 0) (mod-eq-of-lt l)
-
-before-within : (plan : List ℕ) (y : ℕ) → suc y < length plan → ownerBefore plan (suc y) ≡ getD plan y 0
-unfolding ownerBefore owner
-before-within plan y l =
-    let e : suc y + (length plan - 1) ≡ y + length plan = omega arith in
-    let d : y % length plan ≡ y = mod-eq-of-lt (omega arith) in
-    rw (e, add-mod-right y (length plan), d)
 
 module _ (plan : List ℕ) (m : ℕ) (l : m ≤ length plan) where
   short : length (take m plan) ≡ m
   short = length-take-le m plan l
 
   same-owner : (y : ℕ) → y < m → owner (take m plan) y ≡ owner plan y
-  same-owner y h = owner-within (take m plan) y (omega (arith, short)) ∙ getD-take m plan y 0 h ∙ sym (owner-within plan y (omega arith))
+  same-owner y h = owner-place (take m plan) y (omega (arith, short)) ∙ getD-take m plan y 0 h ∙ sym (owner-place plan y (omega arith))
 
   same-before : (y : ℕ) → suc y < m → ownerBefore (take m plan) (suc y) ≡ ownerBefore plan (suc y)
-  same-before y h = before-within (take m plan) y (omega (arith, short)) ∙ getD-take m plan y 0 (omega arith) ∙ sym (before-within plan y (omega arith))
+  same-before y h = before-next (take m plan) y (omega (arith, short)) ∙ same-owner y (omega arith) ∙ sym (before-next plan y (omega arith))
 
   same-tick : (rule : Rule) (y : ℕ) → suc y < m → service rule (take m plan) (suc y) ≡ service rule plan (suc y)
   unfolding service unswitched switchTick
@@ -72,8 +61,8 @@ module _ (rule : Rule) (plan : List ℕ) (p m : ℕ) (w : Repeats rule plan p m)
       let y = x % length plan in
       let u : y < length plan = mod-lt x (omega arith) in
       let r : y % m ≡ x % m = mod-mod-of-dvd _ x (dvd-of-mod-eq-zero _ (w .whole)) in
-      let d : service rule (take m plan) (x % m) ≡ service rule (take m plan) x = rw (short plan m l) at (in-frame rule (take m plan) x) in
-      ap (λ (z : ℕ). eqb z p) (sym (in-frame rule plan x))
+      let d : service rule (take m plan) (x % m) ≡ service rule (take m plan) x = rw (short plan m l) at (service-place rule (take m plan) x) in
+      ap (λ (z : ℕ). eqb z p) (sym (service-place rule plan x))
       ∙ in-round y y (omega arith) u
       ∙ ap (λ (z : ℕ). eqb (service rule plan z) p) r
       ∙ sym (by-itself (x % m) (mod-lt x pos))

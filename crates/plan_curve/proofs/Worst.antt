@@ -1,5 +1,5 @@
 -- A worst stretch can be taken to start right behind a run. Assumes nothing.
-use Prim.Native.Nat.{ℕ, zero, suc, _+_, _-_, _*_, _%_, _≤_, _<_}
+use Prim.Native.Nat.{ℕ, zero, suc, _+_, _-_, _*_, _≤_, _<_}
 use mathlib.Core.Path.{_≡_, refl, sym, ap, _∙_}
 use mathlib.Core.Bool.{true, _&&_, not}
 use mathlib.Core.List.{List}
@@ -15,14 +15,10 @@ use Rattle.rules.specs.declared.Rule.{Rule}
 use Rattle.rules.proofs.Sum.{only-eq, only-ne, only-self}
 use Rattle.rules.proofs.Tests.{and-intro, or-left, or-right}
 use Rattle.theory.specs.Plan.{service, held}
-use Rattle.theory.proofs.Plan.{held-zero, held-more, service-around, held-around}
+use Rattle.theory.proofs.Plan.{service-place, held-zero, held-more, held-around}
 use Rattle.theory.proofs.Need.{owned-split}
 use Rattle.plan_curve.specs.Curve.{startTried}
 use Rattle.plan_curve.specs.Theorems.{WorstBehindRun, WorstStart}
-
--- a tick's place in the frame is enough
-pub in-frame : (rule : Rule) (plan : List ℕ) (t : ℕ) → service rule plan (t % length plan) ≡ service rule plan t
-in-frame rule plan t = ap (service rule plan) (sym (add-zero (t % length plan))) ∙ service-around rule plan t 0 ∙ ap (service rule plan) (add-zero t)
 
 module _ (rule : Rule) (plan : List ℕ) (p : ℕ) where
   abbrev who : ℕ → ℕ
@@ -97,7 +93,7 @@ module _ (rule : Rule) (plan : List ℕ) (p t : ℕ) where
 
   -- so many frames later all is the same
   service-later : (k s : ℕ) → runs (s + k * f) ≡ runs s
-  service-later k s = sym (in-frame rule plan (s + k * f)) ∙ ap runs (add-mul-mod-self-right s k f) ∙ in-frame rule plan s
+  service-later k s = sym (service-place rule plan (s + k * f)) ∙ ap runs (add-mul-mod-self-right s k f) ∙ service-place rule plan s
 
   held-later : (k s : ℕ) → held rule plan p t (s + k * f) ≡ held rule plan p t s
   held-later k s = sym (held-around rule plan p t (s + k * f)) ∙ ap (held rule plan p t) (add-mul-mod-self-right s k f) ∙ held-around rule plan p t s

@@ -15,25 +15,21 @@ use Rattle.rules.proofs.Sum.{only-add, only-eq, only-ne, only-self}
 use Rattle.rules.specs.declared.Rule.{Rule}
 use Rattle.rules.specs.declared.Rule.the-variants.{Own, Switching}
 use Rattle.theory.specs.Plan.{owner, ownerBefore, switchTick, unswitched, service, owned, held}
-use Rattle.theory.proofs.Plan.{held-zero, held-more, held-around, service-around}
+use Rattle.theory.proofs.Plan.{owner-place, service-place, held-zero, held-more, held-around}
 use Rattle.theory.proofs.Switch.{service-within}
 use Rattle.theory.proofs.Need.{owned-split}
 
 -- ---- a tick at its place in the frame
 
-place-of : (plan : List ℕ) (at : ℕ) → at < length plan → owner plan at ≡ getD plan at 0
-unfolding owner
-place-of plan at l = rw (mod-eq-of-lt l)
-
 -- by edition 1's rule it serves its owner
 pub serves-owner : (plan : List ℕ) (at o : ℕ) → at < length plan → o ≡ getD plan at 0 → o ≡ service Own plan at
 unfolding service
-serves-owner plan at o l e = e ∙ sym (place-of plan at l)
+serves-owner plan at o l e = e ∙ sym (owner-place plan at l)
 
 -- by edition 2's so does a tick behind one of the same owner, and every other serves nobody
 module _ (plan : List ℕ) (at before o : ℕ) (l : at < length plan) (eb : before ≡ (at + (length plan - 1)) % length plan) (e : o ≡ getD plan at 0) where
   owner-is : owner plan at ≡ o
-  owner-is = place-of plan at l ∙ sym e
+  owner-is = owner-place plan at l ∙ sym e
 
   before-is : ownerBefore plan at ≡ getD plan before 0
   unfolding ownerBefore owner
@@ -65,11 +61,6 @@ serves-other rule plan p at o l e other some =
 
 pub held-none : (rule : Rule) (plan : List ℕ) (p s : ℕ) → 0 ≡ held rule plan p 0 s
 held-none rule plan p s = sym (held-zero (service rule plan) p s)
-
-service-place : (rule : Rule) (plan : List ℕ) (t : ℕ) → service rule plan (t % length plan) ≡ service rule plan t
-service-place rule plan t =
-    let e = service-around rule plan t 0 in
-    rw (add-zero (t % length plan), add-zero t) at e
 
 -- one tick more, at its place in the frame
 pub held-turn : (rule : Rule) (plan : List ℕ) (p s k at h b : ℕ) → at ≡ (s + k) % length plan → h ≡ held rule plan p k s → b ≡ only (eqb (service rule plan at) p) 1 → h + b ≡ held rule plan p (k + 1) s

@@ -21,9 +21,8 @@ use Rattle.rules.specs.declared.Refusal.{Refusal}
 use Rattle.rules.specs.declared.Refusal.the-variants.{Unharmonic, Want, Output}
 use Rattle.tables.specs.Tables.{unless, tablesOf}
 use Rattle.tables.proofs.Chain.{other-frame, without-tasks, with-granule-1, unless-good, unless-cases, unless-parts-hold, refusals}
-use Rattle.file_tables.specs.Runs.{fileTablesOf}
 use Rattle.file_tables.proofs.Chain.{GoodFile, of-good, file-holds}
-use Rattle.theory.specs.Harmonic.{Harmonic, frame, allWanted, planned, harmonicPlan}
+use Rattle.theory.specs.Harmonic.{frame, allWanted, planned, harmonicPlan}
 use Rattle.rules.proofs.Named.{listed-length}
 use Rattle.theory.proofs.Built.{harmonic-plan-good}
 use Rattle.rules.specs.declared.Finding.{Finding}
@@ -50,7 +49,7 @@ use Rattle.file_runs.specs.Ticks.{ticksOf}
 use Rattle.file_runs.proofs.Ticks.{ticks-back}
 use Rattle.file_runs.proofs.Proved as ticks
 use Rattle.output.proofs.Proved as output
-use Rattle.share_plan.specs.Answer.{planRuns, planFile, checkedWrite, writtenBy, writeBuiltOf, writePlanOf, fileOrLine, answerOf}
+use Rattle.share_plan.specs.Answer.{planRuns, planFile, writtenBy, writeBuiltOf, writePlanOf, fileOrLine, answerOf}
 use Rattle.share_plan.specs.Theorems.{FileServes, Writable, FileExactly, FileInEdition1, ShortInEdition, AnswerFirst, AnswerRoom, TextOne, Proved}
 use Rattle.share_plan.proofs.Laws.{planned-so, file-fits}
 

@@ -1,8 +1,8 @@
 -- Least service: the smallest over every start in ℕ, attained, 0 of no ticks, between 0 and t, growing with the stretch. Assumes nothing.
-use mathlib.Core.Path.{_≡_, ap}
+use mathlib.Core.Path.{_≡_, sym, ap, _∙_}
 use mathlib.Core.List.{List}
-use Prim.Native.Nat.{ℕ, zero, suc, _+_, _-_, _%_, _≤_}
-use native.Mathlib.Nat.{add-assoc, mod-add-mod, mod-lt}
+use Prim.Native.Nat.{ℕ, zero, suc, _+_, _-_, _%_, _≤_, _<_}
+use native.Mathlib.Nat.{add-assoc, add-zero, mod-add-mod, mod-lt, mod-eq-of-lt}
 use native.Mathlib.Omega.{arith}
 use lib.Dec.{eqb}
 use lib.ListN.{length, getD}
@@ -36,6 +36,10 @@ past-cycle-short rule plan p q m s h = omega (arith, held-le (service rule plan)
 
 -- ---- the plan repeats
 
+pub owner-place : (plan : List ℕ) (at : ℕ) → at < length plan → owner plan at ≡ getD plan at 0
+unfolding owner
+owner-place plan at l = ap (λ (x : ℕ). getD plan x 0) (mod-eq-of-lt l)
+
 owner-around : (plan : List ℕ) (s k : ℕ) → owner plan (s % length plan + k) ≡ owner plan (s + k)
 unfolding owner
 owner-around plan s k = ap (λ (x : ℕ). getD plan x 0) (mod-add-mod s (length plan) k)
@@ -52,6 +56,10 @@ pub service-around : (rule : Rule) (plan : List ℕ) (s k : ℕ) → service rul
 unfolding service
 service-around Own plan s k = owner-around plan s k
 service-around Switching plan s k = unswitched-around plan s k
+
+-- a tick's place in the frame is enough
+pub service-place : (rule : Rule) (plan : List ℕ) (t : ℕ) → service rule plan (t % length plan) ≡ service rule plan t
+service-place rule plan t = ap (service rule plan) (sym (add-zero (t % length plan))) ∙ service-around rule plan t 0 ∙ ap (service rule plan) (add-zero t)
 
 -- a start past the frame's end is one within it
 pub held-around : (rule : Rule) (plan : List ℕ) (p t s : ℕ) → held rule plan p t (s % length plan) ≡ held rule plan p t s

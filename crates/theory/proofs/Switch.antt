@@ -1,22 +1,21 @@
 -- The switch tick: which tick is one, that one run has none, and that it never adds service. Assumes nothing.
-use mathlib.Core.Path.{_≡_, refl, sym, ap, _∙_}
+use mathlib.Core.Path.{_≡_, refl, ap, _∙_}
 use mathlib.Core.Logic.{_↔_}
-use mathlib.Core.Bool.{Bool, true, false, true≢false, not, _&&_}
+use mathlib.Core.Bool.{Bool, true, false, not, _&&_}
 use mathlib.Core.List.{List}
-use Prim.Native.Nat.{ℕ, zero, suc, _+_, _-_, _%_, _≤_, _<_}
+use Prim.Native.Nat.{ℕ, suc, _+_, _-_, _≤_, _<_}
 use native.Mathlib.Nat.{add-mod-right, zero-add}
 use native.Mathlib.Decide.{ℕ-discrete}
 use native.Mathlib.Omega.{arith}
 use lib.Dec.{eqb}
-use lib.ListN.{length, getD}
-use borrow.Author.Tests.{eq-eqb, ne-eqb, eqb-true, eqb-false, not-true}
-use Rattle.rules.specs.Walk.{pick, only, count, sum}
-use Rattle.rules.specs.Table.{cycle, partitions, partition, budget, deadline, period, tasks, goodTask}
-use Rattle.rules.specs.declared.Rule.{Rule}
+use lib.ListN.{length}
+use borrow.Author.Tests.{eq-eqb, ne-eqb, eqb-false, not-true}
+use Rattle.rules.specs.Walk.{pick, only, count}
+use Rattle.rules.specs.Table.{cycle, partition, budget, deadline, period}
 use Rattle.rules.specs.declared.Rule.the-variants.{Own, Switching}
 use Rattle.rules.proofs.Sum.{only-eq, only-ne, only-self, sum-le}
 use Rattle.rules.proofs.Least.{smallest-mono}
-use Rattle.rules.proofs.Tests.{and-parts, and-intro, good-times}
+use Rattle.rules.proofs.Tests.{and-parts, good-times}
 use Rattle.theory.specs.Plan.{owner, ownerBefore, switchTick, unswitched, service, owned, held, least}
 use Rattle.theory.specs.Theorems.{SwitchExactly, SwitchServes, OneRun, ServiceWithin, HeldWithin, LeastWithin, ServesWithin, PassesWithin}
 
@@ -36,7 +35,7 @@ switch-means plan t b e = (there, back)
     back : (0 < owner plan t) × ¬ (b ≡ owner plan t) → (not (eqb (owner plan t) 0) && not (eqb (ownerBefore plan t) (owner plan t))) ≡ true
     back h = rw (ne-eqb (owner plan t) 0 (λ q. absurd (omega (arith, h .0))), e, ne-eqb b (owner plan t) (h .1))
 
-before-next : (plan : List ℕ) (t : ℕ) → 0 < length plan → ownerBefore plan (suc t) ≡ owner plan t
+pub before-next : (plan : List ℕ) (t : ℕ) → 0 < length plan → ownerBefore plan (suc t) ≡ owner plan t
 unfolding ownerBefore owner
 before-next plan t h =
     let e : suc t + (length plan - 1) ≡ t + length plan = omega arith in

@@ -1,6 +1,4 @@
-use mathlib.Core.Path.{sym, ap, _∙_}
 use borrow.Author.Tests.{eq-eqb, ne-eqb}
-use Rattle.rules.specs.declared.Told.{Told}
 use Rattle.share_plan.specs.Answer.{whyLine}
 use borrow.Author.Needs.{needs}
 use Rattle.share_plan.proofs.plan_file.put_why.Statement.{statement}
