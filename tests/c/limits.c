@@ -263,13 +263,13 @@ static void count_nulls(void)
    register holds are among them. Measured at the largest inputs, and rounded up to a multiple of 64. */
 enum {
     WANTS_STACK = 64,
-    HELD_STACK = 64,
-    LEAST_STACK = 128,
+    HELD_STACK = 192,
+    LEAST_STACK = 256,
     CURVE_STACK = 192,
     BUILD_STACK = 256,
-    CHECK_STACK = 320,
-    VERDICT_STACK = 33472,
-    PLAIN_STACK = 33472,
+    CHECK_STACK = 448,
+    VERDICT_STACK = 33536,
+    PLAIN_STACK = 33536,
     COUNTS_FILL_STACK = 256,
     COUNTS_HELD_STACK = 704,
     COUNTS_HELD_MANY_STACK = 704,
