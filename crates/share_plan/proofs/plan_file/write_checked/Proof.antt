@@ -1,7 +1,5 @@
-use mathlib.Core.Path.{refl, sym, cong, _∙_}
+use mathlib.Core.Path.{refl, sym, _∙_}
 use borrow.Author.Needs.{needs}
-use Rattle.rules.specs.declared.Filling.the-variants.{Refused}
-use Rattle.tables.specs.Tables.{unless}
 use Rattle.share_plan.proofs.plan_file.write_checked.Statement.{statement}
 use Rattle.share_plan.proofs.plan_file.write_checked.Tie as tie
 
@@ -21,13 +19,10 @@ same-length : tie.Need-same-length
 same-length c = search needs
 
 returns : tie.Need-returns
-returns c =
-    (c .before .before .write-ticks .ensures .0
-    ∙ cong (λ x. unless Refused x _) (sym (c .before .before .before .before .enum-told .given .1) ∙ c .before .before .before .before .before .before .check .ensures),
-    c .before .before .write-ticks .ensures .1)
+returns c = (rw (sym (c .before .before .before .before .before .before .check .ensures) ∙ c .before .before .before .before .enum-told .given .1) (c .before .before .write-ticks .ensures .0), c .before .before .write-ticks .ensures .1)
 
 returns-2 : tie.Need-returns-2
-returns-2 c = (cong (λ x. unless Refused x _) (sym (c .before .checked .given .1) ∙ c .before .before .before .check .ensures), refl)
+returns-2 c = (rw (sym (c .before .before .before .check .ensures) ∙ c .before .checked .given .1), refl)
 
 pub write-checked-spec : {M : Type 1} → statement M
 write-checked-spec =
