@@ -68,7 +68,7 @@ ends "an edition behind =" 0 '' ./box plan --edition=1 "$table" -
 same "an edition behind =" "$made/out" "$plan"
 ends "an edition and --" 0 '' ./box plan --edition 1 -- "$table" -
 same "an edition and --" "$made/out" "$plan"
-for edition in 0 3 65537 x '' '1 '; do
+for edition in 0 3 65537 000021 x '' '1 '; do
     ends "edition '$edition'" 1 "refused 2
 box: $edition is no edition: they are 1 and 2" ./box plan --edition "$edition" "$table" "$made/none.plan"
     is "no file of edition '$edition'" "$(ls "$made/none.plan" 2>/dev/null)" ""

@@ -38,7 +38,8 @@ const WHOLE: u64 = 1 << 20;
 /// A process of the planner is started for each list of words that a trial comes to.
 const ONE: [Words; 2] = [&[], &["1"]];
 const TWO: Words = &["2"];
-const NONE: [Words; 5] = [&["3"], &["0"], &["x"], &["000002"], &["65538"]];
+/// Of the word with six digits the first five alone would name edition 2.
+const NONE: [Words; 5] = [&["3"], &["0"], &["x"], &["000021"], &["65538"]];
 
 /// Words that name an edition, the first in half of all cases.
 fn some_words(rng: &mut Rng) -> Words {
@@ -499,11 +500,13 @@ fn words_that_name_none(trial: &mut Trial) {
     }
 }
 
-/// Two words, and an empty one, name no edition either.
-const ALONE: [Words; 9] = [
+/// Digits in front are none the less those of a number; two words, and an empty one, name no edition.
+const ALONE: [Words; 11] = [
     ONE[0],
     TWO,
     ONE[1],
+    &["01"],
+    &["00002"],
     NONE[0],
     NONE[1],
     NONE[2],
