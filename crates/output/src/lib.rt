@@ -23,6 +23,18 @@ pub fn put_number(out: &mut [u16], at: usize, x: u16) -> usize
     at + 1
 }
 
+// The same of a number of 32 bits.
+pub fn put_wide(out: &mut [u32], at: usize, x: u32) -> usize
+    requires { ⌜ at < 2 ^ 62 ⌝ }
+    ensures { λ r. ⌜ (r ≡ at + 1) × (now (out .exit) ≡ set (now (out .entry)) at x) ⌝ }
+{
+    if at < out.len() {
+        out[at] = x;
+        return at + 1;
+    }
+    at + 1
+}
+
 // One byte, where there is room for it; and the next place.
 fn put_byte(out: &mut [u8], at: usize, b: u8) -> usize
     requires { ⌜ at < 2 ^ 62 ⌝ }

@@ -8,7 +8,7 @@ ghost use Prim.Native.Nat.{_+_, _%_, _^_, _≤_, _<_};
 ghost use lib.Dec.{eqb};
 ghost use lib.ListN.{length};
 ghost use Rattle.rules.specs.Walk.{only};
-ghost use Rattle.theory.specs.Plan.{service, held, HeldIs, least, LeastIs};
+ghost use Rattle.theory.specs.Plan.{service, held, HeldIs, least, LeastIs, worstStart};
 
 // The partition that the tick at a place of the frame serves, or 0 for none.
 pub fn service_at(rule: Rule, plan: &[u16], at: usize) -> usize
@@ -179,7 +179,23 @@ pub fn least_by(rule: Rule, plan: &[u16], p: u16, t: u32) -> usize
     best
 }
 
-// The same by an edition.
+// The lowest start from which t ticks hold no more than `low`, which is the least.
+pub fn worst_start(rule: Rule, plan: &[u16], p: usize, t: usize, low: usize) -> usize
+    requires { ⌜ (t < 2 ^ 32) × (low ≡ least rule (now plan) p t) ⌝ }
+    ensures { λ r. ⌜ (r ≤ length (now (plan .entry))) × (r ≡ worstStart rule (now (plan .entry)) p t) ⌝ }
+{
+    let f = plan.len();
+    let mut stretch = stretch_from(rule, plan, p, t, 0);
+    while stretch.start < f {
+        if stretch.held == low {
+            return stretch.start;
+        }
+        stretch = next_stretch(rule, plan, p, stretch);
+    }
+    f
+}
+
+// The least number by an edition.
 pub fn least(edition: usize, plan: &[u16], p: u16, t: u32) -> Holding
     ensures { λ r. ⌜ LeastIs edition (now (plan .entry)) p t r ⌝ }
 {

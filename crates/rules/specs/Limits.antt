@@ -49,6 +49,10 @@ runWidth = 2
 abbrev pub questionWidth : ℕ
 questionWidth = 3
 
+-- document 02, ask 7: a row of the supplier's page: point, demand, least service, worst start
+abbrev pub rowWidth : ℕ
+rowWidth = 4
+
 -- "Numbers of two bytes"
 abbrev pub numberBytes : ℕ
 numberBytes = 2

@@ -1,7 +1,7 @@
 -- The walks over i < n that every rule is made of. The number that a walk goes over stands last. Assumes nothing.
 use Prim.Native.Nat.{ℕ, zero, suc, _+_, _-_, _/_, _<_, min, max}
 use mathlib.Core.Path.{_≡_}
-use mathlib.Core.Bool.{Bool, true, false, not}
+use mathlib.Core.Bool.{Bool, true, false, not, _&&_}
 use mathlib.Core.List.{List, [], _∷_, _++_}
 use lib.Dec.{ltb}
 
@@ -50,6 +50,18 @@ smallest f (suc n) = min (smallest f n) (f n)
 unfoldable pub largest : (ℕ → ℕ) → ℕ → ℕ
 largest f zero = 0
 largest f (suc n) = max (largest f n) (f n)
+
+-- k passes the test, and its f is smaller than h
+unfoldable pub undercuts : (ℕ → Bool) → (ℕ → ℕ) → ℕ → ℕ → Bool
+undercuts p f h k = p k && ltb (f k) h
+
+-- i passes the test, and no k < n that passes has a smaller f
+unfoldable pub leastAt : (ℕ → Bool) → (ℕ → ℕ) → ℕ → ℕ → Bool
+leastAt p f n i = p i && not (some (undercuts p f (f i)) n)
+
+-- of the i < n that pass the test the one with the smallest f, the lowest on equals; n where none passes
+unfoldable pub lowest : (ℕ → Bool) → (ℕ → ℕ) → ℕ → ℕ
+lowest p f n = first (leastAt p f n) n
 
 -- n steps from x, at 0, 1, .., n - 1
 unfoldable pub walk : {A : Type 0} → (ℕ → A → A) → A → ℕ → A

@@ -26,6 +26,8 @@ pub const RUN_WIDTH: usize = 2;
 
 pub const QUESTION_WIDTH: usize = 3;
 
+pub const ROW_WIDTH: usize = 4;
+
 pub const NUMBER_BYTES: usize = 2;
 
 pub const HEAD_BYTES: usize = 16;

@@ -14,7 +14,7 @@ ghost use Rattle.task_points.specs.Contracts.{pointAt, pointFits};
 
 // Whether t is a scheduling point, of a task with deadline d: t is d itself, or a multiple of a higher task's period. Behind
 // these alone more is asked.
-fn point_at(asks: &[u32], d: usize, t: usize) -> bool
+pub fn point_at(asks: &[u32], d: usize, t: usize) -> bool
     requires { ⌜ (t ≤ d) × (d < length (now asks)) ⌝ }
     ensures { λ r. ⌜ r ≡ pointAt (now (asks .entry)) d t ⌝ }
 {

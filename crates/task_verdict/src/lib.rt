@@ -28,7 +28,7 @@ fn at_place(terms: Terms, plan: &[u16], parts: &[u16], table: &[u16], place: usi
 }
 
 // Whether a verdict is given for a place, or why it is refused.
-fn answerable(terms: Terms, plan: &[u16], parts: &[u16], table: &[u16], place: usize) -> Finding
+pub fn answerable(terms: Terms, plan: &[u16], parts: &[u16], table: &[u16], place: usize) -> Finding
     ensures { λ r. ⌜ r ≡ answerableOf terms (now (plan .entry)) (now (parts .entry)) (now (table .entry)) place ⌝ }
 {
     let tables = tables::judge_tables(terms, plan.len(), parts, table);

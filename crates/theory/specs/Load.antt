@@ -3,7 +3,7 @@
 use mathlib.Core.Bool.{Bool, _&&_, _||_}
 use Prim.Native.Nat.{ℕ, suc, _+_, _-_, _*_, _%_, _≤_}
 use lib.Dec.{eqb, leb}
-use Rattle.rules.specs.Walk.{only, first, some, sum, roundUp}
+use Rattle.rules.specs.Walk.{only, first, some, sum, lowest, roundUp}
 
 -- Competitor 0 has the highest priority; `rival i j`: j shares the server of i. A job is named by its arrival, and released at most the jitter later.
 pub record Load : Type 0 where
@@ -52,3 +52,11 @@ firstPoint L low i = earliest (point L i) L low i
 -- document 02, ask 4: "every tick t from 1 to D, no scheduling points", "the smallest tick that holds"
 abbrev pub firstTick : Load → (ℕ → ℕ) → ℕ → ℕ
 firstTick L low i = earliest (leb 1) L low i
+
+-- document 02, ask 7: how much of its demand a competitor can't be sure of in t ticks
+unfoldable pub shortage : Load → (ℕ → ℕ) → ℕ → ℕ → ℕ
+shortage L low i t = demand L i t - low t
+
+-- "the point with the smallest shortage, lowest point on equals"
+unfoldable pub tightest : Load → (ℕ → ℕ) → ℕ → ℕ
+tightest L low i = lowest (point L i) (shortage L low i) (suc (lastPoint L i))

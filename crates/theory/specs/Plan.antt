@@ -5,7 +5,7 @@ use mathlib.Core.List.{List}
 use Prim.Native.Nat.{ℕ, _+_, _-_, _%_, _≤_, _<_}
 use lib.Dec.{eqb}
 use lib.ListN.{length, getD}
-use Rattle.rules.specs.Walk.{pick, count, smallest}
+use Rattle.rules.specs.Walk.{pick, first, count, smallest}
 use Rattle.rules.specs.Table.{cycle, partitions}
 use Rattle.rules.specs.Terms.{goodEdition, ruleOf}
 use Rattle.rules.specs.declared.Rule.{Rule}
@@ -58,6 +58,14 @@ least rule plan p t = smallest (held rule plan p t) (length plan)
 -- the answer r of the call in edition e
 abbrev pub LeastIs : ℕ → List ℕ → ℕ → ℕ → Holding → Type 0
 LeastIs e plan p t r = r ≡ countIn e (least (ruleOf e) plan p t)
+
+-- document 02, ask 7: tick s is "a worst start" for t ticks: from there on they hold the least
+unfoldable pub worst : Rule → List ℕ → ℕ → ℕ → ℕ → Bool
+worst rule plan p t s = eqb (held rule plan p t s) (least rule plan p t)
+
+-- "(the lowest)"
+unfoldable pub worstStart : Rule → List ℕ → ℕ → ℕ → ℕ
+worstStart rule plan p t = first (worst rule plan p t) (length plan)
 
 -- "every stretch of m consecutive ticks of the repeated plan, from any start and across the frame's end too, holds at least q ticks of that partition", where the partition at place k wants q k
 abbrev pub Serves : Rule → (ℕ → ℕ) → List ℕ → List ℕ → Type 0
