@@ -14,7 +14,7 @@ use Rattle.rules.specs.Walk.{pick, only, sum, count}
 use Rattle.rules.proofs.Sum.{only-add, only-eq, only-ne, only-self}
 use Rattle.rules.specs.declared.Rule.{Rule}
 use Rattle.rules.specs.declared.Rule.the-variants.{Own, Switching}
-use Rattle.theory.specs.Plan.{owner, ownerBefore, switchTick, unswitched, service, owned, held}
+use Rattle.theory.specs.Plan.{owner, ownerBefore, switchTick, unswitched, service, owned, held, least, worst}
 use Rattle.theory.proofs.Plan.{owner-place, service-place, held-zero, held-more, held-around}
 use Rattle.theory.proofs.Switch.{service-within}
 use Rattle.theory.proofs.Need.{owned-split}
@@ -142,3 +142,17 @@ held-next rule plan p n s enters h b c l ee eh eb ec =
 -- the place behind the stretch, a tick later
 pub place-next : (f s n at r : ℕ) → at ≡ (s + n) % f → r ≡ (at + 1) % f → r ≡ (s + 1 + n) % f
 place-next f s n at r ea er = let e : s + n + 1 ≡ s + 1 + n = omega arith in rw (← e, er, ea) (mod-add-mod (s + n) f 1)
+
+-- ---- a worst start
+
+module _ (rule : Rule) (plan : List ℕ) (p t low h n s : ℕ) (en : n ≡ t) (eh : h ≡ held rule plan p n s) (el : low ≡ least rule plan p t) where
+  here : h ≡ held rule plan p t s
+  here = rw en at eh
+
+  pub is-worst : h ≡ low → worst rule plan p t s ≡ true
+  unfolding worst
+  is-worst e = eq-eqb _ _ (sym here ∙ e ∙ el)
+
+  pub not-worst : ¬ (h ≡ low) → worst rule plan p t s ≡ false
+  unfolding worst
+  not-worst e = ne-eqb _ _ (λ z. e (here ∙ z ∙ sym el))

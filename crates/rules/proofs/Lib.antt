@@ -1,6 +1,7 @@
 pub mod First
 pub mod Sum
 pub mod Least
+pub mod FirstLeast
 pub mod Round
 pub mod Tests
 pub mod Answers

@@ -60,8 +60,8 @@ unfoldable pub leastAt : (ℕ → Bool) → (ℕ → ℕ) → ℕ → ℕ → Bo
 leastAt p f n i = p i && not (some (undercuts p f (f i)) n)
 
 -- of the i < n that pass the test the one with the smallest f, the lowest on equals; n where none passes
-unfoldable pub lowest : (ℕ → Bool) → (ℕ → ℕ) → ℕ → ℕ
-lowest p f n = first (leastAt p f n) n
+unfoldable pub firstLeast : (ℕ → Bool) → (ℕ → ℕ) → ℕ → ℕ
+firstLeast p f n = first (leastAt p f n) n
 
 -- n steps from x, at 0, 1, .., n - 1
 unfoldable pub walk : {A : Type 0} → (ℕ → A → A) → A → ℕ → A

@@ -154,7 +154,7 @@ asks-small ts p t j o l =
       o .short,
     )
 
-all-small : (ts : List ℕ) (p t k : ℕ) → ((j : ℕ) → j < k → InOrder ts j) → t ≤ longest → allAsked ts p k t ≤ k * (2 * longest)
+pub all-small : (ts : List ℕ) (p t k : ℕ) → ((j : ℕ) → j < k → InOrder ts j) → t ≤ longest → allAsked ts p k t ≤ k * (2 * longest)
 unfolding allAsked sum
 all-small ts p t zero o l = omega arith
 all-small ts p t (suc k) o l = omega (arith, all-small ts p t k (λ j h. o j (omega arith)) l, asks-small ts p t k (o k (omega arith)) l)

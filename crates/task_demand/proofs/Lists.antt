@@ -58,7 +58,7 @@ ltb-add c x y = go (le-or-lt y x)
 
 module _ (ts : List ℕ) (i : ℕ) where
   -- what the higher tasks ask, and the task's own budget
-  demand-is : (t : ℕ) → demand (taskLoad ts) i t ≡ budget ts i + allAsked ts (partition ts i) i t
+  pub demand-is : (t : ℕ) → demand (taskLoad ts) i t ≡ budget ts i + allAsked ts (partition ts i) i t
   unfolding allAsked asksOf rival
   demand-is t = task-demand ts i t ∙ ap (λ (x : ℕ). budget ts i + x) (sum-eq i _ _ (task-asked ts i t))
 

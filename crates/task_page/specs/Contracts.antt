@@ -1,5 +1,5 @@
 -- Words that only inner contracts use: no statement and no entry's contract cites them. Assumes nothing.
-use Prim.Native.Nat.{ℕ, _+_, _-_, _≤_, _<_}
+use Prim.Native.Nat.{ℕ, _+_, _-_, _≤_}
 use mathlib.Core.Path.{_≡_}
 use mathlib.Core.Bool.{Bool, _&&_}
 use mathlib.Core.List.{List}
@@ -20,7 +20,6 @@ shortIn curve asks c t = c + getD asks t 0 - getD curve t 0
 
 -- a task that can be judged, its lists drawn, on a frame within the limits
 pub record Ready (rule : Rule) (plan ts : List ℕ) (i : ℕ) (curve asks : List ℕ) : Type 0 where
-  pub some-ticks : 0 < length plan
   pub few-ticks : length plan ≤ longest
   pub judgeable : Judgeable ts i
   pub drawn : Drawn rule plan ts i curve asks

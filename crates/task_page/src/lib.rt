@@ -17,7 +17,7 @@ ghost use Prim.Native.Nat.{_+_, _^_, _≤_, _<_};
 ghost use lib.Dec.{leb};
 ghost use lib.ListN.{length};
 ghost use Rattle.rules.specs.Limits.{longest};
-ghost use Rattle.rules.specs.Walk.{pick, count, lowest};
+ghost use Rattle.rules.specs.Walk.{pick, count, firstLeast};
 ghost use Rattle.rules.specs.Table.{deadline};
 ghost use Rattle.theory.specs.Task.{taskPoint};
 ghost use Rattle.output.specs.Put.{Put};
@@ -69,7 +69,7 @@ fn tighter(curve: &[u32], asks: &[u32], c: u16, d: usize, t: usize, best: usize)
     requires { ⌜ (t ≤ d) × (best ≤ d) × (d < length (now curve)) × (d < length (now asks)) ⌝ }
     ensures { λ r. ⌜ r ≡ pick (pointAt (now (asks .entry)) d t
         && leb (shortIn (now (curve .entry)) (now (asks .entry)) c t)
-            (shortIn (now (curve .entry)) (now (asks .entry)) c best)) t best ⌝ }
+        (shortIn (now (curve .entry)) (now (asks .entry)) c best)) t best ⌝ }
 {
     if point_at(asks, d, t) {
         if short_in(curve, asks, c, t) <= short_in(curve, asks, c, best) {
@@ -83,7 +83,7 @@ fn tighter(curve: &[u32], asks: &[u32], c: u16, d: usize, t: usize, best: usize)
 // down.
 fn tightest_in(curve: &[u32], asks: &[u32], c: u16, d: u16) -> usize
     requires { ⌜ (1 ≤ d) × (d < length (now curve)) × (d < length (now asks)) ⌝ }
-    ensures { λ r. ⌜ (r ≤ d) × (r ≡ lowest (pointIn (now (asks .entry)) d)
+    ensures { λ r. ⌜ (r ≤ d) × (r ≡ firstLeast (pointIn (now (asks .entry)) d)
         (shortIn (now (curve .entry)) (now (asks .entry)) c) (d + 1)) ⌝ }
 {
     let end = wide(d);
@@ -97,7 +97,14 @@ fn tightest_in(curve: &[u32], asks: &[u32], c: u16, d: u16) -> usize
 }
 
 // A row's four numbers, from a place on; the answer is the place behind them.
-fn put_row(rows: &mut [u32], at: usize, point: usize, demand: usize, least: usize, start: usize) -> usize
+fn put_row(
+    rows: &mut [u32],
+    at: usize,
+    point: usize,
+    demand: usize,
+    least: usize,
+    start: usize,
+) -> usize
     requires { ⌜ (at < 2 ^ 32) × (point < 2 ^ 32) × (demand < 2 ^ 32) × (least < 2 ^ 32) × (start < 2 ^ 32) ⌝ }
     ensures { λ r. ⌜ Put (now (rows .entry)) at (point ∷ demand ∷ least ∷ start ∷ []) r (now (rows .exit)) ⌝ }
 {
@@ -188,7 +195,7 @@ fn put_fail(
 
 // Of task i, in tables whose records are good: its lists are drawn once, for the verdict and for the page.
 fn page_of(rule: Rule, plan: &[u16], tasks: &[u16], i: usize, rows: &mut [u32]) -> Paged
-    requires { ⌜ (0 < length (now plan)) × (length (now plan) ≤ longest) × Judgeable (now tasks) i ⌝ }
+    requires { ⌜ (length (now plan) ≤ longest) × Judgeable (now tasks) i ⌝ }
     ensures { λ r. ⌜ (r ≡ pagedBy (passAt (deadline (now (tasks .entry)) i) (taskPoint rule (now (plan .entry)) (now (tasks .entry)) i))
         (failOf rule (now (plan .entry)) (now (tasks .entry)) i (length (now (rows .entry)))))
         × (now (rows .exit) ≡ pageLeft r (rowsOf rule (now (plan .entry)) (now (tasks .entry)) i) (now (rows .entry))) ⌝ }

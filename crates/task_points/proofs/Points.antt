@@ -59,7 +59,7 @@ and-between true b = refl
 and-between false b = refl
 
 module _ (rule : Rule) (plan ts : List ℕ) (i : ℕ) (curve asks : List ℕ) (g : Judgeable ts i) (w : Drawn rule plan ts i curve asks) where
-  points-are : (t : ℕ) → t ≤ deadline ts i → (leb 1 t && pointAt asks (deadline ts i) t) ≡ point (taskLoad ts) i t
+  pub points-are : (t : ℕ) → t ≤ deadline ts i → (leb 1 t && pointAt asks (deadline ts i) t) ≡ point (taskLoad ts) i t
   unfolding pointAt
   points-are t l = rw (task-point ts i t, le-leb t (deadline ts i) l) (ap (λ (b : Bool). leb 1 t && b) (go (ℕ-discrete t (deadline ts i))) ∙ and-between (leb 1 t) (eqb t (deadline ts i) || some (multiple (taskLoad ts) i t) i))
     where

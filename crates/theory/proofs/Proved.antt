@@ -7,6 +7,7 @@ use Rattle.theory.proofs.Switch.{switch-exactly, switch-serves, one-run
 use Rattle.theory.proofs.Tasks.{points-enough, ticks-exactly, run-theorem, endless-theorem}
 use Rattle.theory.proofs.Load.{load-theorem}
 use Rattle.theory.proofs.Points.{load-points, point-smallest, tick-smallest, tick-at-most-point}
+use Rattle.theory.proofs.Tightest.{worst-start-lowest, tightest-so}
 use Rattle.theory.proofs.Exists.{legal-exists, legal-one}
 use Rattle.theory.proofs.Order.{pairs-divide, taken-once, taken-rises}
 use Rattle.theory.proofs.Built.{harmonic-serves, harmonic-refused, past-cycle-refused, harmonic-plan-good}
@@ -40,6 +41,8 @@ proved = record {
   ticks-exactly = ticks-exactly;
   tick-smallest = tick-smallest;
   tick-at-most-point = tick-at-most-point;
+  worst-start-lowest = worst-start-lowest;
+  tightest-so = tightest-so;
   run-theorem = run-theorem;
   endless-theorem = endless-theorem;
   load-theorem = load-theorem;

@@ -3,7 +3,7 @@
 use mathlib.Core.Bool.{Bool, _&&_, _||_}
 use Prim.Native.Nat.{ℕ, suc, _+_, _-_, _*_, _%_, _≤_}
 use lib.Dec.{eqb, leb}
-use Rattle.rules.specs.Walk.{only, first, some, sum, lowest, roundUp}
+use Rattle.rules.specs.Walk.{only, first, some, sum, firstLeast, roundUp}
 
 -- Competitor 0 has the highest priority; `rival i j`: j shares the server of i. A job is named by its arrival, and released at most the jitter later.
 pub record Load : Type 0 where
@@ -59,4 +59,4 @@ shortage L low i t = demand L i t - low t
 
 -- "the point with the smallest shortage, lowest point on equals"
 unfoldable pub tightest : Load → (ℕ → ℕ) → ℕ → ℕ
-tightest L low i = lowest (point L i) (shortage L low i) (suc (lastPoint L i))
+tightest L low i = firstLeast (point L i) (shortage L low i) (suc (lastPoint L i))

@@ -12,10 +12,10 @@ use Rattle.rules.specs.Terms.{goodGranule}
 use Rattle.rules.specs.declared.Rule.{Rule}
 use Rattle.rules.specs.declared.Rule.the-variants.{Own, Switching}
 use Rattle.rules.specs.declared.Holding.{Holding}
-use Rattle.theory.specs.Plan.{owner, switchTick, service, held, HeldIs, least, LeastIs, Serves}
+use Rattle.theory.specs.Plan.{owner, switchTick, service, held, HeldIs, least, LeastIs, worstStart, Serves}
 use Rattle.theory.specs.Harmonic.{Harmonic, pairs, frame, allWanted, rank, taken, harmonicPlan}
 use Rattle.theory.specs.Run.{Ran, done, Releases, LegalTo, Legal}
-use Rattle.theory.specs.Load.{Load, demand, lastPoint, point, firstPoint, firstTick}
+use Rattle.theory.specs.Load.{Load, demand, lastPoint, point, firstPoint, firstTick, shortage, tightest}
 use Rattle.theory.specs.Task.{TaskPasses, taskPoint, taskTick}
 use Rattle.theory.specs.Generality.{LoadPoints, LoadTheorem}
 
@@ -147,6 +147,24 @@ TickSmallest =
 abbrev pub TickAtMostPoint : Type 0
 TickAtMostPoint = (L : Load) (low : ℕ → ℕ) (i : ℕ) → firstTick L low i ≤ firstPoint L low i
 
+-- ==== the supplier's page
+
+-- document 02, ask 7: "a worst start (the lowest)": a start in the frame from which t ticks hold the least; from any lower one they hold more
+abbrev pub WorstStartLowest : Type 0
+WorstStartLowest =
+    (rule : Rule) (plan : List ℕ) (p t : ℕ) → 0 < length plan
+    → (worstStart rule plan p t < length plan) × (held rule plan p t (worstStart rule plan p t) ≡ least rule plan p t)
+    × ((s : ℕ) → s < worstStart rule plan p t → least rule plan p t < held rule plan p t s)
+
+-- "the point with the smallest shortage, lowest point on equals"
+pub record TightestPoint (L : Load) (low : ℕ → ℕ) (i t : ℕ) : Type 0 where
+  pub a-point : point L i t ≡ true
+  pub smallest : (u : ℕ) → point L i u ≡ true → shortage L low i t ≤ shortage L low i u
+  pub lowest : (u : ℕ) → u < t → point L i u ≡ true → shortage L low i t < shortage L low i u
+
+abbrev pub TightestSo : Type 0
+TightestSo = (L : Load) (low : ℕ → ℕ) (i : ℕ) → 1 ≤ lastPoint L i → TightestPoint L low i (tightest L low i)
+
 -- ==== demand 3, first half: the run theorem
 
 -- If a task passes, then in every legal run, of any number of ticks and from any tick of the repeated plan on, each of its jobs whose deadline has come
@@ -257,6 +275,8 @@ pub record Proved : Type 0 where
   pub ticks-exactly : TicksExactly
   pub tick-smallest : TickSmallest
   pub tick-at-most-point : TickAtMostPoint
+  pub worst-start-lowest : WorstStartLowest
+  pub tightest-so : TightestSo
   pub run-theorem : RunTheorem
   pub endless-theorem : EndlessTheorem
   pub load-theorem : LoadTheorem
