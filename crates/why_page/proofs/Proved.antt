@@ -1,0 +1,234 @@
+-- Every promise of specs/Theorems.antt, proved. Assumes nothing.
+use Prim.Native.Nat.{ℕ, zero, suc, _+_, _-_, _*_, _/_, _%_, _≤_, _<_}
+use Prim.Native.Char.{code}
+use mathlib.Core.Path.{_≡_, refl, sym, ap, _∙_}
+use mathlib.Core.Bool.{Bool, true, false}
+use mathlib.Core.Logic.{_⊎_, inl, inr}
+use mathlib.Core.List.{List, [], _∷_, _++_}
+use native.Mathlib.Numerals.{add-one}
+use native.Mathlib.Omega.{arith}
+use lib.Dec.{eqb, ltb}
+use lib.ListN.{length, take, replicate}
+use lib.Seq.{take-all}
+use borrow.Author.Tests.{le-ltb, ne-eqb}
+use Rattle.rules.specs.Limits.{longest, rowWidth}
+use Rattle.rules.specs.Walk.{pick, only, count, gathered}
+use Rattle.rules.specs.Table.{partition, deadline}
+use Rattle.rules.specs.Terms.{filed, ruleOf}
+use Rattle.rules.specs.declared.Rule.{Rule}
+use Rattle.rules.proofs.First.{gathered-zero, gathered-more}
+use Rattle.rules.proofs.Sum.{le-or-lt, only-self, count-zero, count-more}
+use Rattle.theory.specs.Plan.{least, worstStart}
+use Rattle.theory.specs.Load.{demand, point}
+use Rattle.theory.specs.Task.{taskLoad}
+use Rattle.theory.proofs.Tightest.{point-within}
+use Rattle.task_verdict.specs.declared.Judged.the-variants as judged
+use Rattle.task_verdict.specs.Verdict.{verdictOf}
+use Rattle.task_verdict.proofs.Engines as verdicts
+use Rattle.task_page.specs.declared.Paged.{Paged}
+use Rattle.task_page.specs.declared.Paged.the-variants.{Pass, Fail, Refused}
+use Rattle.task_page.specs.Page.{rowsOf, pointsOf, tightestOf, shortageOf, failOf, pagedBy, pageOf}
+use Rattle.output.specs.Text.{bytes}
+use Rattle.output.specs.Decimal.{decimal}
+use Rattle.output.proofs.Decimal.{decimal-one, decimal-more}
+use Rattle.output.proofs.Proved as output
+use Rattle.file_read.specs.declared.Reading.{Reading}
+use Rattle.file_read.specs.declared.Reading.the-variants as reading
+use Rattle.file_read.specs.Reader.{readOf}
+use Rattle.file_read.proofs.Reader.{accepted, contents-short}
+use Rattle.file_read.proofs.Proved as reader
+use Rattle.why_lines.specs.Lines.{columnWidth, padded, taskWords, failsLine, namesLine, columns, window, mark, rowLine, tickWords, shortLine}
+use Rattle.why_page.specs.Why.{lineOf, shortOf, spareOf, passText, failText, mostNumbers, pagedText, tablesText, readText, whyOf}
+use Rattle.why_page.specs.Theorems.{linesIn, FailLines, LineOfPoint, PointHasLine, FailShort, PassSpare, RoomEnough, WhyFirst, Proved}
+use Rattle.why_page.proofs.Rows.{nth-found, count-below, count-few, point-line}
+use Rattle.why_page.proofs.Paged.{point-in-time, pass-judged, fail-judged, fail-answered, fail-tightest, answered-reach}
+
+-- ---- how many lines
+
+lines-append : (a b : List ℕ) → linesIn (a ++ b) ≡ linesIn a + linesIn b
+unfolding linesIn
+lines-append [] b = omega arith
+lines-append (x ∷ a) b = omega (arith, lines-append a b)
+
+lines-nil : linesIn [] ≡ 0
+unfolding linesIn
+lines-nil = refl
+
+both : (a b : List ℕ) (x y : ℕ) → linesIn a ≡ x → linesIn b ≡ y → linesIn (a ++ b) ≡ x + y
+both a b x y ea eb = rw (lines-append a b, ea, eb)
+
+blanks-none : (n : ℕ) → linesIn (replicate n 32) ≡ 0
+unfolding linesIn only
+blanks-none zero = refl
+blanks-none (suc n) = omega (arith, blanks-none n)
+
+digit-none : (d : ℕ) → linesIn ((48 + d) ∷ []) ≡ 0
+unfolding linesIn only
+digit-none d = rw (ne-eqb (48 + d) 10 (omega arith))
+
+digits-none : (fuel n : ℕ) → n ≤ fuel → linesIn (decimal n) ≡ 0
+digits-none zero n h = rw (decimal-one n (omega arith)) (digit-none n)
+digits-none (suc fuel) n h = step (λ l. digits-none fuel (n / 10) (omega arith)) (le-or-lt 10 n)
+  where
+    step : (10 ≤ n → linesIn (decimal (n / 10)) ≡ 0) → (10 ≤ n) ⊎ (n < 10) → linesIn (decimal n) ≡ 0
+    step ih (inl l) = rw (decimal-more n l) (both (decimal (n / 10)) ((48 + n % 10) ∷ []) 0 0 (ih l) (digit-none (n % 10)))
+    step ih (inr l) = rw (decimal-one n l) (digit-none n)
+
+field-none : (a : List ℕ) (n : ℕ) → linesIn a ≡ 0 → linesIn (a ++ decimal n) ≡ 0
+field-none a n e = both a (decimal n) 0 0 e (digits-none n n (omega arith))
+
+padded-none : (n : ℕ) → linesIn (padded n) ≡ 0
+unfolding padded
+padded-none n = field-none (replicate (columnWidth - length (decimal n)) 32) n (blanks-none (columnWidth - length (decimal n)))
+
+window-none : (s t : ℕ) → linesIn (window s t) ≡ 0
+unfolding window linesIn only
+window-none s t = both (bytes "   " ++ decimal s) (bytes " to " ++ decimal (s + t - 1)) 0 0 (field-none (bytes "   ") s refl) (field-none (bytes " to ") (s + t - 1) refl)
+
+columns-none : (t n h : ℕ) → linesIn (columns t n h) ≡ 0
+unfolding columns
+columns-none t n h =
+    both (padded t ++ padded n ++ padded h) (padded (n - h)) 0 0
+    (both (padded t ++ padded n) (padded h) 0 0 (both (padded t) (padded n) 0 0 (padded-none t) (padded-none n)) (padded-none h)) (padded-none (n - h))
+
+mark-one : (b : Bool) → linesIn (mark b) ≡ 1
+unfolding linesIn only
+mark-one true = refl
+mark-one false = refl
+
+row-one : (u t n h s : ℕ) → linesIn (rowLine u t n h s) ≡ 1
+unfolding rowLine
+row-one u t n h s = both (columns t n h ++ window s t) (mark (eqb t u)) 0 1 (both (columns t n h) (window s t) 0 0 (columns-none t n h) (window-none s t)) (mark-one (eqb t u))
+
+tick-none : (t n h : ℕ) → linesIn (tickWords t n h) ≡ 0
+unfolding tickWords linesIn only
+tick-none t n h =
+    both (bytes "at tick " ++ decimal t ++ (bytes " it needs " ++ decimal n)) (bytes " and can be sure of " ++ decimal h) 0 0
+    (both (bytes "at tick " ++ decimal t) (bytes " it needs " ++ decimal n) 0 0 (field-none (bytes "at tick ") t refl) (field-none (bytes " it needs ") n refl))
+    (field-none (bytes " and can be sure of ") h refl)
+
+short-one : (t n h s : ℕ) → linesIn (shortLine t n h s) ≡ 1
+unfolding shortLine linesIn only
+short-one t n h s =
+    both (tickWords t n h ++ (bytes ": " ++ decimal (n - h)) ++ (bytes " short; the worst stretch starts at tick " ++ decimal s)) (bytes "\n") 0 1
+    (both (tickWords t n h ++ (bytes ": " ++ decimal (n - h))) (bytes " short; the worst stretch starts at tick " ++ decimal s) 0 0
+    (both (tickWords t n h) (bytes ": " ++ decimal (n - h)) 0 0 (tick-none t n h) (field-none (bytes ": ") (n - h) refl))
+    (field-none (bytes " short; the worst stretch starts at tick ") s refl))
+    refl
+
+fails-one : (i p : ℕ) → linesIn (failsLine i p) ≡ 1
+unfolding failsLine taskWords linesIn only
+fails-one i p =
+    both (bytes "task " ++ decimal i ++ (bytes " partition " ++ decimal p)) (bytes " fails\n") 0 1
+    (both (bytes "task " ++ decimal i) (bytes " partition " ++ decimal p) 0 0 (field-none (bytes "task ") i refl) (field-none (bytes " partition ") p refl))
+    refl
+
+names-one : linesIn namesLine ≡ 1
+unfolding namesLine linesIn only
+names-one = refl
+
+line-one : (u : ℕ) (rows : List ℕ) (k : ℕ) → linesIn (lineOf u rows k) ≡ 1
+unfolding lineOf
+line-one u rows k = row-one u _ _ _ _
+
+rows-each : (u : ℕ) (rows : List ℕ) (n : ℕ) → linesIn (gathered (lineOf u rows) n) ≡ n
+unfolding gathered
+rows-each u rows zero = lines-nil
+rows-each u rows (suc n) = lines-append (gathered (lineOf u rows) n) (lineOf u rows n) ∙ omega (arith, rows-each u rows n, line-one u rows n)
+
+fail-text-lines : (rule : Rule) (plan ts : List ℕ) (place : ℕ) → linesIn (failText rule plan ts place) ≡ pointsOf ts (place - 1) + 3
+unfolding failText shortOf
+fail-text-lines rule plan ts place =
+    let i : ℕ = place - 1 in
+    let u : ℕ = tightestOf rule plan ts i in
+    let a : List ℕ = failsLine place (partition ts i) in
+    let g : List ℕ = gathered (lineOf u (rowsOf rule plan ts i)) (pointsOf ts i) in
+    let z : List ℕ = shortOf rule plan ts i u in
+    lines-append (a ++ namesLine ++ g) z
+    ∙ omega (
+      arith,
+      lines-append (a ++ namesLine) g,
+      lines-append a namesLine,
+      fails-one place (partition ts i),
+      names-one,
+      rows-each u (rowsOf rule plan ts i) (pointsOf ts i),
+      short-one u (demand (taskLoad ts) i u) (least rule plan (partition ts i) u) (worstStart rule plan (partition ts i) u),
+    )
+
+fail-lines : FailLines
+unfolding tablesText
+fail-lines e plan ps ts place n u h p =
+    let f = fail-judged (filed e) plan ps ts place mostNumbers n u h p in
+    (f .rows, ap (λ (x : Paged). linesIn (pagedText (ruleOf e) plan ts place x)) p ∙ fail-text-lines (ruleOf e) plan ts place ∙ ap (λ (k : ℕ). k + 3) (sym (f .rows)))
+
+-- ---- which line is a point's
+
+line-of-point : LineOfPoint
+unfolding pointsOf
+line-of-point rule plan ts i u k l =
+    let w = nth-found (point (taskLoad ts) i) (suc (deadline ts i)) k l in
+    (w .0, w .2, w .3, point-line rule plan ts i u k (w .0) (w .1) (w .2) (w .3))
+
+point-has-line : PointHasLine
+unfolding pointsOf
+point-has-line rule plan ts i u t e =
+    let l : t < suc (deadline ts i) = omega (arith, point-in-time ts i t e) in
+    (count-below (point (taskLoad ts) i) (suc (deadline ts i)) t l e, point-line rule plan ts i u (count (point (taskLoad ts) i) t) t l e refl)
+
+-- ---- the sentences
+
+fail-short : FailShort
+fail-short e plan ps ts place n u h p =
+    let f = fail-judged (filed e) plan ps ts place mostNumbers n u h p in
+    let t = fail-tightest (filed e) plan ps ts place mostNumbers n u h p in
+    let no-pass = verdicts.proved .by-points .fail-exactly (filed e) plan ps ts place .0 (f .judged-so) .1 in
+    let w = point-within (taskLoad ts) (place - 1) u (t .a-point) in
+    (t, short (λ l. absurd (no-pass (u, w .0, w .1, l))) (le-or-lt (demand (taskLoad ts) (place - 1) u) (least (ruleOf e) plan (partition ts (place - 1)) u)))
+  where
+    short : {d l : ℕ} → (d ≤ l → l < d) → (d ≤ l) ⊎ (l < d) → l < d
+    short f (inl h) = f h
+    short f (inr h) = h
+
+pass-spare : PassSpare
+unfolding tablesText passText spareOf
+pass-spare e plan ps ts place t p = (
+  ap (λ (x : Paged). pagedText (ruleOf e) plan ts place x) p,
+  omega (arith, verdicts.proved .pass-point (filed e) plan ps ts place t (pass-judged (filed e) plan ps ts place mostNumbers t p) .1),
+)
+
+-- ---- the room
+
+no-point-0 : (ts : List ℕ) (i : ℕ) → point (taskLoad ts) i 0 ≡ false
+unfolding point
+no-point-0 ts i = refl
+
+room-enough : RoomEnough
+unfolding pageOf failOf pointsOf
+room-enough e plan ps ts place v =
+    let a = verdicts.proved .by-points .fail-exactly (filed e) plan ps ts place .0 v .0 in
+    let o = answered-reach (filed e) plan ps ts place mostNumbers 0 a (omega arith) .judgeable .in-order (place - 1) (omega arith) in
+    let n : ℕ = count (point (taskLoad ts) (place - 1)) (suc (deadline ts (place - 1))) in
+    let few = count-few (point (taskLoad ts) (place - 1)) (no-point-0 ts (place - 1)) (deadline ts (place - 1)) in
+    rw (v, le-ltb mostNumbers (rowWidth * n) (omega (arith, few, o .in-period, o .short)))
+
+-- ---- the file's bytes
+
+why-first : WhyFirst
+unfolding whyOf
+why-first b place n h = step (readOf b) refl
+  where
+    step : (c : Reading) → readOf b ≡ c → readText (readOf (take n b)) (take n b) place ≡ readText (readOf b) b place
+    step (reading.Refused x) e = rw (reader.proved .read-first b n h, e)
+    step (reading.Contents ed f np nt nr) e = rw (take-all n b (omega (arith, contents-short b ed f np nt nr (accepted b ed f np nt nr e .contents))))
+
+pub proved : Proved
+proved = record {
+  fail-lines = fail-lines;
+  line-of-point = line-of-point;
+  point-has-line = point-has-line;
+  fail-short = fail-short;
+  pass-spare = pass-spare;
+  room-enough = room-enough;
+  why-first = why-first;
+  why-one = λ b out o o′ place r r′ p q. output.proved .one-put out (whyOf b place) o o′ 0 r r′ p q;
+}

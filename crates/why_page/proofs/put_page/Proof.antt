@@ -1,0 +1,41 @@
+use borrow.Author.Needs.{needs}
+use Rattle.why_page.proofs.put_page.Statement.{statement}
+use Rattle.why_page.proofs.put_page.Tie as tie
+use Rattle.why_page.proofs.put_page.Reads as reads
+use Rattle.why_page.proofs.put_page.Lts as lts
+use Rattle.rules.proofs.filed.Reads as filed-reads
+use Rattle.task_page.proofs.page.Reads as page-reads
+use Rattle.why_page.proofs.put_paged.Reads as put-paged-reads
+
+filed-requires : tie.Need-filed-requires
+filed-requires c κs = search needs
+
+slice-aggregate-page : tie.Need-slice-aggregate-page
+slice-aggregate-page c = search needs
+
+page-requires : tie.Need-page-requires
+page-requires c κs = search needs
+
+slice-aggregate-put-paged : tie.Need-slice-aggregate-put-paged
+slice-aggregate-put-paged c = search needs
+
+put-paged-requires : tie.Need-put-paged-requires
+put-paged-requires c κs = search needs
+
+same-length : tie.Need-same-length
+same-length c = search needs
+
+returns : tie.Need-returns
+returns c = search needs
+
+pub put-page-spec : {M : Type 1} → statement M
+put-page-spec =
+    tie.close
+    (tie.spec
+    filed-requires
+    slice-aggregate-page
+    page-requires
+    slice-aggregate-put-paged
+    put-paged-requires
+    same-length
+    returns)
