@@ -1,5 +1,5 @@
 -- What the page's answer says of the tables: the task can be judged, and the tick told of lies in its reach. Assumes nothing.
-use Prim.Native.Nat.{ℕ, suc, _-_, _*_, _≤_, _<_}
+use Prim.Native.Nat.{ℕ, _-_, _*_, _≤_}
 use mathlib.Core.Path.{_≡_, refl, sym, ap, _∙_}
 use mathlib.Core.Bool.{Bool, true, false}
 use mathlib.Core.List.{List}
@@ -7,21 +7,19 @@ use native.Mathlib.Omega.{arith}
 use lib.Dec.{ltb}
 use lib.ListN.{length, drop}
 use borrow.Author.Tests.{ltb-false}
-use Rattle.rules.specs.Limits.{longest, rowWidth}
+use Rattle.rules.specs.Limits.{rowWidth}
 use Rattle.rules.specs.Table.{partitions, partition, tasks, deadline}
 use Rattle.rules.specs.Walk.{pick}
 use Rattle.rules.specs.Terms.{filed, ruleOf, ruleIn}
 use Rattle.rules.specs.declared.Terms.{Terms}
 use Rattle.rules.specs.declared.Refusal.the-variants.{Output}
 use Rattle.rules.proofs.Tests.{pick-second}
-use Rattle.rules.proofs.Sum.{count-le}
 use Rattle.tables.proofs.Chain.{within}
-use Rattle.theory.specs.Load.{demand, point}
+use Rattle.theory.specs.Load.{point}
 use Rattle.theory.specs.Plan.{least}
 use Rattle.theory.specs.Task.{taskLoad}
 use Rattle.theory.specs.Theorems.{TightestPoint}
 use Rattle.theory.proofs.Tightest.{point-within, tightest-so}
-use Rattle.task_demand.specs.Contracts.{InOrder, Judgeable}
 use Rattle.task_demand.proofs.Lists.{judgeable}
 use Rattle.task_verdict.specs.declared.Judged.{Judged}
 use Rattle.task_verdict.specs.declared.Judged.the-variants as judged
@@ -30,7 +28,7 @@ use Rattle.task_verdict.specs.Theorems.{Answered}
 use Rattle.task_verdict.proofs.Engines as verdicts
 use Rattle.task_page.specs.declared.Paged.{Paged}
 use Rattle.task_page.specs.declared.Paged.the-variants.{Pass, Fail, Refused}
-use Rattle.task_page.specs.Page.{rowsOf, pointsOf, tightestOf, shortageOf, failOf, pagedBy, pageOf, pageLeft, Pages}
+use Rattle.task_page.specs.Page.{rowsOf, pointsOf, tightestOf, shortageOf, failOf, pagedBy, pageOf, Pages}
 use Rattle.file_read.specs.declared.Reading.{Reading}
 use Rattle.file_read.specs.declared.Reading.the-variants.{Contents}
 use Rattle.file_read.specs.declared.Body.the-variants.{Partitions, Tasks, Runs}
@@ -126,8 +124,8 @@ rowed e plan ps ts place rows n u h p =
       few = omega (arith, f .fits);
       long = p .long;
       lines =
-        rw (p .left, ← f .tight, ← f .rows)
-        (lines-front u (rowsOf (ruleOf e) plan ts (place - 1)) (drop (rowWidth * n) (p .list)) n (rows-long (ruleOf e) plan ts (place - 1) ∙ ap (λ (k : ℕ). rowWidth * k) (sym (f .rows))));
+          rw (p .left, ← f .tight, ← f .rows)
+          (lines-front u (rowsOf (ruleOf e) plan ts (place - 1)) (drop (rowWidth * n) (p .list)) n (rows-long (ruleOf e) plan ts (place - 1) ∙ ap (λ (k : ℕ). rowWidth * k) (sym (f .rows))));
     }
 
 -- ---- the text

@@ -1,33 +1,28 @@
 -- Every promise of specs/Theorems.antt, proved. Assumes nothing.
 use Prim.Native.Nat.{ℕ, zero, suc, _+_, _-_, _*_, _/_, _%_, _≤_, _<_}
-use Prim.Native.Char.{code}
 use mathlib.Core.Path.{_≡_, refl, sym, ap, _∙_}
 use mathlib.Core.Bool.{Bool, true, false}
 use mathlib.Core.Logic.{_⊎_, inl, inr}
 use mathlib.Core.List.{List, [], _∷_, _++_}
-use native.Mathlib.Numerals.{add-one}
 use native.Mathlib.Omega.{arith}
-use lib.Dec.{eqb, ltb}
+use lib.Dec.{eqb}
 use lib.ListN.{length, take, replicate}
 use lib.Seq.{take-all}
 use borrow.Author.Tests.{le-ltb, ne-eqb}
-use Rattle.rules.specs.Limits.{longest, rowWidth}
-use Rattle.rules.specs.Walk.{pick, only, count, gathered}
+use Rattle.rules.specs.Limits.{rowWidth}
+use Rattle.rules.specs.Walk.{only, count, gathered}
 use Rattle.rules.specs.Table.{partition, deadline}
 use Rattle.rules.specs.Terms.{filed, ruleOf}
 use Rattle.rules.specs.declared.Rule.{Rule}
-use Rattle.rules.proofs.First.{gathered-zero, gathered-more}
-use Rattle.rules.proofs.Sum.{le-or-lt, only-self, count-zero, count-more}
+use Rattle.rules.proofs.Sum.{le-or-lt}
 use Rattle.theory.specs.Plan.{least, worstStart}
 use Rattle.theory.specs.Load.{demand, point}
 use Rattle.theory.specs.Task.{taskLoad}
 use Rattle.theory.proofs.Tightest.{point-within}
-use Rattle.task_verdict.specs.declared.Judged.the-variants as judged
-use Rattle.task_verdict.specs.Verdict.{verdictOf}
 use Rattle.task_verdict.proofs.Engines as verdicts
 use Rattle.task_page.specs.declared.Paged.{Paged}
-use Rattle.task_page.specs.declared.Paged.the-variants.{Pass, Fail, Refused}
-use Rattle.task_page.specs.Page.{rowsOf, pointsOf, tightestOf, shortageOf, failOf, pagedBy, pageOf}
+use Rattle.task_page.specs.declared.Paged.the-variants.{Refused}
+use Rattle.task_page.specs.Page.{rowsOf, pointsOf, tightestOf, failOf, pageOf}
 use Rattle.output.specs.Text.{bytes}
 use Rattle.output.specs.Decimal.{decimal}
 use Rattle.output.proofs.Decimal.{decimal-one, decimal-more}
@@ -41,7 +36,7 @@ use Rattle.why_lines.specs.Lines.{columnWidth, padded, taskWords, failsLine, na
 use Rattle.why_page.specs.Why.{lineOf, shortOf, spareOf, passText, failText, mostNumbers, pagedText, tablesText, readText, whyOf}
 use Rattle.why_page.specs.Theorems.{linesIn, FailLines, LineOfPoint, PointHasLine, FailShort, PassSpare, RoomEnough, WhyFirst, Proved}
 use Rattle.why_page.proofs.Rows.{nth-found, count-below, count-few, point-line}
-use Rattle.why_page.proofs.Paged.{point-in-time, pass-judged, fail-judged, fail-answered, fail-tightest, answered-reach}
+use Rattle.why_page.proofs.Paged.{point-in-time, pass-judged, fail-judged, fail-tightest, answered-reach}
 
 -- ---- how many lines
 

@@ -1,6 +1,5 @@
 -- The page of a task of a plan file, as text: a function of the file's bytes and the task's place, which counts from 1. Assumes nothing.
 use Prim.Native.Nat.{ℕ, _-_, _*_}
-use mathlib.Core.Path.{_≡_}
 use mathlib.Core.List.{List, _++_}
 use lib.Dec.{eqb}
 use Rattle.rules.specs.Limits.{longest, rowWidth}

@@ -116,7 +116,14 @@ fn put_short(
     why_lines::put_short(out, at, t, size.needs, size.has, start)
 }
 
-fn put_passing(rule: Rule, plan: &[u16], table: &[u16], place: usize, point: usize, out: &mut [u8]) -> usize
+fn put_passing(
+    rule: Rule,
+    plan: &[u16],
+    table: &[u16],
+    place: usize,
+    point: usize,
+    out: &mut [u8],
+) -> usize
     requires { ⌜ (1 ≤ place) × InReach (now plan) (now table) (place - 1) point ⌝ }
     ensures { λ r. ⌜ Put (now (out .entry)) 0
         (passText rule (now (plan .entry)) (now (table .entry)) place point) r (now (out .exit))
@@ -241,7 +248,15 @@ pub fn compose(file: &[u8], place: usize, out: &mut [u8]) -> usize
             let p = PART_WIDTH * np;
             let t = TASK_WIDTH * nt;
             let r = RUN_WIDTH * nr;
-            put_tables(edition, frame, &parts[..p], &tasks[..t], &runs[..r], place, out)
+            put_tables(
+                edition,
+                frame,
+                &parts[..p],
+                &tasks[..t],
+                &runs[..r],
+                place,
+                out,
+            )
         }
     }
 }

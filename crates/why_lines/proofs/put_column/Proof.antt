@@ -1,5 +1,5 @@
 use lib.Seq.{length-take-le}
-use lib.ListN.{length, replicate}
+use lib.ListN.{replicate}
 use Prim.Native.Nat.{ℕ}
 use mathlib.Core.Path.{sym}
 use Rattle.why_lines.proofs.Lines.{padded-is}

@@ -1,14 +1,8 @@
+use Rattle.output.proofs.Put.{and-then}
+use Rattle.why_page.specs.Why.{failText}
 use borrow.Author.Needs.{needs}
 use Rattle.why_page.proofs.put_failing.Statement.{statement}
 use Rattle.why_page.proofs.put_failing.Tie as tie
-use Rattle.why_page.proofs.put_failing.Reads as reads
-use Rattle.why_page.proofs.put_failing.Lts as lts
-use Rattle.rules.proofs.numbers.wide.Reads as wide-reads
-use Rattle.rules.proofs.records.partition.Reads as partition-reads
-use Rattle.why_lines.proofs.put_fails.Reads as put-fails-reads
-use Rattle.why_lines.proofs.put_names.Reads as put-names-reads
-use Rattle.why_page.proofs.put_lines.Reads as put-lines-reads
-use Rattle.why_page.proofs.put_short.Reads as put-short-reads
 
 sub-i : tie.Need-sub-i
 sub-i c = search needs
@@ -26,16 +20,17 @@ put-names-requires : tie.Need-put-names-requires
 put-names-requires c κs = search needs
 
 put-lines-requires : tie.Need-put-lines-requires
-put-lines-requires c κs = search needs
+put-lines-requires c κs = let g = c .before .before .before .before .before .before .before .before .before .before .before .before .before .before .before .pre .1 in (g .few, search needs, g .long)
 
 put-short-requires : tie.Need-put-short-requires
-put-short-requires c κs = search needs
+put-short-requires c κs = let g = c .before .before .before .before .before .before .before .before .before .before .before .before .before .before .before .before .before .before .before .pre .1 in let f = g .few in (g .reach, search needs)
 
 same-length : tie.Need-same-length
 same-length c = search needs
 
 returns : tie.Need-returns
-returns c = ?
+unfolding failText
+returns c = let g = c .before .before .before .before .before .before .before .before .before .before .before .before .before .before .before .before .before .before .before .before .before .before .pre .1 in let f = g .few in (and-then (and-then (and-then (rw (c .before .before .before .before .before .before .before .before .before .before .before .before .before .before .before .before .wide .ensures, c .before .before .before .before .before .before .before .before .before .before .before .before .before .before .before .before .before .partition .ensures) at (c .before .before .before .before .before .before .before .before .before .before .before .before .before .before .put-fails .ensures .0)) (c .before .before .before .before .before .before .before .before .before .before .put-names .ensures .0)) (rw (g .lines) at (c .before .before .before .before .before .before .put-lines .ensures .0))) (rw (g .tight) at (c .before .before .put-short .ensures .0)), search needs)
 
 pub put-failing-spec : {M : Type 1} → statement M
 put-failing-spec =

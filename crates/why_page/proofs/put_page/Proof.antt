@@ -1,11 +1,10 @@
+use lib.ListN.{replicate, length-replicate}
+use Prim.Native.Nat.{ℕ}
+use Rattle.why_page.proofs.Paged.{paged-so}
+use Rattle.why_page.specs.Why.{mostNumbers}
 use borrow.Author.Needs.{needs}
 use Rattle.why_page.proofs.put_page.Statement.{statement}
 use Rattle.why_page.proofs.put_page.Tie as tie
-use Rattle.why_page.proofs.put_page.Reads as reads
-use Rattle.why_page.proofs.put_page.Lts as lts
-use Rattle.rules.proofs.filed.Reads as filed-reads
-use Rattle.task_page.proofs.page.Reads as page-reads
-use Rattle.why_page.proofs.put_paged.Reads as put-paged-reads
 
 filed-requires : tie.Need-filed-requires
 filed-requires c κs = search needs
@@ -20,7 +19,7 @@ slice-aggregate-put-paged : tie.Need-slice-aggregate-put-paged
 slice-aggregate-put-paged c = search needs
 
 put-paged-requires : tie.Need-put-paged-requires
-put-paged-requires c κs = search needs
+put-paged-requires c κs = paged-so _ _ _ _ _ (replicate mostNumbers 0) _ _ (length-replicate {A = ℕ} mostNumbers 0) (search needs) (rw (c .before .before .before .before .before .filed .ensures) at (c .before .before .before .page .ensures))
 
 same-length : tie.Need-same-length
 same-length c = search needs

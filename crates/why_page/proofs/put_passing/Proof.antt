@@ -1,12 +1,8 @@
+use Rattle.output.proofs.Put.{and-then}
+use Rattle.why_page.specs.Why.{passText}
 use borrow.Author.Needs.{needs}
 use Rattle.why_page.proofs.put_passing.Statement.{statement}
 use Rattle.why_page.proofs.put_passing.Tie as tie
-use Rattle.why_page.proofs.put_passing.Reads as reads
-use Rattle.why_page.proofs.put_passing.Lts as lts
-use Rattle.rules.proofs.numbers.wide.Reads as wide-reads
-use Rattle.rules.proofs.records.partition.Reads as partition-reads
-use Rattle.why_lines.proofs.put_passes.Reads as put-passes-reads
-use Rattle.why_page.proofs.put_spare.Reads as put-spare-reads
 
 sub-i : tie.Need-sub-i
 sub-i c = search needs
@@ -27,7 +23,8 @@ same-length : tie.Need-same-length
 same-length c = search needs
 
 returns : tie.Need-returns
-returns c = ?
+unfolding passText
+returns c = (and-then (rw (c .before .before .before .before .before .before .before .before .wide .ensures, c .before .before .before .before .before .before .before .before .before .partition .ensures) at (c .before .before .before .before .before .before .put-passes .ensures .0)) (c .before .before .put-spare .ensures .0), search needs)
 
 pub put-passing-spec : {M : Type 1} → statement M
 put-passing-spec =

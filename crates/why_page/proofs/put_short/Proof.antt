@@ -1,13 +1,8 @@
+use Rattle.why_page.proofs.Lines.{in-lists}
+use Rattle.why_page.specs.Why.{shortOf}
 use borrow.Author.Needs.{needs}
 use Rattle.why_page.proofs.put_short.Statement.{statement}
 use Rattle.why_page.proofs.put_short.Tie as tie
-use Rattle.why_page.proofs.put_short.Reads as reads
-use Rattle.why_page.proofs.put_short.Lts as lts
-use Rattle.plan_service.proofs.worst_start.Reads as worst-start-reads
-use Rattle.rules.proofs.numbers.wide.Reads as wide-reads
-use Rattle.rules.proofs.records.partition.Reads as partition-reads
-use Rattle.why_lines.proofs.put_short.Reads as put-short-reads
-use Rattle.why_page.proofs.size_at.Reads as size-at-reads
 
 size-at-requires : tie.Need-size-at-requires
 size-at-requires c κs = search needs
@@ -19,16 +14,17 @@ wide-requires : tie.Need-wide-requires
 wide-requires c κs = search needs
 
 worst-start-requires : tie.Need-worst-start-requires
-worst-start-requires c κs = search needs
+worst-start-requires c κs = let t = in-lists (c .before .before .before .before .before .before .pre .0) in (search needs, rw (c .wide .ensures, c .before .partition .ensures) (c .before .before .size-at .ensures .has-is))
 
 put-short-requires : tie.Need-put-short-requires
-put-short-requires c κs = search needs
+put-short-requires c κs = let s = c .before .before .before .before .size-at .ensures in let t = in-lists (c .before .before .before .before .before .before .before .before .pre .0) in let f = c .before .before .before .before .before .before .before .before .pre .0 .few-ticks in (search needs, search needs, s .needs-small, s .has-small, search needs)
 
 same-length : tie.Need-same-length
 same-length c = search needs
 
 returns : tie.Need-returns
-returns c = ?
+unfolding shortOf
+returns c = let s = c .before .before .before .before .before .before .before .size-at .ensures in let z = rw (c .before .before .before .before .before .wide .ensures, c .before .before .before .before .before .before .partition .ensures) at (c .before .before .before .before .worst-start .ensures .1) in (rw (s .needs-is, s .has-is, z) at (c .before .before .put-short .ensures .0), search needs)
 
 pub put-short-spec : {M : Type 1} → statement M
 put-short-spec =

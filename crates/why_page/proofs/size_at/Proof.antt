@@ -1,7 +1,7 @@
 use Prim.Native.Nat.{_+_}
 use Rattle.rules.specs.Limits.{longest}
 use Rattle.task_demand.proofs.Asking.{zeros-all}
-use Rattle.why_page.proofs.Lines.{in-lists, sized}
+use Rattle.why_page.proofs.Lines.{sized}
 use borrow.Author.Needs.{needs}
 use Rattle.why_page.proofs.size_at.Statement.{statement}
 use Rattle.why_page.proofs.size_at.Tie as tie
