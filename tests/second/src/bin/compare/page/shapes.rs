@@ -4,10 +4,11 @@ use second::inputs::{editions, granules, plans, tables, tasks};
 use second::limits::PERIOD;
 use second::page::ROW;
 use second::rng::Rng;
+use second::Answer;
 
 use super::asked::{
-    exact, judge, note_starts, page_in, points, until_it_fails, Page, Paged, LATER, MANY, PAST,
-    SEVERAL, WORST_TWICE,
+    exact, judge, note_starts, page_in, points, until_it_fails, Page, Paged, LATER, PAST, SEVERAL,
+    WORST_TWICE,
 };
 use super::{of_one_partition, some_periods};
 use crate::seen::Seen;
@@ -20,6 +21,17 @@ fn failing(rng: &mut Rng, longest: usize, most: usize) -> Option<Input> {
     let d = rng.between(1, most);
     let mut input = of_one_partition(rng, longest, &periods, d);
     until_it_fails(&mut input).then_some(input)
+}
+
+/// The page of a task that can't pass.
+fn failed(trial: &mut Trial, input: &Input, place: usize) -> Page {
+    let numbers = ROW * points(input, place);
+    match page_in(trial, input, place, numbers) {
+        Paged::Fail(page) => page,
+        other => trial.fail(&format!(
+            "{input:?} {place}: {other:?}, though it can't pass"
+        )),
+    }
 }
 
 /// Points, demands and least services, without the starts.
@@ -245,7 +257,6 @@ pub fn many_tasks(trial: &mut Trial) {
 /// Higher tasks that ask for 65,536 ticks together, which in 16 bits are none; and for so many that
 /// the demand of several points needs more.
 pub fn demand_past_16_bits(trial: &mut Trial) {
-    let mut seen = Seen::default();
     for case in trial.cases(300) {
         let mut input = served(&mut trial.rng, 0, 1);
         let period = trial.rng.pick(&[1024, 2048, 4096]);
@@ -256,18 +267,14 @@ pub fn demand_past_16_bits(trial: &mut Trial) {
             _ => trial.rng.between(3000, 4096),
         };
         input.tasks.extend([1, 1, d as u16, 4096]);
-        let place = many + 1;
-        if let Paged::Fail(page) = exact(trial, &input, place, &mut seen) {
-            let least = page.rows.iter().all(|row| row[1] > 65_536);
-            trial.same((&input, "demand"), least, true);
-        }
+        let page = failed(trial, &input, many + 1);
+        let more = page.rows.iter().all(|row| row[1] > 65_536);
+        trial.same((&input, "demand"), more, true);
     }
-    seen.share(trial, &["fail"], [1, 2]);
 }
 
 /// A period of one tick, and deadlines up to the longest: up to 4,096 rows.
 pub fn every_tick_a_point(trial: &mut Trial) {
-    let mut seen = Seen::default();
     for case in trial.cases(24) {
         let rng = &mut trial.rng;
         let mut input = without_tasks(rng, 1, 8);
@@ -281,18 +288,18 @@ pub fn every_tick_a_point(trial: &mut Trial) {
         input.tasks = vec![1, 1, 1, 1, 1, c, d as u16, 4096];
         trial.same(&input, points(&input, 2), d);
         let needed = ROW * d;
-        for numbers in [needed - 1, needed, needed + 5] {
-            page_in(trial, &input, 2, numbers);
+        let page = failed(trial, &input, 2);
+        let short = Paged::Refused(Answer::refused(12));
+        for (numbers, wanted) in [(needed - 1, short), (needed + 5, Paged::Fail(page))] {
+            let found = page_in(trial, &input, 2, numbers);
+            trial.same((&input, numbers), found, wanted);
         }
-        exact(trial, &input, 2, &mut seen);
     }
-    seen.share(trial, &["fail", MANY], [3, 4]);
 }
 
-/// Sixteen partitions in the longest frame, a higher task of short period, and deadlines up to the
-/// longest.
+/// Sixteen partitions in the longest frame, a higher task, and deadlines up to the longest. A frame
+/// has at most 256 ticks of each partition.
 pub fn long_frames(trial: &mut Trial) {
-    let mut seen = Seen::default();
     for case in trial.cases(16) {
         let rng = &mut trial.rng;
         let edition = editions::good(rng);
@@ -309,7 +316,6 @@ pub fn long_frames(trial: &mut Trial) {
         };
         let c = rng.between(260, 900).min(d) as u16;
         input.tasks = vec![3, 1, period, period, 2, 1, 7, 7, 3, c, d as u16, 4096];
-        judge(trial, &input, 3, &mut seen);
+        failed(trial, &input, 3);
     }
-    seen.share(trial, &["fail", LATER], [1, 2]);
 }
