@@ -2,7 +2,7 @@
 
 use second::desk::{Desk, Job};
 use second::inputs::jobs;
-use second::inputs::requests::{self, Request};
+use second::inputs::requests::{self, Request, LATEST};
 use second::limits::JOBS;
 use second::Answer;
 
@@ -173,7 +173,7 @@ pub fn nearly_full(trial: &mut Trial) {
         at(trial, table, &mut seen);
     }
     seen.share(trial, &["answered 18"], [3, 1]);
-    seen.share(trial, &[LAST], [1, 20]);
+    seen.share(trial, &[LAST], [1, 40]);
     seen.share(trial, &[LATER, ITSELF], [1, 5]);
     seen.share(trial, &["answered 17"], [1, 10]);
 }
@@ -212,7 +212,7 @@ pub fn and_a_tick_more(trial: &mut Trial) {
 fn beside(trial: &mut Trial, lent: &Lent, asked: Request, refused: Answer) {
     let room = refused.second as u32;
     let mut ask = |c: u32| request(trial, &mut lent.clone(), Request { c, ..asked });
-    let more = [1, 2, 1_000_000 - room].map(|more| ask(room + more));
+    let more = [room + 1, room + 2, LATEST].map(|more| ask(more.min(LATEST)));
     let taken = if room > 0 { Some(ask(room)) } else { None };
     trial.same((lent, asked, "more"), more, [refused; 3]);
     if let Some(taken) = taken {
