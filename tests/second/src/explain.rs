@@ -6,7 +6,7 @@ use crate::desk::{earliest, room, Listed};
 
 /// What binds the room of a place.
 #[derive(Clone, Copy, Debug, PartialEq, Eq)]
-pub(crate) enum Bound {
+enum Bound {
     /// "the request's own deadline".
     Own,
     /// "a listed job's": its place from 0, after dropping.
@@ -60,7 +60,7 @@ fn what_binds(left: &[Listed], place: usize, s: i64, room: i64, d: i64) -> Bound
 /// Which deadline so many ticks from s on break in that place, the later jobs moved as far as the
 /// job before forces them. "On equals the request's deadline is named", "if a listed job, the first
 /// one".
-pub(crate) fn broken(left: &[Listed], place: usize, s: i64, ticks: i64, d: i64) -> Option<Bound> {
+fn broken(left: &[Listed], place: usize, s: i64, ticks: i64, d: i64) -> Option<Bound> {
     let mut end = s + ticks;
     if end > d {
         return Some(Bound::Own);

@@ -1,7 +1,7 @@
 //! The page for the supplier: the library against the second program, and against its verdict, its
 //! least service and what it holds.
 
-mod asked;
+pub mod asked;
 mod refused;
 mod shapes;
 

@@ -40,8 +40,7 @@ fn without_starts(page: &Page) -> Vec<[u64; 3]> {
     page.rows.iter().map(numbers).collect()
 }
 
-/// The repeated plan has one page, wherever its frame starts, but for the starts: each is another one
-/// by as much, unless another worst one comes before it.
+/// The repeated plan has one page, wherever its frame starts, but for the worst starts.
 pub fn every_start(trial: &mut Trial) {
     let mut seen = Seen::default();
     for _ in trial.cases(2000) {
