@@ -229,8 +229,11 @@ pub fn every_small_table(trial: &mut Trial) {
     let none: Vec<Vec<[u32; 3]>> = vec![Vec::new()];
     let one = ways().map(|job| vec![job]);
     let two = ways().flat_map(|job| ways().map(move |next| vec![job, next]));
-    for jobs in trial.each(none.into_iter().chain(one).chain(two)) {
-        let mut lent = Lent::new(behind_each_other(&jobs));
+    let tables: Vec<Vec<[u32; 3]>> = none.into_iter().chain(one).chain(two).collect();
+    let mut tried = 0;
+    for jobs in trial.each(&tables) {
+        tried += 1;
+        let mut lent = Lent::new(behind_each_other(jobs));
         open(trial, &mut lent);
         for t in 0..10 {
             for d in 0..14 {
@@ -243,7 +246,8 @@ pub fn every_small_table(trial: &mut Trial) {
         }
     }
     let kinds = [NONE, OWN, PLACE_L, ITSELF, LATER, EQUALS, NO_ROOM, TWO];
-    for kind in kinds {
+    // Time may have cut it short.
+    for kind in kinds.into_iter().filter(|_| tried == tables.len()) {
         trial.same(kind, seen.times(kind) > 0, true);
     }
 }
