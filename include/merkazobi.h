@@ -188,6 +188,11 @@ merkazobi_answer merkazobi_plain(size_t edition, size_t granule, const uint16_t 
                                  const uint16_t *parts, size_t part_numbers, const uint16_t *tasks,
                                  size_t task_numbers, size_t place);
 
+/* The page for the supplier: the verdict, and where the task fails four numbers in rows for each scheduling point. */
+merkazobi_answer merkazobi_page(size_t edition, size_t granule, const uint16_t *plan, size_t plan_ticks,
+                                const uint16_t *parts, size_t part_numbers, const uint16_t *tasks,
+                                size_t task_numbers, size_t place, uint32_t *rows, size_t row_numbers);
+
 /* ---- Running counts kept beside the plan: "for each partition the count of own ticks before each tick from 0 to F, in a
    list the caller lends", partition by partition. Partition p's count before tick k stands at (p - 1) * (F + 1) + k, so
    the list has partitions * (F + 1) numbers. All owned ticks count, as in edition 1. What stands behind them in a longer
