@@ -65,7 +65,8 @@ use Rattle.desk.specs.declared.Answer.the-variants.{Opened, Taken, Refused}
 use Rattle.desk.specs.Table.{job, start, ends, none, filled, flexes, Outcome, outcome, tableOk, openOf}
 use Rattle.desk.specs.Request.{kept, Place, At, Nowhere, find, tooFar, insertAt, taking, dropping, drops, requestOf}
 use Rattle.desk.specs.Call.{deskOf, Leaves, said}
-use Rattle.desk.specs.Theorems.{Fits, NoLower, Ready, startAt}
+use Rattle.desk.specs.Places.{startAt}
+use Rattle.desk.specs.Theorems.{Fits, NoLower, Ready}
 use Rattle.desk.proofs.Ready.{Comes, at-13, at-14, at-15, at-16, at-17, through, comes}
 use Rattle.desk.proofs.Proved as desk
 use Rattle.desk_lent.proofs.Proved as lent

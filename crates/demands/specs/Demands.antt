@@ -40,6 +40,7 @@ use Rattle.share_plan.specs.Theorems as planner
 use Rattle.desk.specs.declared.Job.{Job}
 use Rattle.desk.specs.declared.Desk.{Desk}
 use Rattle.desk.specs.Table.{start, ends, none, filled, flexes}
+use Rattle.desk.specs.Places.{startAt}
 use Rattle.desk.specs.Request.{kept}
 use Rattle.desk.specs.Theorems as desk
 use Rattle.desk_lent.specs.Theorems as lent
@@ -258,7 +259,7 @@ pub record Demand2 : Type 0 where
   -- "s is t for place 0, else the end of the job before"
   pub taken-start :
       (k k′ : Desk) (l l′ : List Job) (time c d : ℕ) (t : Told) → TellsRequest k l time c d k′ l′ t → t .number ≡ 0
-      → t .second ≡ desk.startAt time (kept time (take (k .count) l)) (t .first)
+      → t .second ≡ startAt time (kept time (take (k .count) l)) (t .first)
   -- after 16 the first job in the caller's table is running, and a request when it ends is not refused with 16
   pub busy-ends :
       (k k′ : Desk) (l l′ : List Job) (time c d : ℕ) (t : Told) → TellsRequest k l time c d k′ l′ t → t .number ≡ 16

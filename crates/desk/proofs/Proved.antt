@@ -12,6 +12,7 @@ use Rattle.rules.specs.declared.Refusal.the-variants.{Rules, Numbers, Past, Bus
 use Rattle.desk.specs.declared.Job.{Job}
 use Rattle.desk.specs.declared.Answer.the-variants.{Opened, Taken, Refused}
 use Rattle.desk.specs.Table.{none, filled, outcome, flexes, tableOk, openOf, Outcome}
+use Rattle.desk.specs.Reason.{explanationOf}
 use Rattle.desk.specs.Request.{kept, find, tooFar, dropping, taking, drops, requestOf, Place, At, Nowhere}
 use Rattle.desk.specs.Story.{Entry, noEntry, entries, Story, begin}
 use Rattle.desk.specs.Theorems.{OpenLeaves, NeverTooFar, Refuses, OpenTells, InEveryStory, Matches, Proved}
@@ -60,7 +61,7 @@ module _ (clock n : ℕ) (l : List Job) (t c d : ℕ) where
   choose false o p h g = g
 
   right-placed : (p : Place) → Right (taking (outcome l n clock (Refused TooFar)) t c d (kept t (take n l)) p)
-  right-placed Nowhere = drops-all NoPlace refl
+  right-placed Nowhere = drops-all (NoPlace (explanationOf t d (kept t (take n l)))) refl
   right-placed (At i s) =
       choose (tooFar (s + c) (drop i (kept t (take n l)))) _ _ (stays TooFar refl)
       (record { refused = λ r e. absurd (let z : _≡_ {A = ℕ} 0 1 = cc in omega arith); taken = λ k u e. refl })

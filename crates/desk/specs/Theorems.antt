@@ -1,5 +1,5 @@
 -- What is proved of the desk's rules, each statement below the documents' words. `Proved` has a field for each. Assumes nothing.
-use Prim.Native.Nat.{ℕ, zero, suc, _+_, _<_, _≤_}
+use Prim.Native.Nat.{ℕ, _+_, _<_, _≤_}
 use mathlib.Core.Path.{_≡_}
 use mathlib.Core.Logic.{_↔_}
 use mathlib.Core.Bool.{Bool, true, false}
@@ -13,6 +13,7 @@ use Rattle.desk.specs.declared.Job.{Job}
 use Rattle.desk.specs.declared.Asked.{Asked}
 use Rattle.desk.specs.declared.Answer.the-variants.{Opened, Taken, Refused}
 use Rattle.desk.specs.Table.{start, budget, deadline, ends, none, Outcome, outcome, flexes, deskOk, openOf}
+use Rattle.desk.specs.Places.{startAt}
 use Rattle.desk.specs.Request.{kept, busy, numbersOk, drops, dropping, requestOf}
 use Rattle.desk.specs.Call.{said}
 use Rattle.desk.specs.Story.{Entry, entry, noEntry, standing, Story, live, ever, begin, next, many, Promise, Joined, Fixed, takens}
@@ -113,11 +114,6 @@ abbrev pub NoPlaceExactly : Type 0
 NoPlaceExactly =
     (clock n : ℕ) (l : List Job) (t c d : ℕ)
     → Refuses (requestOf clock n l t c d) 18 ↔ (NoLower (requestOf clock n l t c d) × (Fits t c d (kept t (take n l)) → ⊥))
-
--- "s is t for place 0, else the end of the job before"
-abbrev pub startAt : ℕ → List Job → ℕ → ℕ
-startAt t js zero = t
-startAt t js (suc i) = ends (getD js i none)
 
 -- "The lowest place .. is taken, start s"
 abbrev pub TakenStart : Type 0

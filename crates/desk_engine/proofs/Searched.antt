@@ -11,7 +11,8 @@ use Rattle.rules.specs.Walk.{pick}
 use Rattle.desk.specs.declared.Job.{Job}
 use Rattle.desk_records.specs.Sums.{most32}
 use Rattle.desk_reading.specs.declared.searching.Searching.{Searching}
-use Rattle.desk.specs.Request.{kept, busy, early, room, findFrom, find, Place, At, Nowhere}
+use Rattle.desk.specs.Places.{early, room}
+use Rattle.desk.specs.Request.{kept, busy, findFrom, find, Place, At, Nowhere}
 use Rattle.desk.proofs.Chain.{Chain}
 use Rattle.desk.proofs.Spot.{early-late}
 use Rattle.desk_records.specs.Folds.{fold}

@@ -15,7 +15,8 @@ use Rattle.rules.specs.Limits.{places, latest}
 use Rattle.desk.specs.declared.Job.{Job}
 use Rattle.desk.specs.declared.Answer.the-variants.{Opened, Taken, Refused}
 use Rattle.desk.specs.Table.{job, xOf, filled, flexes, outcome, rightX, tableOk, deskOk, openOf, ends, Outcome}
-use Rattle.desk.specs.Request.{kept, busy, find, taking, insertAt, shift, tooFar, numbersOk, requestOf, Place, At, Nowhere, dropping}
+use Rattle.desk.specs.Places.{shift}
+use Rattle.desk.specs.Request.{kept, busy, find, taking, insertAt, tooFar, numbersOk, requestOf, Place, At, Nowhere, dropping}
 use Rattle.rules.proofs.Tests.{and-parts, or-neither}
 use Rattle.desk.proofs.Check.{xOf-le, numbers-small, Listed, listed-of, desk-table, desk-right}
 use Rattle.desk.proofs.Chain.{Chain, chain-of, chain-kept, right-kept}

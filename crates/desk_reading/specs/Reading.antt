@@ -7,7 +7,7 @@ use lib.Dec.{leb, ltb, eqb}
 use Rattle.rules.specs.Walk.{pick}
 use Rattle.desk.specs.declared.Job.{Job}
 use Rattle.desk.specs.Table.{job, start, budget, flex, ends, xOf, jobOk, zeros}
-use Rattle.desk.specs.Request.{room}
+use Rattle.desk.specs.Places.{room}
 use Rattle.desk_reading.specs.declared.checking.Checking.{Checking}
 use Rattle.desk_reading.specs.declared.searching.Searching.{Searching}
 use Rattle.desk_reading.specs.declared.scan.Scan.{Scan}
