@@ -21,6 +21,7 @@ use Rattle.desk.proofs.Entries.{Follow, entries-open}
 use Rattle.desk.proofs.Promise.{take-filled, table, Kept, kept-good, kept-many, kept-begin, promise}
 use Rattle.desk.proofs.Exactly.{taken-start, taken-exactly, no-place-exactly}
 use Rattle.desk.proofs.Busy.{busy-ends}
+use Rattle.desk.proofs.Reason.{no-place-roomiest, no-place-nowhere, no-place-breaks, no-place-room-taken}
 use Rattle.desk.proofs.Ready.{Comes, at-13, at-14, at-15, at-16, at-17, through, comes, lower-exactly}
 use Rattle.desk.proofs.Still.{refused-same, taken-joined, still, all-since-opening, still-ever, length-entries}
 
@@ -133,6 +134,10 @@ proved =
       taken-exactly = taken-exactly;
       no-place-exactly = no-place-exactly;
       taken-start = taken-start;
+      no-place-roomiest = no-place-roomiest;
+      no-place-nowhere = no-place-nowhere;
+      no-place-breaks = no-place-breaks;
+      no-place-room-taken = no-place-room-taken;
       busy-ends = busy-ends;
       open-tells = open-tells;
       story-tells = λ clock n l e qs. tells _ (kept-story clock n l e qs);
