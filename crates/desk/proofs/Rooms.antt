@@ -182,7 +182,7 @@ module _ (t d : ℕ) (js : List Job) where
 
 -- ---- the jobs from a place on
 
-at-drop : (i : ℕ) (js : List Job) → i < length js → drop i js ≡ getD js i none ∷ drop (suc i) js
+pub at-drop : (i : ℕ) (js : List Job) → i < length js → drop i js ≡ getD js i none ∷ drop (suc i) js
 at-drop i [] h = absurd (omega arith)
 at-drop zero (j ∷ js) h = refl
 at-drop (suc i) (j ∷ js) h = at-drop i js (omega arith)
