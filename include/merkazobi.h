@@ -10,8 +10,8 @@
    Pointers: what is lent must be there for the whole length said, aligned as its type asks. A null pointer is good
    where the length is 0. What is lent for writing must not overlap anything else of the same call.
 
-   Cost: `merkazobi_read` and `merkazobi_section` take up to MERKAZOBI_READ_STACK bytes of stack, `merkazobi_verdict`
-   and `merkazobi_plain` up to MERKAZOBI_VERDICT_STACK, `merkazobi_list` up to MERKAZOBI_LIST_STACK, every other call up
+   Cost: `merkazobi_read` and `merkazobi_section` take up to MERKAZOBI_READ_STACK bytes of stack, `merkazobi_verdict`,
+   `merkazobi_plain` and `merkazobi_page` up to MERKAZOBI_VERDICT_STACK, `merkazobi_list` up to MERKAZOBI_LIST_STACK, every other call up
    to MERKAZOBI_STACK. At the limits a build, check, read or write takes under a millisecond; a call over running counts
    walks plan, list (65,552 numbers at most) and questions; merkazobi_held walks at most a frame, merkazobi_least two.
    merkazobi_curve walks, for each run of the partition, as far as n goes, but no further than a frame: a verdict makes
@@ -76,6 +76,10 @@ extern "C" {
 /* A list of so many numbers is long enough for the curve up to the longest deadline. */
 #define MERKAZOBI_CURVE_NUMBERS (MERKAZOBI_PERIOD + 1)
 
+/* A row of the supplier's page is 4 numbers, and a list of so many is long enough for any page. */
+#define MERKAZOBI_ROW_NUMBERS 4
+#define MERKAZOBI_PAGE_NUMBERS (MERKAZOBI_ROW_NUMBERS * MERKAZOBI_PERIOD)
+
 #define MERKAZOBI_STACK 1024
 #define MERKAZOBI_VERDICT_STACK 36864
 #define MERKAZOBI_READ_STACK 20480
@@ -97,13 +101,13 @@ enum {
     MERKAZOBI_SERVICE = 9,    /* plan doesn't serve; partition, start, held, wanted */
     MERKAZOBI_HARMONIC = 10,  /* cycles not harmonic */
     MERKAZOBI_TICKS = 11,     /* want of ticks */
-    MERKAZOBI_OUTPUT = 12,    /* output, or a list of running counts or of a curve, shorter than needed */
+    MERKAZOBI_OUTPUT = 12,    /* output, or a list of running counts, of a curve or of rows, shorter than needed */
     MERKAZOBI_TABLE = 13,     /* job table, clock or count breaks the rules */
     MERKAZOBI_NUMBER = 14,    /* C zero, or C, d or t above 1,000,000 */
     MERKAZOBI_PAST = 15,      /* t before the clock */
     MERKAZOBI_BUSY = 16,      /* busy: ask again when the running job ends */
     MERKAZOBI_FULL = 17,      /* 64 jobs left after dropping */
-    MERKAZOBI_NO_PLACE = 18,  /* no place keeps every deadline */
+    MERKAZOBI_NO_PLACE = 18,  /* no place keeps every deadline; the roomiest place, its room, what binds it, that job */
     MERKAZOBI_TOO_FAR = 19,   /* a move would exceed a job's x: proved never to happen */
     MERKAZOBI_COUNTS = 20,    /* the running counts disagree with the plan */
     MERKAZOBI_GRANULE = 21,   /* the granule is not from 1 to 16 */
@@ -187,6 +191,19 @@ merkazobi_answer merkazobi_verdict(size_t edition, size_t granule, const uint16_
 merkazobi_answer merkazobi_plain(size_t edition, size_t granule, const uint16_t *plan, size_t ticks,
                                  const uint16_t *parts, size_t part_numbers, const uint16_t *tasks,
                                  size_t task_numbers, size_t place);
+
+/* The supplier's page, which says why a task fails: "for each scheduling point in rising order, its demand, its least
+   service and a worst start (the lowest)", a tick of the frame from which as many ticks as the point holds hold no more
+   than that least. rows gets four numbers for each point: the point, demand, least service, start. Lent, asked and
+   refused as the verdict, with 12 behind 9: a failing task's points need more numbers than rows has; then nothing is
+   written. A list of MERKAZOBI_PAGE_NUMBERS is always enough, and a longer one keeps its tail.
+   A task that passes lists nothing, whatever rows is: first is the point, as the verdict tells it. Where it fails, first
+   is 0, second how many rows are written, third "the point with the smallest shortage, lowest point on equals", and fourth
+   that shortage, demand less least service, which is at least 1: a task of a budget smaller by so much, if any is left,
+   passes there. */
+merkazobi_answer merkazobi_page(size_t edition, size_t granule, const uint16_t *plan, size_t ticks,
+                                const uint16_t *parts, size_t part_numbers, const uint16_t *tasks,
+                                size_t task_numbers, size_t place, uint32_t *rows, size_t row_numbers);
 
 /* ---- Running counts kept beside the plan: "for each partition the count of own ticks before each tick from 0 to F, in a
    list the caller lends", partition by partition. Partition p's count before tick k stands at (p - 1) * (F + 1) + k, so
@@ -273,6 +290,13 @@ typedef struct {
     uint32_t count;
 } merkazobi_desk;
 
+/* What binds the room that an 18 tells, its third value. */
+enum {
+    MERKAZOBI_NO_ROOM = 0,        /* there is no place at all */
+    MERKAZOBI_OWN_DEADLINE = 1,   /* the request's own deadline */
+    MERKAZOBI_LISTED_DEADLINE = 2 /* that of a listed job; fourth: which */
+};
+
 /* Opening the desk: "takes any x of a listed job and any clock, works x out and sets the clock to 0". Before it: count
    is the number of jobs, at most 64; the jobs stand first in the table by rising start, each with c at least 1, with
    a + c at most its d and at most the next job's a, and with d at most 1,000,000; all places past the count hold zeros.
@@ -290,6 +314,13 @@ merkazobi_answer merkazobi_open(merkazobi_desk *desk, merkazobi_job *jobs, size_
    A job taken in sets the clock too." A request that 13 to 17 don't refuse is taken "exactly when some place in the
    order, started at t or later, with earlier jobs unmoved and later ones only delayed, keeps every deadline"; else it
    is 18.
+
+   18 says what comes nearest. first is "the lowest place with the largest room", second that room: a request that differs
+   only in its budget is taken there with so many ticks (where it is 1 or more), and with one more it is 18. third is what
+   binds the room: MERKAZOBI_OWN_DEADLINE, a tick more would end past the request's own d (this is told on equals too);
+   or MERKAZOBI_LISTED_DEADLINE, a tick more would push a listed job past its deadline, the first such job being fourth.
+   Places and jobs count from 0 after dropping, so fourth is its place in the table right after that answer. third is
+   MERKAZOBI_NO_ROOM, and the others 0, where there is no place at all: t is past d, and no job left starts by d.
 
    16: a job is running, a < t < a + c, and it is jobs[0] right after that answer. (A job whose start is t itself has
    not begun and may be moved: make a tick's requests before its job starts.) It is left to the caller to ask again when

@@ -23,10 +23,11 @@ static merkazobi_answer served(size_t entry, const size_t *given, const slice *o
     }
 }
 
-/* A plan, or the task at a place by one of the two engines; all that is given is handed on in its whole width. */
+/* A plan, or the task at a place, by one of the two engines or with its page; all that is given is handed on in its
+   whole width. */
 static merkazobi_answer judged(size_t entry, const size_t *given, const slice *of)
 {
-    const slice plan = of[0], parts = of[1], tasks = of[2];
+    const slice plan = of[0], parts = of[1], tasks = of[2], rows = of[3];
     const size_t edition = given[0], granule = given[1], place = given[2];
     switch (entry) {
     case CHECK:
@@ -34,6 +35,9 @@ static merkazobi_answer judged(size_t entry, const size_t *given, const slice *o
     case VERDICT:
         return merkazobi_verdict(edition, granule, plan.at, plan.lent, parts.at, parts.lent, tasks.at, tasks.lent,
                                  place);
+    case PAGE:
+        return merkazobi_page(edition, granule, plan.at, plan.lent, parts.at, parts.lent, tasks.at, tasks.lent, place,
+                              rows.at, rows.lent);
     default:
         return merkazobi_plain(edition, granule, plan.at, plan.lent, parts.at, parts.lent, tasks.at, tasks.lent, place);
     }
@@ -73,6 +77,7 @@ static merkazobi_answer answer(size_t entry, const size_t *given, const slice *o
     case CHECK:
     case VERDICT:
     case PLAIN:
+    case PAGE:
         return judged(entry, given, of);
     case COUNTS_FILL:
     case COUNTS_HELD:

@@ -9,10 +9,12 @@ use rules::Filling;
 use rules::Finding;
 use rules::Holding;
 use rules::Told;
+use task_page::Paged;
 use task_verdict::Judged;
 ghost use mathlib.Core.Path.{_≡_};
 ghost use Rattle.rules.specs.Refusals.{toldFinding, toldFilling, toldHolding};
 ghost use Rattle.task_verdict.specs.Verdict.{toldJudged};
+ghost use Rattle.task_page.specs.Page.{toldPage};
 ghost use Rattle.file_read.specs.Reader.{toldReading};
 ghost use Rattle.file_read.specs.Contracts.{Few};
 ghost use Rattle.desk.specs.declared.Ask.the-variants.{Open, Request};
@@ -66,6 +68,27 @@ pub fn tell_judged(judged: Judged) -> Told
         Judged::Pass(t) => answer(t, 0),
         Judged::Fail => answer(0, 0),
         Judged::Refused(r) => rules::tell(r),
+    }
+}
+
+pub fn tell_page(paged: Paged) -> Told
+    ensures { λ r. ⌜ r ≡ toldPage paged ⌝ }
+{
+    match paged {
+        Paged::Pass(t) => answer(t, 0),
+        Paged::Fail {
+            rows,
+            tightest,
+            shortage,
+        } => Told {
+            number: 0,
+            first: 0,
+            second: rows,
+            third: tightest,
+            fourth: shortage,
+            fifth: 0,
+        },
+        Paged::Refused(r) => rules::tell(r),
     }
 }
 

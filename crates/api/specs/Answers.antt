@@ -11,6 +11,7 @@ use Rattle.plan_check.specs.Check.{Checks}
 use Rattle.plan_build.specs.Build.{Builds}
 use Rattle.counts.specs.Counts.{FillsCounts, HoldsOne, HoldsMany, Changes}
 use Rattle.task_verdict.specs.Verdict.{Judges, JudgesPlainly, toldJudged}
+use Rattle.task_page.specs.Page.{Pages, toldPage}
 use Rattle.file_read.specs.Reader.{toldReading, Reads}
 use Rattle.file_write.specs.Writer.{Writes}
 use Rattle.file_listing.specs.Listing.{Lists}
@@ -55,6 +56,10 @@ TellsVerdict e g plan ps ts place = Tells toldJudged (Judges (given e g) plan ps
 
 abbrev pub TellsPlain : ℕ → ℕ → List ℕ → List ℕ → List ℕ → ℕ → Told → Type 0
 TellsPlain e g plan ps ts place = Tells toldJudged (JudgesPlainly (given e g) plan ps ts place)
+
+-- the list of rows, as lent, and o what it then holds
+abbrev pub TellsPage : ℕ → ℕ → List ℕ → List ℕ → List ℕ → ℕ → List ℕ → List ℕ → Told → Type 0
+TellsPage e g plan ps ts place list o = Tells toldPage (Pages (given e g) plan ps ts place list o)
 
 abbrev pub TellsRead : List ℕ → Told → Type 0
 TellsRead b = Tells toldReading (Reads b)

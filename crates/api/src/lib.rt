@@ -5,7 +5,7 @@ use desk::Job;
 use rules::Terms;
 use rules::Told;
 ghost use Rattle.rules.specs.Table.{WantsIs};
-ghost use Rattle.api.specs.Answers.{TellsHeld, TellsLeast, TellsCurve, TellsCheck, TellsBuild, TellsFill, TellsCounted, TellsMany, TellsChange, TellsVerdict, TellsPlain, TellsRead, TellsSection, TellsWrite, TellsList, TellsOpen, TellsRequest};
+ghost use Rattle.api.specs.Answers.{TellsHeld, TellsLeast, TellsCurve, TellsCheck, TellsBuild, TellsFill, TellsCounted, TellsMany, TellsChange, TellsVerdict, TellsPlain, TellsPage, TellsRead, TellsSection, TellsWrite, TellsList, TellsOpen, TellsRequest};
 
 #[no_mangle]
 pub extern "C" fn merkazobi_wants(granule: usize, m: u16, num: u16, den: u16) -> usize
@@ -151,6 +151,29 @@ pub extern "C" fn merkazobi_plain(
         place r ⌝ }
 {
     answers::tell_judged(task_verdict::plain(Terms { edition, granule }, plan, parts, tasks, place))
+}
+
+#[no_mangle]
+pub extern "C" fn merkazobi_page(
+    edition: usize,
+    granule: usize,
+    plan: &[u16],
+    parts: &[u16],
+    tasks: &[u16],
+    place: usize,
+    rows: &mut [u32],
+) -> Told
+    ensures { λ r. ⌜ TellsPage edition granule (now (plan .entry)) (now (parts .entry)) (now (tasks .entry))
+        place (now (rows .entry)) (now (rows .exit)) r ⌝ }
+{
+    answers::tell_page(task_page::page(
+        Terms { edition, granule },
+        plan,
+        parts,
+        tasks,
+        place,
+        rows,
+    ))
 }
 
 #[no_mangle]

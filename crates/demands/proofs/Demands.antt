@@ -1,7 +1,7 @@
 -- The three demands, from the crates' records and each entry's own contract. Assumes nothing.
 use Prim.Native.Nat.{ℕ, _+_, _≤_, _<_}
 use mathlib.Core.Path.{_≡_, refl, sym, ap, subst, _∙_}
-use mathlib.Core.Logic.{_↔_}
+use mathlib.Core.Logic.{_↔_, inl, inr}
 use mathlib.Core.Bool.{Bool, true, false, true≢false, not, _&&_, _||_}
 use mathlib.Core.List.{List, [], _∷_}
 use native.Mathlib.Omega.{arith}
@@ -16,11 +16,15 @@ use Rattle.rules.specs.declared.Rule.{Rule}
 use Rattle.tables.specs.Tables.{unless}
 use Rattle.tables.specs.Contracts.{firstBadTick}
 use Rattle.rules.specs.declared.Told.{Told}
+use Rattle.rules.specs.declared.Binding.{Binding}
+use Rattle.rules.specs.declared.Binding.the-variants as binding
+use Rattle.rules.specs.declared.Explanation.{Explanation}
+use Rattle.rules.specs.declared.Explanation.the-variants as why
 use Rattle.rules.specs.declared.Refusal.{Refusal}
 use Rattle.rules.specs.declared.Refusal.the-variants.{Edition, Tick, Shortfall, Unharmonic, Want, Output, Rules, Numbers, Past, Busy, Full, NoPlace, TooFar}
-use Rattle.rules.specs.Refusals.{told, toldFinding, toldFilling, toldHolding, Tells}
+use Rattle.rules.specs.Refusals.{telling, told, toldFinding, toldFilling, toldHolding, Tells}
 use Rattle.rules.specs.Filling.{leftBy}
-use Rattle.rules.proofs.Known.{not-0, filling-fills, tells-one}
+use Rattle.rules.proofs.Known.{not-0, by-number, filling-fills, tells-one}
 use Rattle.rules.proofs.Tests.{and-parts, pick-first}
 use Rattle.rules.proofs.Answers.{no-filling}
 use Rattle.rules.specs.declared.Holding.{Holding}
@@ -65,7 +69,9 @@ use Rattle.desk.specs.declared.Answer.the-variants.{Opened, Taken, Refused}
 use Rattle.desk.specs.Table.{job, start, ends, none, filled, flexes, Outcome, outcome, tableOk, openOf}
 use Rattle.desk.specs.Request.{kept, Place, At, Nowhere, find, tooFar, insertAt, taking, dropping, drops, requestOf}
 use Rattle.desk.specs.Call.{deskOf, Leaves, said}
-use Rattle.desk.specs.Theorems.{Fits, NoLower, Ready, startAt}
+use Rattle.desk.specs.Places.{early, startAt}
+use Rattle.desk.specs.Reason.{explanationOf}
+use Rattle.desk.specs.Theorems.{Fits, NoLower, Ready}
 use Rattle.desk.proofs.Ready.{Comes, at-13, at-14, at-15, at-16, at-17, through, comes}
 use Rattle.desk.proofs.Proved as desk
 use Rattle.desk_lent.proofs.Proved as lent
@@ -73,7 +79,7 @@ use Rattle.plan_curve.specs.Curve.{leastCurve, curveOf, DrawsCurve}
 use Rattle.plan_curve.proofs.Answers as curve
 use Rattle.api.specs.Answers.{TellsHeld, TellsLeast, TellsCurve, TellsBuild, TellsRead, TellsSection, TellsWrite, TellsList, TellsRequest}
 use Rattle.answers.specs.Parts.{toldPart}
-use Rattle.demands.specs.Demands.{among, ToldAs, Numbered, Known, Demand1, OneOutcome, Afresh, lower, Demand2, Demand3, Demands}
+use Rattle.demands.specs.Demands.{among, ToldAs, Numbered, Known, Demand1, OneOutcome, Afresh, lower, Explains, Demand2, Demand3, Demands}
 use Rattle.demands.proofs.Entries.{entries}
 use Rattle.demands.proofs.Counting as counting
 use Rattle.demands.proofs.Granules.{not-known, known-good, edition-exactly, granule-exactly, granule-one}
@@ -126,7 +132,7 @@ module _ (P : Outcome → Type 0) (clock n : ℕ) (l : List Job) (t c d : ℕ) w
   abbrev takes : ℕ → ℕ → Outcome
   takes i s = outcome (filled (insertAt i (job s c d 0) js)) (length js + 1) t (Taken i s)
 
-  taking-holds : (p : Place) → P (dropping t js NoPlace) → P (stays TooFar) → ((i s : ℕ) → P (takes i s)) → P (taking (stays TooFar) t c d js p)
+  taking-holds : (p : Place) → P (dropping t js (NoPlace (explanationOf t d js))) → P (stays TooFar) → ((i s : ℕ) → P (takes i s)) → P (taking (stays TooFar) t c d js p)
   taking-holds Nowhere none far new = none
   taking-holds (At i s) none far new = at (tooFar (s + c) (drop i js))
     where
@@ -134,7 +140,7 @@ module _ (P : Outcome → Type 0) (clock n : ℕ) (l : List Job) (t c d : ℕ) w
       at true = far
       at false = new i s
 
-  request-holds : P (stays Rules) → P (stays Numbers) → P (stays Past) → P (dropping t js Busy) → P (dropping t js Full) → P (dropping t js NoPlace) → P (stays TooFar)
+  request-holds : P (stays Rules) → P (stays Numbers) → P (stays Past) → P (dropping t js Busy) → P (dropping t js Full) → P (dropping t js (NoPlace (explanationOf t d js))) → P (stays TooFar)
       → ((i s : ℕ) → P (takes i s)) → P (requestOf clock n l t c d)
   request-holds thirteen fourteen fifteen sixteen seventeen eighteen nineteen new = by (requestOf clock n l t c d) (comes clock n l t c d)
     where
@@ -339,6 +345,55 @@ module _ (k k′ : Desk) (l l′ : List Job) (time c d : ℕ) (t : Told) (p : Te
         λ (h, f). rw (desk-is asked k′ l′ t p) (w .1 (none-lower h, f)),
       )
 
+  -- what holds of each reason that may be told with 18 holds of what is told
+  by-reason : (P : Told → Type 0) → ((reason : Explanation) → asked .answer ≡ Refused (NoPlace reason) → P (told (NoPlace reason))) → t .number ≡ 18 → P t
+  by-reason P by e = subst P (sym (desk-is asked k′ l′ t p)) (go (asked .answer) refl (rw (desk-is asked k′ l′ t p) at e))
+    where
+      named-by : (r : Refusal) (reason : Explanation) → r ≡ NoPlace reason → asked .answer ≡ Refused r → P (told r)
+      named-by r reason z f = subst (λ (x : Refusal). P (told x)) (sym z) (by reason (f ∙ ap (λ (x : Refusal). Refused x) z))
+
+      go : (a : Answer) → asked .answer ≡ a → said a .number ≡ 18 → P (said a)
+      go Opened f z = absurd (not-opened f)
+      go (Taken i s) f z = absurd (omega arith)
+      go (Refused r) f z = named-by r _ (by-number r 18 (λ q. absurd (omega arith)) z) f
+
+  explained-told : t .number ≡ 18 → Explains time c d left t
+  explained-told = by-reason (Explains time c d left) by
+    where
+      not-none : (i r : ℕ) (b : Binding) → asked .answer ≡ Refused (NoPlace (why.Roomiest i r b)) → ¬ ((early d left ≡ 0) × (d < time))
+      not-none i r b f z =
+          let y = desk.proved .no-place-nowhere (k .clock) (k .count) l time c d (why.Roomiest i r b) f .1 z in
+          let x : _≡_ {A = ℕ} 0 1 = cc in
+          omega arith
+
+      by : (reason : Explanation) → asked .answer ≡ Refused (NoPlace reason) → Explains time c d left (told (NoPlace reason))
+      by why.Nowhere f = record {
+        none = (λ z. desk.proved .no-place-nowhere (k .clock) (k .count) l time c d why.Nowhere f .0 refl, λ z. refl);
+        roomiest = λ z. absurd (omega arith);
+        binds = λ z. absurd (omega arith);
+      }
+      by (why.Roomiest i r binding.Own) f = record {
+        none = (λ z. absurd (omega arith), λ z. absurd (not-none i r binding.Own f z));
+        roomiest = λ z. desk.proved .no-place-roomiest (k .clock) (k .count) l time c d i r binding.Own f;
+        binds = λ z. inl (refl, desk.proved .no-place-breaks (k .clock) (k .count) l time c d i r binding.Own f);
+      }
+      by (why.Roomiest i r (binding.Listed j)) f = record {
+        none = (λ z. absurd (omega arith), λ z. absurd (not-none i r (binding.Listed j) f z));
+        roomiest = λ z. desk.proved .no-place-roomiest (k .clock) (k .count) l time c d i r (binding.Listed j) f;
+        binds = λ z. inr (refl, desk.proved .no-place-breaks (k .clock) (k .count) l time c d i r (binding.Listed j) f);
+      }
+
+  room-told : t .number ≡ 18 → 1 ≤ t .second
+      → (k₂ : Desk) (l₂ : List Job) (u : Told) → TellsRequest k l time (t .second) d k₂ l₂ u → u ≡ telling 0 (t .first) (startAt time left (t .first)) 0 0
+  room-told = by-reason (λ x. 1 ≤ x .second → (k₂ : Desk) (l₂ : List Job) (u : Told) → TellsRequest k l time (x .second) d k₂ l₂ u → u ≡ telling 0 (x .first) (startAt time left (x .first)) 0 0) by
+    where
+      by : (reason : Explanation) → asked .answer ≡ Refused (NoPlace reason) → 1 ≤ told (NoPlace reason) .second
+          → (k₂ : Desk) (l₂ : List Job) (u : Told) → TellsRequest k l time (told (NoPlace reason) .second) d k₂ l₂ u
+          → u ≡ telling 0 (told (NoPlace reason) .first) (startAt time left (told (NoPlace reason) .first)) 0 0
+      by why.Nowhere f some k₂ l₂ u q = absurd (omega arith)
+      by (why.Roomiest i r b) f some k₂ l₂ u q =
+          desk-is _ k₂ l₂ u q ∙ ap said (desk.proved .no-place-room-taken (k .clock) (k .count) l time c d i r b f some)
+
 -- ---- sections
 
 abbrev Partly : Reading → ℕ → Type 0
@@ -516,6 +571,8 @@ second = record {
   lower-exactly = lower-told;
   taken-exactly = taken-told;
   no-place-exactly = no-place-told;
+  no-place-explained = explained-told;
+  no-place-room-taken = room-told;
   taken-start = start-told;
   busy-ends = busy-told;
 }

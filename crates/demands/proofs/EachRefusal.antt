@@ -32,6 +32,7 @@ use Rattle.share_text.specs.Table.{lineOf, afterLine, fromLine, rowAt, closesAt
 use Rattle.share_plan.specs.Answer.{planFile, writeBuiltOf, writePlanOf, shortLine, whyLine, fileOrLine, answerOf}
 use Rattle.file_listing.specs.Listing.{tablesLines, listingOf, listOf}
 use Rattle.desk.specs.Table.{openOf}
+use Rattle.desk.specs.Reason.{roomAt, placesOf, largestRoom, asRoomy, roomiest, late, bindingAt, explanationOf}
 use Rattle.desk.specs.Request.{requestOf}
 use Rattle.demands.proofs.Judging.{TellsBy}
 use Rattle.demands.specs.EachRefusal.{EachPlan, EachVerdict, EachCount, EachFile, EachText, EachEdition, EachDesk, EachLimit, EachRefusal}
@@ -217,7 +218,7 @@ editions = record {
 }
 
 desks : EachDesk
-unfolding openOf requestOf
+unfolding first largest openOf roomAt placesOf largestRoom asRoomy roomiest late bindingAt explanationOf requestOf
 desks = record {
   open-13 = (_, (refl, refl, refl), refl);
   request-13 = (_, (refl, refl, refl), refl);
@@ -226,11 +227,13 @@ desks = record {
   request-16 = (_, (refl, refl, refl), refl);
   request-17 = (_, (refl, refl, refl), refl);
   request-18 = (_, (refl, refl, refl), refl);
+  request-18-listed = (_, (refl, refl, refl), refl);
   request-18-gap = (_, (refl, refl, refl), refl);
+  request-18-past = (_, (refl, refl, refl), refl);
 }
 
 limits : EachLimit
-unfolding only fails first sum count smallest largest gathered roundUp wants countedIn withinLimits goodGranule goodEdition inEdition tablesOf goodShare goodTimes pairs frame allWanted unharmonic laidOf buildOf numsOf runOwner runLength repeats goodRun runsJudged fileTablesOf countsOf contentsOf readOf writeOf openOf requestOf
+unfolding only fails first sum count smallest largest gathered roundUp wants countedIn withinLimits goodGranule goodEdition inEdition tablesOf goodShare goodTimes pairs frame allWanted unharmonic laidOf buildOf numsOf runOwner runLength repeats goodRun runsJudged fileTablesOf countsOf contentsOf readOf writeOf openOf roomAt placesOf largestRoom asRoomy roomiest late bindingAt explanationOf requestOf
 limits = record {
   partitions-16 = (_, (refl, refl), refl);
   partitions-17 = (_, (refl, refl), refl);

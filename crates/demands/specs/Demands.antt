@@ -2,7 +2,7 @@
 -- specs/Entries.antt, are met by every call, so a statement about all that they permit is one about the entry. Assumes nothing.
 use Prim.Native.Nat.{ℕ, _+_, _-_, _≤_, _<_}
 use mathlib.Core.Path.{_≡_}
-use mathlib.Core.Logic.{_↔_}
+use mathlib.Core.Logic.{_↔_, _⊎_}
 use mathlib.Core.Bool.{Bool, true, false, _||_}
 use mathlib.Core.List.{List, [], _∷_}
 use lib.Dec.{eqb}
@@ -17,7 +17,8 @@ use contract.Monad.{Fun}
 use Rattle.rules.specs.Limits.{longest, mostGranule, newestEdition}
 use Rattle.rules.specs.Table.{partitions, deadline}
 use Rattle.rules.specs.Terms.{granules, ruleOf, wanted}
-use Rattle.rules.specs.Refusals.{placed}
+use Rattle.rules.specs.Refusals.{placed, telling}
+use Rattle.rules.specs.declared.Binding.the-variants as binding
 use Rattle.rules.specs.declared.Told.{Told}
 use Rattle.tables.specs.Tables.{withinLimits, GoodTables}
 use Rattle.output.specs.Theorems as output
@@ -40,6 +41,7 @@ use Rattle.share_plan.specs.Theorems as planner
 use Rattle.desk.specs.declared.Job.{Job}
 use Rattle.desk.specs.declared.Desk.{Desk}
 use Rattle.desk.specs.Table.{start, ends, none, filled, flexes}
+use Rattle.desk.specs.Places.{early, startAt}
 use Rattle.desk.specs.Request.{kept}
 use Rattle.desk.specs.Theorems as desk
 use Rattle.desk_lent.specs.Theorems as lent
@@ -197,6 +199,18 @@ Afresh k l = flexes (take (k .count) l) ≡ take (k .count) l
 abbrev pub lower : List ℕ
 lower = 13 ∷ 14 ∷ 15 ∷ 16 ∷ 17 ∷ []
 
+-- document 02, ask 7: what is told with 18 of the jobs left. A place and its room; then 1 and the request's own deadline, or 2 and a listed job's, with that job
+pub record Explains (time c d : ℕ) (left : List Job) (t : Told) : Type 0 where
+  -- "If there is none, as when t is past d, say so": 0
+  pub none : (t .third ≡ 0) ↔ ((early d left ≡ 0) × (d < time))
+  -- "the lowest place with the largest room, that room"
+  pub roomiest : 1 ≤ t .third → desk.Roomy time d left (t .first) (t .second) × (t .second < c)
+  -- "one tick more in that place does break the deadline named"
+  pub binds :
+      1 ≤ t .third
+      → ((t .third ≡ 1) × desk.TickBreaks time d left (t .first) (t .second) binding.Own)
+      ⊎ ((t .third ≡ 2) × desk.TickBreaks time d left (t .first) (t .second) (binding.Listed (t .fourth)))
+
 -- DEMAND 2: "Ticks, plan, verdict, file and desk are exactly those of the documents' rules. Read-after-write gives the tables, write-after-read the bytes;
 -- after every call that tests the job table and doesn't refuse it, flexibilities are those worked out afresh." Each entry has one outcome, its rule's, and of the rules the records below hold.
 pub record Demand2 : Type 0 where
@@ -255,10 +269,19 @@ pub record Demand2 : Type 0 where
   pub no-place-exactly :
       (k k′ : Desk) (l l′ : List Job) (time c d : ℕ) (t : Told) → TellsRequest k l time c d k′ l′ t
       → (t .number ≡ 18) ↔ (¬ ToldAs lower t × ¬ desk.Fits time c d (kept time (take (k .count) l)))
+  -- "With its 18 the desk gives the lowest place with the largest room, that room, and whether the request's own deadline or a listed job's binds it"
+  pub no-place-explained :
+      (k k′ : Desk) (l l′ : List Job) (time c d : ℕ) (t : Told) → TellsRequest k l time c d k′ l′ t → t .number ≡ 18
+      → Explains time c d (kept time (take (k .count) l)) t
+  -- and so many ticks are taken, just there
+  pub no-place-room-taken :
+      (k k′ : Desk) (l l′ : List Job) (time c d : ℕ) (t : Told) → TellsRequest k l time c d k′ l′ t → t .number ≡ 18 → 1 ≤ t .second
+      → (k₂ : Desk) (l₂ : List Job) (u : Told) → TellsRequest k l time (t .second) d k₂ l₂ u
+      → u ≡ telling 0 (t .first) (startAt time (kept time (take (k .count) l)) (t .first)) 0 0
   -- "s is t for place 0, else the end of the job before"
   pub taken-start :
       (k k′ : Desk) (l l′ : List Job) (time c d : ℕ) (t : Told) → TellsRequest k l time c d k′ l′ t → t .number ≡ 0
-      → t .second ≡ desk.startAt time (kept time (take (k .count) l)) (t .first)
+      → t .second ≡ startAt time (kept time (take (k .count) l)) (t .first)
   -- after 16 the first job in the caller's table is running, and a request when it ends is not refused with 16
   pub busy-ends :
       (k k′ : Desk) (l l′ : List Job) (time c d : ℕ) (t : Told) → TellsRequest k l time c d k′ l′ t → t .number ≡ 16

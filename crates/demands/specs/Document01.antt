@@ -13,7 +13,7 @@ use Rattle.theory.specs.Harmonic.{frame, allWanted}
 use Rattle.desk.specs.declared.Job.{Job}
 use Rattle.desk.specs.declared.Desk.{Desk}
 use Rattle.desk.specs.Table.{job, filled}
-use Rattle.desk.specs.Request.{room}
+use Rattle.desk.specs.Places.{room}
 use Rattle.api.specs.Answers.{TellsLeast, TellsCheck, TellsBuild, TellsVerdict, TellsPlain, TellsRead, TellsList, TellsOpen, TellsRequest}
 
 -- "Cycles 4, 8, 8, shares 1/4, 3/8" and a third share

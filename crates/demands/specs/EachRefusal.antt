@@ -288,9 +288,13 @@ pub record EachDesk : Type 0 where
   pub request-15 : TellsRequest (desk 9 3) opened 8 6 16 (desk 9 3) opened (placed 15 0)
   pub request-16 : TellsRequest (desk 0 3) opened 16 1 40 (desk 16 2) (filled (job 15 5 24 4 ∷ job 30 2 40 8 ∷ [])) (placed 16 0)
   pub request-17 : TellsRequest (desk 0 64) full 9 1 40 (desk 9 64) full (placed 17 0)
-  pub request-18 : TellsRequest (desk 0 3) opened 8 9 16 (desk 8 3) opened (placed 18 0)
+  -- place 0 has room 8, bound by the request's deadline, which job 0 would just keep
+  pub request-18 : TellsRequest (desk 0 3) opened 8 9 16 (desk 8 3) opened (telling 18 0 8 1 0)
+  -- bound by job 1, behind the next
+  pub request-18-listed : TellsRequest (desk 0 3) opened 8 9 17 (desk 8 3) opened (telling 18 0 8 2 1)
   -- a tick longer than D6
-  pub request-18-gap : TellsRequest (desk 0 3) opened 25 5 29 (desk 25 1) (filled (job 30 2 40 8 ∷ [])) (placed 18 0)
+  pub request-18-gap : TellsRequest (desk 0 3) opened 25 5 29 (desk 25 1) (filled (job 30 2 40 8 ∷ [])) (telling 18 0 4 1 0)
+  pub request-18-past : TellsRequest (desk 0 3) opened 8 1 7 (desk 8 3) opened (placed 18 0)
 
 -- a table n times over
 abbrev pub times : ℕ → List ℕ → List ℕ
@@ -330,7 +334,7 @@ pub record EachLimit : Type 0 where
   pub places-64 : TellsOpen (desk 0 64) (row 10 64) (desk 0 64) full (placed 0 0)
   pub places-63 : TellsOpen (desk 0 0) (drop 1 empty) (desk 0 0) (drop 1 empty) (placed 13 0)
   pub places-65 : TellsOpen (desk 0 65) (row 10 65) (desk 0 65) (row 10 65) (placed 13 0)
-  pub time-1000000 : TellsRequest (desk 1000000 0) empty 1000000 1000000 1000000 (desk 1000000 0) empty (placed 18 0)
+  pub time-1000000 : TellsRequest (desk 1000000 0) empty 1000000 1000000 1000000 (desk 1000000 0) empty (telling 18 0 0 1 0)
   pub deadline-1000000 : TellsRequest (desk 0 0) empty 0 1000000 1000000 (desk 0 1) (filled (job 0 1000000 1000000 0 ∷ [])) (telling 0 0 0 0 0)
   pub time-1000001 : TellsRequest (desk 0 0) empty 1000001 1 1 (desk 0 0) empty (placed 14 0)
   pub budget-1000001 : TellsRequest (desk 0 0) empty 1 1000001 1 (desk 0 0) empty (placed 14 0)

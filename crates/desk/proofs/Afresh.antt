@@ -9,7 +9,8 @@ use lib.ListN.{take, drop}
 use borrow.Author.Tests.{ltb-false, eqb-true, eq-eqb}
 use Rattle.desk.specs.declared.Job.{Job}
 use Rattle.desk.specs.Table.{job, xOf, refit, rightX, ends}
-use Rattle.desk.specs.Request.{moved, shift, tooFar, insertAt}
+use Rattle.desk.specs.Places.{moved, shift}
+use Rattle.desk.specs.Request.{tooFar, insertAt}
 use Rattle.rules.proofs.Tests.{and-parts, or-neither}
 
 -- omega takes at most six case splits, and each `-`, `min` and `max` is one: so the numbers go in small steps

@@ -39,7 +39,7 @@ is-busy : (clock n : ℕ) (l : List Job) (t c d : ℕ) (o : Outcome) → Ending 
 is-busy clock n l t c d o (same r h) e = absurd (omega arith)
 is-busy clock n l t c d o (dropped Busy (running b) late small) e = (b, refl)
 is-busy clock n l t c d o (dropped Full full late small) e = absurd (omega arith)
-is-busy clock n l t c d o (dropped NoPlace (nowhere g f) late small) e = absurd (omega arith)
+is-busy clock n l t c d o (dropped (NoPlace _) (nowhere why is g f) late small) e = absurd (omega arith)
 is-busy clock n l t c d o (taken i s late small some due few g spot) e = absurd (omega arith)
 
 running-of : (t : ℕ) (l js : List Job) → kept t l ≡ js → busy t js ≡ true → Chain 0 js → SoundAfter (dropping t js Busy) → Running t (dropping t js Busy)

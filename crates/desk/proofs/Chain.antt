@@ -12,7 +12,8 @@ use Rattle.desk.specs.declared.Job.{Job}
 use Rattle.rules.specs.Walk.{pick}
 use mathlib.Core.Bool.{_&&_}
 use Rattle.desk.specs.Table.{xOf, rightX, ordered, jobOk, ends}
-use Rattle.desk.specs.Request.{shift, tooFar, kept}
+use Rattle.desk.specs.Places.{shift}
+use Rattle.desk.specs.Request.{tooFar, kept}
 use Rattle.rules.proofs.Tests.{and-parts}
 use Rattle.desk.proofs.Check.{xOf-le}
 use Rattle.desk.proofs.Afresh.{Near, sub-both}

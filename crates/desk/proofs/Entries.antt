@@ -10,7 +10,8 @@ use borrow.Author.Tests.{leb-true, leb-false, lt-leb}
 use Rattle.desk.specs.declared.Job.{Job}
 use Rattle.rules.specs.Walk.{pick}
 use Rattle.desk.specs.Table.{job, flexes, ends}
-use Rattle.desk.specs.Request.{kept, shift, insertAt}
+use Rattle.desk.specs.Places.{shift}
+use Rattle.desk.specs.Request.{kept, insertAt}
 use Rattle.desk.specs.Story.{Entry, entry, noEntry, finish, ended, unended, standing, entries, Promise}
 use Rattle.desk.proofs.Chain.{Chain}
 

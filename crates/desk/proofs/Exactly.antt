@@ -17,10 +17,11 @@ use Rattle.desk.specs.declared.Job.{Job}
 use Rattle.desk.specs.declared.Answer.{Answer}
 use Rattle.desk.specs.declared.Answer.the-variants.{Taken}
 use Rattle.desk.specs.Table.{job, xOf, rightX, ends, Outcome}
-use Rattle.desk.specs.Request.{kept, early, room, findFrom, insertAt, requestOf, At, Nowhere}
+use Rattle.desk.specs.Places.{early, startAt, room}
+use Rattle.desk.specs.Request.{kept, findFrom, insertAt, requestOf, At, Nowhere}
 use Rattle.desk.specs.Call.{said}
 use Rattle.desk.specs.Story.{Entry, entry, noEntry, finish, standing, entries, Promise, Later, Joined}
-use Rattle.desk.specs.Theorems.{Refuses, Fits, NoLower, TakenExactly, NoPlaceExactly, startAt, TakenStart}
+use Rattle.desk.specs.Theorems.{Refuses, Fits, NoLower, TakenExactly, NoPlaceExactly, TakenStart}
 use Rattle.desk.proofs.Chain.{Chain}
 use Rattle.desk.proofs.Spot.{Spot, early-late, right-tail, spot-start, spot-inside, chain-insert}
 use Rattle.desk.proofs.Rules.{good-of, good-kept, fresh, running, full, nowhere, Ending, same, dropped, taken, ending, sound-unless}
@@ -191,7 +192,7 @@ module _ (clock n : ℕ) (l : List Job) (t c d : ℕ) where
   sought right o nl (same r h) = absurd (nl (told r .number) (omega arith) (omega arith) refl)
   sought right o nl (dropped Busy (running b) late small) = absurd (nl 16 (omega arith) (omega arith) refl)
   sought right o nl (dropped Full full late small) = absurd (nl 17 (omega arith) (omega arith) refl)
-  sought right o nl (dropped NoPlace (nowhere g e) late small) =
+  sought right o nl (dropped (NoPlace _) (nowhere why is g e) late small) =
       inr (
         refl,
         λ f.

@@ -3,6 +3,8 @@ pub mod Check
 pub mod Afresh
 pub mod Chain
 pub mod Spot
+pub mod Late
+pub mod Rooms
 pub mod Ready
 pub mod Rules
 pub mod Entries
@@ -10,4 +12,5 @@ pub mod Promise
 pub mod Still
 pub mod Exactly
 pub mod Busy
+pub mod Reason
 pub mod Proved

@@ -10,6 +10,7 @@ use lib.Seq.{take-append-seam, drop-append-seam, length-take-le}
 use borrow.Author.Tests.{le-leb, ltb-false, eqb-true, eq-eqb}
 use Rattle.rules.specs.Refusals.{told}
 use Rattle.rules.specs.declared.Refusal.{Refusal}
+use Rattle.rules.specs.declared.Explanation.{Explanation}
 use Rattle.rules.specs.declared.Refusal.the-variants.{Rules, Numbers, Past, Busy, Full, NoPlace, TooFar}
 use Rattle.rules.specs.Limits.{places, latest}
 use Rattle.desk.specs.declared.Job.{Job}
@@ -18,6 +19,7 @@ use Rattle.desk.specs.declared.Answer.the-variants.{Opened, Taken, Refus
 use Rattle.rules.specs.Walk.{pick}
 use Rattle.desk.specs.Table.{job, none, filled, xOf, refit, flexes, allZeros, rightX, tableOk, deskOk, outcome, openOf, ends, Outcome}
 use Rattle.desk.specs.Call.{said}
+use Rattle.desk.specs.Reason.{explanationOf}
 use Rattle.desk.specs.Request.{kept, busy, find, insertAt, dropping, taking, requestOf, Place, At, Nowhere}
 use Rattle.desk.specs.Theorems.{Ready}
 use Rattle.rules.proofs.Tests.{and-parts}
@@ -90,7 +92,7 @@ not-busy t (j ∷ js) h g = (ltb-false _ _ h, g .1, g .2)
 pub data Why (t c d : ℕ) (js : List Job) : Refusal → Type 0 where
   running : busy t js ≡ true → Why t c d js Busy
   full : Why t c d js Full
-  nowhere : Chain t js → find t c d js ≡ Nowhere → Why t c d js NoPlace
+  nowhere : (why : Explanation) → why ≡ explanationOf t d js → Chain t js → find t c d js ≡ Nowhere → Why t c d js (NoPlace why)
 
 -- how a request on a sound table ends
 pub data Ending (clock n : ℕ) (l : List Job) (t c d : ℕ) : Outcome → Type 0 where
@@ -108,7 +110,7 @@ module _ (clock n : ℕ) (l : List Job) (t c d : ℕ) (sound : Sound clock n l) 
   ending-placed : Ready clock n l t c d → (p : Place) → find t c d (kept t (take n l)) ≡ p
       → Ending clock n l t c d (taking (outcome l n clock (Refused TooFar)) t c d (kept t (take n l)) p)
   ending-placed w Nowhere e =
-      dropped NoPlace (nowhere (not-busy t (kept t (take n l)) (w .not-busy) (good .order)) e) (w .not-past) (numbers-small t c d (w .numbers) .2)
+      dropped (NoPlace _) (nowhere _ refl (not-busy t (kept t (take n l)) (w .not-busy) (good .order)) e) (w .not-past) (numbers-small t c d (w .numbers) .2)
   ending-placed w (At i s) e =
       let order = not-busy t (kept t (take n l)) (w .not-busy) (good .order) in
       let spot = found-spot t c d (kept t (take n l)) order i s e in
@@ -150,7 +152,7 @@ module _ (clock n : ℕ) (l : List Job) (t c d : ℕ) (sound : Sound clock n l) 
   numbers-ending o (same q h) = (λ e. omega arith, λ e. omega arith)
   numbers-ending o (dropped Busy (running b) late small) = (λ e. omega arith, λ e. omega arith)
   numbers-ending o (dropped Full full late small) = (λ e. omega arith, λ e. omega arith)
-  numbers-ending o (dropped NoPlace (nowhere g f) late small) = (λ e. omega arith, λ e. omega arith)
+  numbers-ending o (dropped (NoPlace _) (nowhere why is g f) late small) = (λ e. omega arith, λ e. omega arith)
   numbers-ending o (taken i s late small some due few g spot) = (λ e. omega arith, λ e. omega arith)
 
   pub request-numbers : (said (requestOf clock n l t c d .answer) .number ≡ 13 → ⊥) × (said (requestOf clock n l t c d .answer) .number ≡ 19 → ⊥)

@@ -11,7 +11,8 @@ use Rattle.rules.specs.Limits.{latest}
 use Rattle.desk.specs.declared.Job.{Job}
 use Rattle.rules.specs.Walk.{pick}
 use Rattle.desk.specs.Table.{job, xOf, rightX, ends}
-use Rattle.desk.specs.Request.{shift, tooFar, insertAt, early, room, find, findFrom, At, Nowhere}
+use Rattle.desk.specs.Places.{shift, early, room}
+use Rattle.desk.specs.Request.{tooFar, insertAt, find, findFrom, At, Nowhere}
 use Rattle.rules.proofs.Tests.{and-parts}
 use Rattle.desk.proofs.Check.{length-refit}
 use Rattle.desk.proofs.Afresh.{Near}

@@ -14,7 +14,8 @@ use Rattle.desk.specs.declared.Asked.{Asked}
 use Rattle.desk.specs.declared.Answer.{Answer}
 use Rattle.desk.specs.declared.Answer.the-variants.{Taken, Refused}
 use Rattle.desk.specs.Table.{job, filled, tableOk, openOf, Outcome}
-use Rattle.desk.specs.Request.{kept, shift, insertAt}
+use Rattle.desk.specs.Places.{shift}
+use Rattle.desk.specs.Request.{kept, insertAt}
 use Rattle.desk.specs.Story.{Entry, entry, noEntry, ended, unended, standing, entries, Story, live, ever, begin, after, next, many, Later, Joined, countTaken, takens, Fixed}
 use Rattle.desk.proofs.Spot.{spot-start, spot-inside, length-shift, length-insert}
 use Rattle.desk.proofs.Rules.{Ending, same, dropped, taken, ending, open-is}

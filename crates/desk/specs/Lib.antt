@@ -1,4 +1,6 @@
 pub mod Table
+pub mod Places
+pub mod Reason
 pub mod Request
 pub mod Call
 pub mod Story

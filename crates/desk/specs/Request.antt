@@ -1,6 +1,6 @@
 -- A request at time t, of budget c and deadline d: document 01, "The desk", with the range of document 02, ask 1, and refusals 13 to 19 in their order;
 -- clock, n and l are those at the call, js the jobs left. Assumes nothing.
-use Prim.Native.Nat.{ℕ, suc, _+_, _-_, min, max}
+use Prim.Native.Nat.{ℕ, _+_, _-_, max}
 use mathlib.Core.Bool.{Bool, false, not, _&&_, _||_}
 use mathlib.Core.List.{List, [], _∷_, _++_}
 use lib.Dec.{leb, ltb}
@@ -12,7 +12,9 @@ use Rattle.rules.specs.declared.Refusal.{Refusal}
 use Rattle.rules.specs.declared.Refusal.the-variants.{Rules, Numbers, Past, Busy, Full, NoPlace, TooFar}
 use Rattle.desk.specs.declared.Job.{Job}
 use Rattle.desk.specs.declared.Answer.the-variants.{Taken, Refused}
-use Rattle.desk.specs.Table.{job, start, budget, deadline, flex, ends, filled, Outcome, outcome, refit, deskOk}
+use Rattle.desk.specs.Table.{job, start, flex, ends, filled, Outcome, outcome, refit, deskOk}
+use Rattle.desk.specs.Places.{early, room, moved, shift}
+use Rattle.desk.specs.Reason.{explanationOf}
 
 -- "First, jobs with a + C ≤ t are dropped and the rest move up."
 abbrev pub kept : ℕ → List Job → List Job
@@ -23,15 +25,6 @@ kept t (j ∷ js) = pick (leb (ends j) t) (kept t js) (j ∷ kept t js)
 abbrev pub busy : ℕ → List Job → Bool
 busy t [] = false
 busy t (j ∷ js) = ltb (start j) t
-
--- "l be the number of jobs left with a ≤ d"
-abbrev pub early : ℕ → List Job → ℕ
-early d [] = 0
-early d (j ∷ js) = pick (leb (start j) d) (suc (early d js)) (early d js)
-
--- "Room is R = a − s + min(d − a, x) of job i, where d is the request's."
-abbrev pub room : ℕ → ℕ → Job → ℕ
-room s d j = start j - s + min (d - start j) (flex j)
 
 -- a place with room and the start there, or none
 pub data Place : Type 0 where
@@ -47,14 +40,6 @@ findFrom i s c d (j ∷ js) = pick (leb c (room s d j)) (At i s) (findFrom (i + 
 -- "For places i from 0 to l − 1", and place l behind them
 abbrev pub find : ℕ → ℕ → ℕ → List Job → Place
 find t c d js = findFrom 0 t c d (take (early d js) js)
-
--- "Later jobs move only as far as the job before forces them, each x falling by its own move"; e is the end of the job before
-abbrev pub moved : ℕ → Job → Job
-moved e j = job (max e (start j)) (budget j) (deadline j) (flex j - (max e (start j) - start j))
-
-abbrev pub shift : ℕ → List Job → List Job
-shift e [] = []
-shift e (j ∷ js) = moved e j ∷ shift (ends (moved e j)) js
 
 -- "a move would exceed a job's x"
 abbrev pub tooFar : ℕ → List Job → Bool
@@ -73,9 +58,9 @@ numbersOk t c d = leb 1 c && (leb c latest && (leb d latest && leb t latest))
 abbrev pub dropping : ℕ → List Job → Refusal → Outcome
 dropping t js r = outcome (filled js) (length js) t (Refused r)
 
--- 18, 19 with what a call that changes nothing leaves, or "A job taken in sets the clock too."
+-- 18 with its reason, 19 with what a call that changes nothing leaves, or "A job taken in sets the clock too."
 abbrev pub taking : Outcome → ℕ → ℕ → ℕ → List Job → Place → Outcome
-taking same t c d js Nowhere = dropping t js NoPlace
+taking same t c d js Nowhere = dropping t js (NoPlace (explanationOf t d js))
 taking same t c d js (At i s) =
     pick (tooFar (s + c) (drop i js)) same (outcome (filled (insertAt i (job s c d 0) js)) (length js + 1) t (Taken i s))
 

@@ -1,18 +1,24 @@
 -- What is proved of the desk's rules, each statement below the documents' words. `Proved` has a field for each. Assumes nothing.
-use Prim.Native.Nat.{ℕ, zero, suc, _+_, _<_, _≤_}
+use Prim.Native.Nat.{ℕ, _+_, _-_, _<_, _≤_}
 use mathlib.Core.Path.{_≡_}
 use mathlib.Core.Logic.{_↔_}
 use mathlib.Core.Bool.{Bool, true, false}
 use mathlib.Core.List.{List}
-use lib.ListN.{length, take, getD}
+use lib.ListN.{length, take, drop, getD}
 use Rattle.rules.specs.Walk.{pick}
 use Rattle.rules.specs.Limits.{places}
 use Rattle.rules.specs.declared.Refusal.{Refusal}
-use Rattle.rules.specs.declared.Refusal.the-variants.{Rules}
+use Rattle.rules.specs.declared.Refusal.the-variants.{Rules, NoPlace}
+use Rattle.rules.specs.declared.Binding.{Binding}
+use Rattle.rules.specs.declared.Binding.the-variants.{Own, Listed}
+use Rattle.rules.specs.declared.Explanation.{Explanation}
+use Rattle.rules.specs.declared.Explanation.the-variants.{Nowhere, Roomiest}
 use Rattle.desk.specs.declared.Job.{Job}
 use Rattle.desk.specs.declared.Asked.{Asked}
 use Rattle.desk.specs.declared.Answer.the-variants.{Opened, Taken, Refused}
 use Rattle.desk.specs.Table.{start, budget, deadline, ends, none, Outcome, outcome, flexes, deskOk, openOf}
+use Rattle.desk.specs.Places.{early, startAt, shift}
+use Rattle.desk.specs.Reason.{roomAt, placesOf}
 use Rattle.desk.specs.Request.{kept, busy, numbersOk, drops, dropping, requestOf}
 use Rattle.desk.specs.Call.{said}
 use Rattle.desk.specs.Story.{Entry, entry, noEntry, standing, Story, live, ever, begin, next, many, Promise, Joined, Fixed, takens}
@@ -114,15 +120,58 @@ NoPlaceExactly =
     (clock n : ℕ) (l : List Job) (t c d : ℕ)
     → Refuses (requestOf clock n l t c d) 18 ↔ (NoLower (requestOf clock n l t c d) × (Fits t c d (kept t (take n l)) → ⊥))
 
--- "s is t for place 0, else the end of the job before"
-abbrev pub startAt : ℕ → List Job → ℕ → ℕ
-startAt t js zero = t
-startAt t js (suc i) = ends (getD js i none)
-
 -- "The lowest place .. is taken, start s"
 abbrev pub TakenStart : Type 0
 TakenStart =
     (clock n : ℕ) (l : List Job) (t c d i s : ℕ) → requestOf clock n l t c d .answer ≡ Taken i s → s ≡ startAt t (kept t (take n l)) i
+
+-- "the lowest place with the largest room, that room"
+pub record Roomy (t d : ℕ) (js : List Job) (place room : ℕ) : Type 0 where
+  pub inside : place < placesOf t d js
+  pub room-is : roomAt t d js place ≡ room
+  pub largest : (i : ℕ) → i < placesOf t d js → roomAt t d js i ≤ room
+  pub lowest : (i : ℕ) → i < place → roomAt t d js i < room
+
+-- "With its 18 the desk gives the lowest place with the largest room, that room": and there the request has no room
+abbrev pub NoPlaceRoomiest : Type 0
+NoPlaceRoomiest =
+    (clock n : ℕ) (l : List Job) (t c d place room : ℕ) (binding : Binding)
+    → requestOf clock n l t c d .answer ≡ Refused (NoPlace (Roomiest place room binding))
+    → Roomy t d (kept t (take n l)) place room × (room < c)
+
+-- "If there is none, as when t is past d, say so": then no job left has a ≤ d
+abbrev pub NoPlaceNowhere : Type 0
+NoPlaceNowhere =
+    (clock n : ℕ) (l : List Job) (t c d : ℕ) (why : Explanation) → requestOf clock n l t c d .answer ≡ Refused (NoPlace why)
+    → (why ≡ Nowhere) ↔ ((early d (kept t (take n l)) ≡ 0) × (d < t))
+
+-- a job at place i that ends at e keeps the deadline d, and of the later jobs, moved as it forces them, job k is the first to end after its own
+pub record Breaks (e d : ℕ) (js : List Job) (i k : ℕ) : Type 0 where
+  pub own-kept : e ≤ d
+  pub from : i ≤ k
+  pub inside : k < length js
+  pub late : deadline (getD (shift e (drop i js)) (k - i) none) < ends (getD (shift e (drop i js)) (k - i) none)
+  pub first :
+      (m : ℕ) → i ≤ m → m < k
+      → ends (getD (shift e (drop i js)) (m - i) none) ≤ deadline (getD (shift e (drop i js)) (m - i) none)
+
+-- "one tick more in that place does break the deadline named": the request's own, or that of the job named, first of all
+abbrev pub TickBreaks : ℕ → ℕ → List Job → ℕ → ℕ → Binding → Type 0
+TickBreaks t d js place room Own = d < startAt t js place + (room + 1)
+TickBreaks t d js place room (Listed k) = Breaks (startAt t js place + (room + 1)) d js place k
+
+abbrev pub NoPlaceBreaks : Type 0
+NoPlaceBreaks =
+    (clock n : ℕ) (l : List Job) (t c d place room : ℕ) (binding : Binding)
+    → requestOf clock n l t c d .answer ≡ Refused (NoPlace (Roomiest place room binding))
+    → TickBreaks t d (kept t (take n l)) place room binding
+
+-- so many ticks as are told break none: they are taken, just there
+abbrev pub NoPlaceRoomTaken : Type 0
+NoPlaceRoomTaken =
+    (clock n : ℕ) (l : List Job) (t c d place room : ℕ) (binding : Binding)
+    → requestOf clock n l t c d .answer ≡ Refused (NoPlace (Roomiest place room binding)) → 1 ≤ room
+    → requestOf clock n l t room d .answer ≡ Taken place (startAt t (kept t (take n l)) place)
 
 -- "it is running: busy": after 16 the first job in the table has begun and not ended, and a request when it ends is not refused with 16, whatever it asks for
 pub record Running (t : ℕ) (o : Outcome) : Type 0 where
@@ -199,6 +248,10 @@ pub record Proved : Type 0 where
   pub taken-exactly : TakenExactly
   pub no-place-exactly : NoPlaceExactly
   pub taken-start : TakenStart
+  pub no-place-roomiest : NoPlaceRoomiest
+  pub no-place-nowhere : NoPlaceNowhere
+  pub no-place-breaks : NoPlaceBreaks
+  pub no-place-room-taken : NoPlaceRoomTaken
   pub busy-ends : BusyEnds
   pub open-tells : OpenTells
   pub story-tells : StoryTells

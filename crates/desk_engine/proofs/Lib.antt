@@ -4,5 +4,6 @@ pub mod Shifted
 pub mod Dropped
 pub mod Tables
 pub mod Checked
+pub mod Explained
 pub mod Searched
 pub mod Whole

@@ -10,7 +10,8 @@ use borrow.Author.Tests.{ltb-false}
 use Rattle.rules.proofs.Tests.{or-neither}
 use Rattle.desk.specs.declared.Job.{Job}
 use Rattle.desk.specs.Table.{none, ends}
-use Rattle.desk.specs.Request.{moved, shift, tooFar}
+use Rattle.desk.specs.Places.{moved, shift}
+use Rattle.desk.specs.Request.{tooFar}
 use Rattle.desk_writing.specs.declared.shift.Shift.{Shift}
 use Rattle.desk_records.specs.Folds.{forth}
 use Rattle.desk_records.specs.Sums.{most32, sumTo}

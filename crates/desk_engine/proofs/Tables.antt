@@ -13,7 +13,8 @@ use lib.Seq.{drop-length, length-take-le}
 use Rattle.rules.specs.Limits.{places}
 use Rattle.desk.specs.declared.Job.{Job}
 use Rattle.desk.specs.Table.{none, filled, flexes, tableOk, ends}
-use Rattle.desk.specs.Request.{shift, insertAt, kept}
+use Rattle.desk.specs.Places.{shift}
+use Rattle.desk.specs.Request.{insertAt, kept}
 use Rattle.desk.proofs.Check.{listed-of, length-refit, opened-is}
 use Rattle.desk.proofs.Chain.{Chain, chain-of, chain-kept}
 use Rattle.desk.proofs.Spot.{length-shift}

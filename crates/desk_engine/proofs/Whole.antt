@@ -9,13 +9,16 @@ use lib.ListN.{length, take, drop}
 use lib.Seq.{length-take-le}
 use borrow.Author.Tests.{leb-false, ltb-false, eqb-true}
 use Rattle.rules.specs.Walk.{pick}
+use Rattle.rules.specs.declared.Explanation.{Explanation}
 use Rattle.rules.specs.declared.Refusal.{Refusal}
 use Rattle.rules.specs.declared.Refusal.the-variants.{Rules, Numbers, Past, Busy, Full, NoPlace, TooFar}
 use Rattle.rules.specs.Limits.{places, latest}
 use Rattle.desk.specs.declared.Job.{Job}
 use Rattle.desk.specs.declared.Answer.the-variants.{Opened, Taken, Refused}
 use Rattle.desk.specs.Table.{job, xOf, filled, flexes, outcome, rightX, tableOk, deskOk, openOf, ends, Outcome}
-use Rattle.desk.specs.Request.{kept, busy, find, taking, insertAt, shift, tooFar, numbersOk, requestOf, Place, At, Nowhere, dropping}
+use Rattle.desk.specs.Places.{early, shift}
+use Rattle.desk.specs.Reason.{explanationOf}
+use Rattle.desk.specs.Request.{kept, busy, find, taking, insertAt, tooFar, numbersOk, requestOf, Place, At, Nowhere, dropping}
 use Rattle.rules.proofs.Tests.{and-parts, or-neither}
 use Rattle.desk.proofs.Check.{xOf-le, numbers-small, Listed, listed-of, desk-table, desk-right}
 use Rattle.desk.proofs.Chain.{Chain, chain-of, chain-kept, right-kept}
@@ -36,10 +39,11 @@ use Rattle.desk_engine.specs.declared.effect.Effect.{Effect}
 use Rattle.desk_engine.specs.declared.decision.Decision.{Decision}
 use Rattle.desk_engine.specs.declared.decision.Decision.the-variants.{Opens, Keeps, Drops, Takes}
 use Rattle.desk_engine.specs.Beginning.{searchingFrom, openingOf, askingOf, scanFor}
-use Rattle.desk_reading.specs.Reading.{scanStep, scanned, searchStep, searchEnd}
+use Rattle.desk_reading.specs.Reading.{scanStep, scanned, searchStep, searchEnd, explanationBy}
 use Rattle.desk_engine.specs.Deciding.{requestDecision, decisionOf, keepEffect, dropEffect, takeEffect, effectBy, effectOf, applied}
 use Rattle.desk.specs.Call.{callOf, Leaves}
 use Rattle.desk_engine.proofs.Checked.{same-stays, opening-law, asking-law, seen-law}
+use Rattle.desk_engine.proofs.Explained.{explained-is}
 use Rattle.desk_engine.proofs.Searched.{Searched, searched}
 
 lows-of : (e : ℕ) (js : List Job) → Chain e js → rightX js ≡ true → Lows js
@@ -178,19 +182,28 @@ module _ (k : Desk) (l : List Job) (t c d : ℕ) where
                 (near-within (e .start + c) (drop (e .place) ks) (lows-drop (e .place) ks lows) near)),
           )
 
-      abbrev rests : Bool → Bool → Decision
-      rests b f = pick b (Drops Busy) (pick f (Drops Full) (pick (searchEnd e) Takes (Drops NoPlace)))
+      -- what 18 tells
+      told-e : busy t ks ≡ false → find t c d ks ≡ Nowhere → explanationBy e ≡ explanationOf t d ks
+      told-e hb hf =
+          let last = so .last hf in
+          let first : 0 + early d ks ≡ early d ks = omega arith in
+          rw (so .asks .2, last .best-is, last .start-is, last .place-is, first)
+          (explained-is t d ks (not-busy t ks hb chain-ks) (right-kept t 0 js chain right) (omega (arith, gone-kept t js, length-js, few)))
 
-      by-found : (v : Bool) → searchEnd e ≡ v → busy t ks ≡ false → length ks < places → Made l (effectBy (pick v Takes (Drops NoPlace)) S) (taking far t c d ks (find t c d ks))
+      abbrev rests : Bool → Bool → Decision
+      rests b f = pick b (Drops Busy) (pick f (Drops Full) (pick (searchEnd e) Takes (Drops (NoPlace (explanationBy e)))))
+
+      by-found : (v : Bool) → searchEnd e ≡ v → busy t ks ≡ false → length ks < places → Made l (effectBy (pick v Takes (Drops (NoPlace (explanationBy e)))) S) (taking far t c d ks (find t c d ks))
       by-found true h hb hk =
           let hf : At (e .place) (e .start) ≡ find t c d ks = rw h at spot-e in
           subst (λ (p : Place). Made l (takeEffect S) (taking far t c d ks p)) hf (take-made (sym hf) hb hk)
       by-found false h hb hk =
           let hf : Nowhere ≡ find t c d ks = rw h at spot-e in
-          subst (λ (p : Place). Made l (dropEffect NoPlace S) (taking far t c d ks p)) hf (drop-made NoPlace)
+          subst (λ (p : Place). Made l (dropEffect (NoPlace (explanationBy e)) S) (taking far t c d ks p)) hf
+          (subst (λ (why : Explanation). Made l (dropEffect (NoPlace (explanationBy e)) S) (dropping t ks (NoPlace why))) (told-e hb (sym hf)) (drop-made (NoPlace (explanationBy e))))
 
       by-full : (v : Bool) → leb places (length ks) ≡ v → busy t ks ≡ false
-          → Made l (effectBy (pick v (Drops Full) (pick (searchEnd e) Takes (Drops NoPlace))) S) (pick v (dropping t ks Full) (taking far t c d ks (find t c d ks)))
+          → Made l (effectBy (pick v (Drops Full) (pick (searchEnd e) Takes (Drops (NoPlace (explanationBy e))))) S) (pick v (dropping t ks Full) (taking far t c d ks (find t c d ks)))
       by-full true h hb = drop-made Full
       by-full false h hb = by-found (searchEnd e) refl hb (leb-false places (length ks) h)
 
@@ -217,7 +230,7 @@ module _ (k : Desk) (l : List Job) (t c d : ℕ) where
     chain-js = chain-of 0 js (w .order)
 
     decides-request : (v₂ v₃ : Bool) → numbersOk t c d ≡ v₂ → ltb t (k .clock) ≡ v₃
-        → requestDecision S ≡ pick v₂ (pick v₃ (Keeps Past) (pick (e .busy) (Drops Busy) (pick (leb places (n - e .gone)) (Drops Full) (pick (searchEnd e) Takes (Drops NoPlace))))) (Keeps Numbers)
+        → requestDecision S ≡ pick v₂ (pick v₃ (Keeps Past) (pick (e .busy) (Drops Busy) (pick (leb places (n - e .gone)) (Drops Full) (pick (searchEnd e) Takes (Drops (NoPlace (explanationBy e))))))) (Keeps Numbers)
     decides-request v₂ v₃ h₂ h₃ =
         let same = so (w .whole) (w .few) chain-js .asks in
         rw (same .0, same .1, same .2, h₂, h₃)

@@ -8,6 +8,7 @@ use Rattle.desk.specs.declared.Desk.{Desk}
 use Rattle.desk.specs.declared.Ask.{Ask}
 use Rattle.desk.specs.declared.Ask.the-variants.{Open, Request}
 use Rattle.desk_records.specs.Sums.{most32}
+use Rattle.desk_reading.specs.Best.{noBest}
 use Rattle.desk_reading.specs.declared.checking.Checking.{Checking}
 use Rattle.desk_reading.specs.declared.searching.Searching.{Searching}
 use Rattle.desk_reading.specs.declared.scan.Scan.{Scan}
@@ -33,6 +34,7 @@ searchingFrom looking t c d = record {
   place = 0;
   start = t;
   behind = most32;
+  best = noBest;
 }
 
 -- "Opening takes any x of a listed job and any clock"

@@ -18,7 +18,7 @@ use Rattle.desk_reading.specs.declared.scan.Scan.{Scan}
 use Rattle.desk_engine.specs.declared.effect.Effect.{Effect}
 use Rattle.desk_engine.specs.declared.decision.Decision.{Decision}
 use Rattle.desk_engine.specs.declared.decision.Decision.the-variants.{Opens, Keeps, Drops, Takes}
-use Rattle.desk_reading.specs.Reading.{checkEnd, newJob, searchEnd}
+use Rattle.desk_reading.specs.Reading.{checkEnd, newJob, searchEnd, explanationBy}
 
 -- the jobs left: those listed, without those dropped
 abbrev pub restOf : Scan → ℕ
@@ -31,7 +31,7 @@ requestDecision s =
     (pick (ltb (s .searching .time) (s .desk .clock)) (Keeps Past)
     (pick (s .searching .busy) (Drops Busy)
     (pick (leb places (restOf s)) (Drops Full)
-    (pick (searchEnd (s .searching)) Takes (Drops NoPlace)))))
+    (pick (searchEnd (s .searching)) Takes (Drops (NoPlace (explanationBy (s .searching))))))))
     (Keeps Numbers)
 
 -- 13 first

@@ -6,6 +6,7 @@ ghost use Rattle.rules.specs.Limits.{latest};
 ghost use Rattle.desk_engine.specs.Beginning.{sizesOk, openingOf, askingOf, scanFor};
 use desk::Ask;
 use desk::Desk;
+use desk_reading::best::no_best;
 use desk_reading::checking::Checking;
 use desk_reading::scan::Scan;
 use desk_reading::searching::Searching;
@@ -56,6 +57,7 @@ pub fn opening(k: Desk, n: usize) -> Scan
         place: 0,
         start: 0,
         behind: FAR,
+        best: no_best(),
     };
     Scan {
         ok: ok,
@@ -88,6 +90,7 @@ pub fn asking(k: Desk, n: usize, t: u32, c: u32, d: u32) -> Scan
         place: 0,
         start: t,
         behind: FAR,
+        best: no_best(),
     };
     Scan {
         ok: ok,

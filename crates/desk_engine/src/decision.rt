@@ -3,6 +3,7 @@ ghost use mathlib.Core.Path.{_≡_};
 ghost use Rattle.desk_engine.specs.Deciding.{restOf, requestDecision, decisionOf};
 use desk_reading::scan::Scan;
 use desk_reading::scan::check_end;
+use desk_reading::searching::explanation;
 use desk_reading::searching::search_end;
 use desk_records::numbers::ALL_PLACES;
 use desk_records::numbers::less;
@@ -45,7 +46,7 @@ pub fn decide_request(s: Scan) -> Decision
         if search_end(b) {
             return Decision::Takes;
         }
-        return Decision::Drops(Refusal::NoPlace);
+        return Decision::Drops(Refusal::NoPlace(explanation(b)));
     }
     Decision::Keeps(Refusal::Numbers)
 }

@@ -1,16 +1,19 @@
 -- Words that only inner contracts use: no statement and no entry's contract cites them. Assumes nothing.
 -- One step of the reading pass: the table's rules and the search for a place; laws tie them to the desk's.
-use Prim.Native.Nat.{_+_, _-_, min}
+use Prim.Native.Nat.{ℕ, _+_, _-_, min}
 use mathlib.Core.Bool.{Bool, true, false, _&&_, _||_}
 use mathlib.Core.List.{List, []}
 use lib.Dec.{leb, ltb, eqb}
 use Rattle.rules.specs.Walk.{pick}
+use Rattle.rules.specs.declared.Explanation.{Explanation}
 use Rattle.desk.specs.declared.Job.{Job}
 use Rattle.desk.specs.Table.{job, start, budget, flex, ends, xOf, jobOk, zeros}
-use Rattle.desk.specs.Request.{room}
+use Rattle.desk.specs.Places.{room}
 use Rattle.desk_reading.specs.declared.checking.Checking.{Checking}
 use Rattle.desk_reading.specs.declared.searching.Searching.{Searching}
 use Rattle.desk_reading.specs.declared.scan.Scan.{Scan}
+use Rattle.desk_reading.specs.declared.best.Best.{Best}
+use Rattle.desk_reading.specs.Best.{bestWith, soughtAt, explained}
 use Rattle.desk_records.specs.Folds.{fold}
 use Rattle.desk_records.specs.Sums.{sumTo}
 
@@ -44,6 +47,7 @@ searchDropped s = record {
   place = s .place;
   start = s .start;
   behind = s .behind;
+  best = s .best;
 }
 
 -- the place is the one before j
@@ -59,11 +63,12 @@ searchClosed s busy found j = record {
   place = s .place;
   start = s .start;
   behind = flex j + start j;
+  best = soughtAt (s .best) j;
 }
 
--- the search goes on behind j
-abbrev pub searchPast : Searching → Bool → Job → Searching
-searchPast s busy j = record {
+-- the search goes on behind j, where the room was r
+abbrev pub searchPast : Searching → Bool → ℕ → Job → Searching
+searchPast s busy r j = record {
   time = s .time;
   budget = s .budget;
   deadline = s .deadline;
@@ -74,6 +79,23 @@ searchPast s busy j = record {
   place = sumTo (s .place) 1;
   start = sumTo (start j) (budget j);
   behind = s .behind;
+  best = soughtAt (bestWith (s .best) (s .place) r (ltb (flex j) (s .deadline - start j))) j;
+}
+
+-- behind the place
+abbrev pub searchBehind : Searching → Job → Searching
+searchBehind s j = record {
+  time = s .time;
+  budget = s .budget;
+  deadline = s .deadline;
+  looking = s .looking;
+  gone = s .gone;
+  busy = s .busy;
+  found = s .found;
+  place = s .place;
+  start = s .start;
+  behind = s .behind;
+  best = soughtAt (s .best) j;
 }
 
 -- the first job left is running, j being the next one left
@@ -84,15 +106,15 @@ busyAfter s j = pick (eqb (s .place) 0) (ltb (start j) (s .time)) (s .busy)
 abbrev pub searchLook : Searching → Job → Searching
 searchLook s j =
     pick (ltb (s .deadline) (start j)) (searchClosed s (busyAfter s j) false j)
-    (pick (ltb (room (s .start) (s .deadline) j) (s .budget)) (searchPast s (busyAfter s j) j)
+    (pick (ltb (room (s .start) (s .deadline) j) (s .budget)) (searchPast s (busyAfter s j) (room (s .start) (s .deadline) j) j)
     (searchClosed s (busyAfter s j) true j))
 
--- one more job: one that ends by t is dropped, any other is looked at
+-- one more job: one that ends by t is dropped, any other is looked at; behind the place only the job that binds is sought
 abbrev pub searchStep : Searching → Job → Searching
 searchStep s j =
     pick (s .looking)
     (pick (leb (ends j) (s .time)) (searchDropped s) (searchLook s j))
-    s
+    (searchBehind s j)
 
 -- the job asked for, at the start that the search has come to
 abbrev pub newJob : Searching → Job
@@ -101,6 +123,13 @@ newJob s = job (s .start) (s .budget) (s .deadline) 0
 -- after the last place: one with room is found, or place l "is taken when s + C ≤ d"
 abbrev pub searchEnd : Searching → Bool
 searchEnd s = s .found || leb (ends (newJob s)) (s .deadline)
+
+-- with place l, which "has room d − s, bound by the request's deadline; a place with room below 0 is none"
+abbrev pub bestOf : Searching → Best
+bestOf s = pick (ltb (s .deadline) (s .start)) (s .best) (bestWith (s .best) (s .place) (s .deadline - s .start) false)
+
+abbrev pub explanationBy : Searching → Explanation
+explanationBy s = explained (bestOf s)
 
 -- ---- the whole pass
 

@@ -4,16 +4,23 @@ ghost use lib.Dec.{ltb, eqb};
 ghost use Rattle.rules.specs.Walk.{pick};
 ghost use Rattle.desk.specs.Table.{start};
 ghost use Rattle.desk_reading.specs.Reading.{searchDropped, searchClosed, searchPast, searchLook, searchStep};
-ghost use Rattle.desk_reading.specs.Reading.{newJob, searchEnd};
+ghost use Rattle.desk_reading.specs.Reading.{searchBehind, newJob, searchEnd, bestOf, explanationBy};
+use crate::best::Best;
+use crate::best::best_with;
+use crate::best::explain;
+use crate::best::listed_binds;
+use crate::best::sought_at;
 use desk::Job;
 use desk_records::numbers::sum;
 use desk_records::records::ends_by;
 use desk_records::records::last_start;
 use desk_records::records::room_at;
+use rules::Explanation;
 
 // The request, whether the search goes on, jobs dropped so far, whether the first one left is running, and the place:
 // found, or the next one to try with the end of the job before it, which is place l once a job has a > d or none follows.
-// Behind the place: when the job there has to start at the latest, far off if there is none.
+// Behind the place: when the job there has to start at the latest, far off if there is none. And the roomiest place
+// gone past.
 pub struct Searching {
     pub time: u32,
     pub budget: u32,
@@ -25,28 +32,34 @@ pub struct Searching {
     pub place: u32,
     pub start: u32,
     pub behind: u64,
+    pub best: Best,
 }
 
 // The place is the one before j.
 fn closes(s: Searching, busy: bool, found: bool, j: Job) -> Searching
     ensures { λ r. ⌜ r ≡ searchClosed s busy found j ⌝ }
 {
+    let b = s.best;
     let mut r = s;
     r.looking = false;
     r.busy = busy;
     r.found = found;
     r.behind = last_start(j);
+    r.best = sought_at(b, j);
     r
 }
 
-// The search goes on behind j.
-fn goes_past(s: Searching, busy: bool, j: Job) -> Searching
-    ensures { λ r. ⌜ r ≡ searchPast s busy j ⌝ }
+// The search goes on behind j, where the room was too small.
+fn goes_past(s: Searching, busy: bool, room: u32, j: Job) -> Searching
+    ensures { λ r. ⌜ r ≡ searchPast s busy room j ⌝ }
 {
+    let b = s.best;
+    let c = best_with(b, s.place, room, listed_binds(s.deadline, j));
     let mut r = s;
     r.busy = busy;
     r.place = sum(s.place, 1);
     r.start = sum(j.start, j.budget);
+    r.best = sought_at(c, j);
     r
 }
 
@@ -68,8 +81,9 @@ fn look_at(s: Searching, j: Job) -> Searching
     if s.deadline < j.start {
         return closes(s, busy, false, j);
     }
-    if room_at(s.start, s.deadline, j) < s.budget {
-        return goes_past(s, busy, j);
+    let room = room_at(s.start, s.deadline, j);
+    if room < s.budget {
+        return goes_past(s, busy, room, j);
     }
     closes(s, busy, true, j)
 }
@@ -83,7 +97,17 @@ fn drops(s: Searching) -> Searching
     r
 }
 
-// The search, at one more job. Those that end by t stand first, so nothing behind the place is looked at.
+// Behind the place only the job that binds the roomiest one is still sought.
+fn seeks_on(s: Searching, j: Job) -> Searching
+    ensures { λ r. ⌜ r ≡ searchBehind s j ⌝ }
+{
+    let b = s.best;
+    let mut r = s;
+    r.best = sought_at(b, j);
+    r
+}
+
+// The search, at one more job. Those that end by t stand first, so none behind the place does.
 pub fn search_step(s: Searching, j: Job) -> Searching
     ensures { λ r. ⌜ r ≡ searchStep s j ⌝ }
 {
@@ -93,7 +117,7 @@ pub fn search_step(s: Searching, j: Job) -> Searching
         }
         return look_at(s, j);
     }
-    s
+    seeks_on(s, j)
 }
 
 // The job asked for, at the start that the search has come to.
@@ -116,4 +140,22 @@ pub fn search_end(s: Searching) -> bool
         return true;
     }
     ends_by(new_job(s), s.deadline)
+}
+
+// The roomiest place, after the last job: place l is one where it starts by d, bound by the request's deadline.
+fn best_of(s: Searching) -> Best
+    ensures { λ r. ⌜ r ≡ bestOf s ⌝ }
+{
+    let b = s.best;
+    if s.deadline < s.start {
+        return b;
+    }
+    best_with(b, s.place, s.deadline - s.start, false)
+}
+
+// Why there is no place, after the last job.
+pub fn explanation(s: Searching) -> Explanation
+    ensures { λ r. ⌜ r ≡ explanationBy s ⌝ }
+{
+    explain(best_of(s))
 }

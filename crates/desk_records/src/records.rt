@@ -3,7 +3,7 @@ ghost use mathlib.Core.Path.{_≡_};
 ghost use Prim.Native.Nat.{_+_, _-_, min};
 ghost use lib.Dec.{leb};
 ghost use Rattle.desk.specs.Table.{start, budget, deadline, flex, ends, none, jobOk, zeros};
-ghost use Rattle.desk.specs.Request.{room, moved};
+ghost use Rattle.desk.specs.Places.{room, moved};
 use crate::numbers::earlier;
 use crate::numbers::larger;
 use crate::numbers::less;

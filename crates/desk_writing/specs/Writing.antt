@@ -7,7 +7,7 @@ use lib.Dec.{ltb}
 use Rattle.rules.specs.Walk.{pick}
 use Rattle.desk.specs.declared.Job.{Job}
 use Rattle.desk.specs.Table.{start, budget, deadline, flex, none, job}
-use Rattle.desk.specs.Request.{moved}
+use Rattle.desk.specs.Places.{moved}
 use Rattle.desk_records.specs.Sums.{most32, sumTo}
 use Rattle.desk_writing.specs.declared.shift.Shift.{Shift}
 use Rattle.desk_writing.specs.declared.fit.Fit.{Fit}

@@ -3,6 +3,10 @@ use Prim.Native.Nat.{ℕ}
 use mathlib.Core.Path.{_≡_}
 use Rattle.rules.specs.declared.Refusal.{Refusal}
 use Rattle.rules.specs.declared.Refusal.the-variants.{Short, Edition, Limits, Offset, Length, Partition, Task, Tick, Asked, Shortfall, Unharmonic, Want, Output, Rules, Numbers, Past, Busy, Full, NoPlace, TooFar, Counts, Granule, Beyond}
+use Rattle.rules.specs.declared.Binding.{Binding}
+use Rattle.rules.specs.declared.Binding.the-variants.{Own, Listed}
+use Rattle.rules.specs.declared.Explanation.{Explanation}
+use Rattle.rules.specs.declared.Explanation.the-variants.{Nowhere, Roomiest}
 use Rattle.rules.specs.declared.Told.{Told}
 use Rattle.rules.specs.declared.Finding.{Finding}
 use Rattle.rules.specs.declared.Finding.the-variants as found
@@ -21,6 +25,32 @@ placed n place = telling n place 0 0 0
 -- of many questions in one call the place from 1, of one question 0
 abbrev pub questioned : ℕ → ℕ → Told
 questioned n question = telling n 0 question 0 0
+
+-- "whether the request's own deadline or a listed job's binds it": 1 or 2, and that job, else 0
+abbrev pub bindingKind : Binding → ℕ
+bindingKind Own = 1
+bindingKind (Listed job) = 2
+
+abbrev pub bindingJob : Binding → ℕ
+bindingJob Own = 0
+bindingJob (Listed job) = job
+
+-- "the lowest place with the largest room, that room", and what binds it; "If there is none .. say so": zeros
+abbrev pub roomiestPlace : Explanation → ℕ
+roomiestPlace Nowhere = 0
+roomiestPlace (Roomiest place room binding) = place
+
+abbrev pub roomiestRoom : Explanation → ℕ
+roomiestRoom Nowhere = 0
+roomiestRoom (Roomiest place room binding) = room
+
+abbrev pub roomiestKind : Explanation → ℕ
+roomiestKind Nowhere = 0
+roomiestKind (Roomiest place room binding) = bindingKind binding
+
+abbrev pub roomiestJob : Explanation → ℕ
+roomiestJob Nowhere = 0
+roomiestJob (Roomiest place room binding) = bindingJob binding
 
 abbrev pub told : Refusal → Told
 told Short = placed 1 0
@@ -42,7 +72,7 @@ told Numbers = placed 14 0
 told Past = placed 15 0
 told Busy = placed 16 0
 told Full = placed 17 0
-told NoPlace = placed 18 0
+told (NoPlace why) = telling 18 (roomiestPlace why) (roomiestRoom why) (roomiestKind why) (roomiestJob why)
 told TooFar = placed 19 0
 -- "a list that disagrees with the plan is 20"
 told Counts = placed 20 0

@@ -1,12 +1,29 @@
 // The rules that every call shares: limits, tables behind accessors, the terms of a call, and why it refuses.
 ghost use mathlib.Core.Path.{_≡_};
-ghost use Rattle.rules.specs.Refusals.{told, telling, placed, questioned};
+ghost use Rattle.rules.specs.Refusals.{told, telling, placed, questioned, bindingKind, bindingJob};
+ghost use Rattle.rules.specs.declared.Refusal.the-variants.{NoPlace};
 ghost use Rattle.rules.specs.Terms.{goodEdition, ruleOf, filed};
 use limits::NEWEST_EDITION;
 
 pub mod limits; // limits.rt: every limit and width by name
 pub mod numbers; // numbers.rt: what numbers need everywhere
 pub mod records; // records.rt: the tables behind accessors, and ticks wanted
+
+// Which deadline binds the room of a place: the request's own, or that of a listed job, counted from 0 after dropping.
+pub enum Binding {
+    Own,
+    Listed(usize),
+}
+
+// Why no place has room: there is none at all, or the roomiest one, its room and what binds it.
+pub enum Explanation {
+    Nowhere,
+    Roomiest {
+        place: usize,
+        room: usize,
+        binding: Binding,
+    },
+}
 
 // Why a call refuses: document 01's table, from 1 to 19, and 20, 21 and 26 of document 02.
 pub enum Refusal {
@@ -33,7 +50,7 @@ pub enum Refusal {
     Past,
     Busy,
     Full,
-    NoPlace,
+    NoPlace(Explanation),
     TooFar,
     Counts,
     Granule,
@@ -137,7 +154,7 @@ pub fn tell(r: Refusal) -> Told
         Refusal::Past => numbered(15, 0),
         Refusal::Busy => numbered(16, 0),
         Refusal::Full => numbered(17, 0),
-        Refusal::NoPlace => numbered(18, 0),
+        Refusal::NoPlace(why) => explained(why),
         Refusal::TooFar => numbered(19, 0),
         Refusal::Counts => numbered(20, 0),
         Refusal::Granule => numbered(21, 0),
@@ -162,6 +179,30 @@ fn numbered(number: usize, place: usize) -> Told
     ensures { λ t. ⌜ t ≡ placed number place ⌝ }
 {
     telling(number, place, 0, 0, 0)
+}
+
+// What binds the room of a place: 1 the request's own deadline, 2 a listed job's, with that job.
+fn bound(place: usize, room: usize, binding: Binding) -> Told
+    ensures { λ t. ⌜ t ≡ telling 18 place room (bindingKind binding) (bindingJob binding) ⌝ }
+{
+    match binding {
+        Binding::Own => telling(18, place, room, 1, 0),
+        Binding::Listed(job) => telling(18, place, room, 2, job),
+    }
+}
+
+// Why there is no place: zeros where none has any room.
+fn explained(why: Explanation) -> Told
+    ensures { λ t. ⌜ t ≡ told (NoPlace why) ⌝ }
+{
+    match why {
+        Explanation::Nowhere => numbered(18, 0),
+        Explanation::Roomiest {
+            place,
+            room,
+            binding,
+        } => bound(place, room, binding),
+    }
 }
 
 // Of a question that a call was given, by its place from 1; 0 where the call is one question itself.

@@ -1,6 +1,8 @@
-//! "The desk" of document 01, with ask 1 of document 02: place l is tried too.
+//! "The desk" of document 01, with asks 1 and 7 of document 02: place l is tried too, and 18 says
+//! what room there is.
 
 use crate::answer::Answer;
+use crate::explain;
 use crate::limits::{JOBS, TIME};
 
 /// A job record as lent.
@@ -30,15 +32,15 @@ pub struct Desk {
 
 /// A listed job, in numbers wide enough for every sum and difference of the rules.
 #[derive(Clone, Copy, Debug, PartialEq, Eq)]
-struct Listed {
-    a: i64,
-    c: i64,
-    d: i64,
-    x: i64,
+pub(crate) struct Listed {
+    pub a: i64,
+    pub c: i64,
+    pub d: i64,
+    pub x: i64,
 }
 
 impl Listed {
-    fn end(&self) -> i64 {
+    pub fn end(&self) -> i64 {
         self.a + self.c
     }
 }
@@ -71,7 +73,10 @@ pub fn request(desk: &mut Desk, jobs: &mut [Job], t: u32, c: u32, d: u32) -> Ans
         Ok(place) => place,
         Err(number) => {
             put_back(desk, jobs, &left, t);
-            return Answer::refused(number);
+            return match number {
+                18 => explain::refusal(&left, t, d),
+                _ => Answer::refused(number),
+            };
         }
     };
     let start = earliest(&left, place, t);
@@ -144,7 +149,7 @@ fn work_out(table: &mut [Listed]) {
 }
 
 /// "s is t for place 0, else the end of the job before."
-fn earliest(left: &[Listed], place: usize, t: i64) -> i64 {
+pub(crate) fn earliest(left: &[Listed], place: usize, t: i64) -> i64 {
     if place == 0 {
         t
     } else {
@@ -176,7 +181,7 @@ fn lowest_place(left: &[Listed], t: i64, c: i64, d: i64) -> Result<usize, u64> {
 }
 
 /// "Room is R = a − s + min(d − a, x) of job i, where d is the request's."
-fn room(job: &Listed, s: i64, d: i64) -> i64 {
+pub(crate) fn room(job: &Listed, s: i64, d: i64) -> i64 {
     job.a - s + (d - job.a).min(job.x)
 }
 

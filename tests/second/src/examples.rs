@@ -1,9 +1,12 @@
 //! The worked examples of document 01, with W1's listing as ask 4 of document 02 has it, and what
-//! its plain engine says; with granules of one tick and of more; and with the switch tick.
+//! its plain engine says; with granules of one tick and of more; with the switch tick; and with the
+//! reasons that ask 7 adds to a fail and to the desk's 18.
 
 mod desk;
 mod editions;
+mod explained;
 mod granules;
+mod page;
 
 use crate::answer::Answer;
 use crate::builder::build;

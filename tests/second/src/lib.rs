@@ -1,4 +1,4 @@
-//! The rules of document 01 once more, with asks 1, 2, 4, 5 and 6 of document 02, the curve of least
+//! The rules of document 01 once more, with asks 1, 2 and 4 to 7 of document 02, the curve of least
 //! service and the share table, by plain counting and trying, to compare the library and the
 //! planner against.
 
@@ -8,10 +8,12 @@ pub mod counts;
 pub mod curve;
 pub mod desk;
 pub mod editions;
+mod explain;
 pub mod file;
 pub mod inputs;
 pub mod limits;
 pub mod listing;
+pub mod page;
 pub mod plan;
 pub mod planner;
 pub mod records;

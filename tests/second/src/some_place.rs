@@ -1,10 +1,11 @@
 //! "A request that no lower number refuses is then taken exactly when some place in the order,
 //! started at t or later, with earlier jobs unmoved and later ones only delayed, keeps every
 //! deadline." (document 02, ask 1): by trying every place and every start, without rooms and
-//! flexibilities.
+//! flexibilities. And so what 18 says of the room (ask 7): by trying every budget at every place.
 
 use std::collections::BTreeMap;
 
+use crate::answer::Answer;
 use crate::desk::{open, request, Desk, Job};
 use crate::inputs::requests::Request;
 use crate::limits::JOBS;
@@ -42,6 +43,48 @@ fn some_place(left: &[Job], asked: Request) -> bool {
     })
 }
 
+/// Who is late when a request of so many ticks starts at the earliest in this place and every later
+/// job waits for the one before: first of all the request itself, which is 0, then the later jobs.
+fn first_late(left: &[Job], asked: Request, place: usize, ticks: u32) -> Option<usize> {
+    let a = asked.earliest(left, place);
+    let request = Job {
+        a,
+        c: ticks,
+        d: asked.d,
+        x: 0,
+    };
+    let mut end = 0;
+    [&[request], &left[place..]]
+        .concat()
+        .iter()
+        .position(|job| {
+            end = job.a.max(end) + job.c;
+            end > job.d
+        })
+}
+
+/// What 18 says: of all places the lowest at which the most ticks, or none, make nobody late, and
+/// who is late with one more.
+fn explained(left: &[Job], asked: Request) -> Answer {
+    let mut most = None;
+    for place in 0..=left.len() {
+        let late = |ticks: u32| first_late(left, asked, place, ticks);
+        let good = (0..).take_while(|ticks| late(*ticks).is_none()).count() as u32;
+        if good > most.map_or(0, |(_, other)| other) {
+            most = Some((place, good));
+        }
+    }
+    let Some((place, good)) = most else {
+        return Answer::refused(18);
+    };
+    let room = good as usize - 1;
+    let [which, job] = match first_late(left, asked, place, good) {
+        None | Some(0) => [1, 0],
+        Some(later) => [2, place + later - 1],
+    };
+    Answer::new(18, [place, room, which, job].map(|number| number as u64))
+}
+
 /// Whether a table is one that the sentence speaks of, with the request at this place.
 fn keeps_all(left: &[Job], asked: Request, place: usize, table: &[Job]) -> bool {
     let mut order = left.to_vec();
@@ -66,7 +109,8 @@ fn opened(listed: &[[u32; 3]]) -> (Desk, [Job; JOBS]) {
     (desk, jobs)
 }
 
-/// Asks, and compares with trying; the start is the earliest that its place allows. Of the lower numbers only 16 can come here.
+/// Asks, and compares with trying; the start is the earliest that its place allows. Of the lower
+/// numbers only 16 can come here.
 fn ask(listed: &[[u32; 3]], asked: Request, ends: &mut Ends) {
     let Request { t, c, d } = asked;
     let (mut desk, mut jobs) = opened(listed);
@@ -87,14 +131,26 @@ fn ask(listed: &[[u32; 3]], asked: Request, ends: &mut Ends) {
         let start = u64::from(asked.earliest(&left, place));
         assert_eq!(answer.second, start, "{listed:?} {asked:?}");
     }
-    *ends.entry(way(wanted, &left, place, d)).or_default() += 1;
+    if wanted == 18 {
+        let wanted = explained(&left, asked);
+        assert_eq!(answer, wanted, "{listed:?} {asked:?}");
+    }
+    *ends.entry(way(answer, &left, d)).or_default() += 1;
 }
 
 /// The way in which a request ended.
-fn way(number: u64, left: &[Job], place: usize, d: u32) -> &'static str {
-    match (number, left.get(place)) {
+fn way(answer: Answer, left: &[Job], d: u32) -> &'static str {
+    let place = answer.first as usize;
+    let itself = answer.fourth == answer.first;
+    match (answer.number, left.get(place)) {
         (16, _) => "busy",
-        (18, _) => "no place",
+        (18, _) => match answer.third {
+            0 => "no place at all",
+            1 if answer.second == 0 => "no room by d",
+            1 => "too little room by d",
+            _ if itself => "too little room before a job",
+            _ => "too little room before a later job",
+        },
         (_, Some(next)) if next.a <= d => "before a job that starts by d",
         (_, Some(_)) => "before a job that starts past d",
         (_, None) if place > 0 => "behind all jobs",
@@ -105,7 +161,11 @@ fn way(number: u64, left: &[Job], place: usize, d: u32) -> &'static str {
 fn all_seen(ends: &Ends, often: u64) {
     for way in [
         "busy",
-        "no place",
+        "no place at all",
+        "no room by d",
+        "too little room by d",
+        "too little room before a job",
+        "too little room before a later job",
         "before a job that starts by d",
         "before a job that starts past d",
         "behind all jobs",

@@ -36,7 +36,7 @@ pub fn plain(
 }
 
 /// The service of a plan that serves its table, and good tasks.
-type Judged = Result<(Service, Vec<Task>), Answer>;
+pub(crate) type Judged = Result<(Service, Vec<Task>), Answer>;
 
 /// What tells from these and a place of the tasks' table where the task passes; a fail is 0.
 type Engine = fn(&Service, &[Task], usize) -> u64;
@@ -49,7 +49,7 @@ fn told(judged: Judged, place: usize, passing: Engine) -> Answer {
 }
 
 /// What a task can be judged by at the place.
-fn by_the_rules(
+pub(crate) fn by_the_rules(
     edition: u64,
     granule: u64,
     plan: &[u16],
@@ -106,7 +106,7 @@ fn higher(tasks: &[Task], place: usize) -> impl Iterator<Item = &Task> {
 }
 
 /// "C of i plus, for each higher task j of the same partition, C of j times t/T of j rounded up".
-fn demand(tasks: &[Task], place: usize, t: u64) -> u64 {
+pub(crate) fn demand(tasks: &[Task], place: usize, t: u64) -> u64 {
     let above: u64 = higher(tasks, place)
         .map(|task| task.c * t.div_ceil(task.t))
         .sum();
@@ -114,7 +114,7 @@ fn demand(tasks: &[Task], place: usize, t: u64) -> u64 {
 }
 
 /// "the multiples, from one period up to D, of the higher tasks' periods, and D itself, each once".
-fn scheduling_points(tasks: &[Task], place: usize) -> BTreeSet<u64> {
+pub(crate) fn scheduling_points(tasks: &[Task], place: usize) -> BTreeSet<u64> {
     let deadline = tasks[place - 1].d;
     let mut points = BTreeSet::from([deadline]);
     for task in higher(tasks, place) {

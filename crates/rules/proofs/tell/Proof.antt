@@ -110,6 +110,12 @@ enum-told-13 c = search needs
 numbered-requires-16 : tie.Need-numbered-requires-16
 numbered-requires-16 c κs = search needs
 
+enum-known-r-6 : tie.Need-enum-known-r-6
+enum-known-r-6 c = search needs
+
+explained-requires : tie.Need-explained-requires
+explained-requires c κs = search needs
+
 enum-told-14 : tie.Need-enum-told-14
 enum-told-14 c = search needs
 
@@ -128,14 +134,8 @@ enum-told-16 c = search needs
 numbered-requires-19 : tie.Need-numbered-requires-19
 numbered-requires-19 c κs = search needs
 
-enum-told-17 : tie.Need-enum-told-17
-enum-told-17 c = search needs
-
-numbered-requires-20 : tie.Need-numbered-requires-20
-numbered-requires-20 c κs = search needs
-
-enum-known-r-6 : tie.Need-enum-known-r-6
-enum-known-r-6 c = search needs
+enum-known-r-7 : tie.Need-enum-known-r-7
+enum-known-r-7 c = search needs
 
 questioned-requires-2 : tie.Need-questioned-requires-2
 questioned-requires-2 c κs = search needs
@@ -195,19 +195,19 @@ returns-18 : tie.Need-returns-18
 returns-18 c = rw (c .before .enum-told13 .given .1) (c .numbered16 .ensures)
 
 returns-19 : tie.Need-returns-19
-returns-19 c = rw (c .before .enum-told14 .given .1) (c .numbered17 .ensures)
+returns-19 c = rw (c .before .before .r6 .given .1) (c .explained .ensures)
 
 returns-20 : tie.Need-returns-20
-returns-20 c = rw (c .before .enum-told15 .given .1) (c .numbered18 .ensures)
+returns-20 c = rw (c .before .enum-told14 .given .1) (c .numbered17 .ensures)
 
 returns-21 : tie.Need-returns-21
-returns-21 c = rw (c .before .enum-told16 .given .1) (c .numbered19 .ensures)
+returns-21 c = rw (c .before .enum-told15 .given .1) (c .numbered18 .ensures)
 
 returns-22 : tie.Need-returns-22
-returns-22 c = rw (c .before .enum-told17 .given .1) (c .numbered20 .ensures)
+returns-22 c = rw (c .before .enum-told16 .given .1) (c .numbered19 .ensures)
 
 returns-23 : tie.Need-returns-23
-returns-23 c = rw (c .before .before .r6 .given .1) (c .questioned2 .ensures)
+returns-23 c = rw (c .before .before .r7 .given .1) (c .questioned2 .ensures)
 
 pub tell-spec : {M : Type 1} → statement M
 tell-spec =
@@ -249,15 +249,15 @@ tell-spec =
     numbered-requires-15
     enum-told-13
     numbered-requires-16
+    enum-known-r-6
+    explained-requires
     enum-told-14
     numbered-requires-17
     enum-told-15
     numbered-requires-18
     enum-told-16
     numbered-requires-19
-    enum-told-17
-    numbered-requires-20
-    enum-known-r-6
+    enum-known-r-7
     questioned-requires-2
     returns
     returns-2

@@ -1,11 +1,11 @@
 //! The desk's worked examples, with D6 as ask 1 of document 02 has it, and the ends of the gap that
-//! it is about.
+//! it is about. What 18 says of the room is told in `explained`.
 
 use crate::answer::Answer;
 use crate::desk::{open, request, Desk, Job};
 use crate::limits::JOBS;
 
-fn d1() -> (Desk, [Job; JOBS]) {
+pub fn d1() -> (Desk, [Job; JOBS]) {
     let mut desk = Desk { clock: 9, count: 3 };
     let mut jobs = [Job::default(); JOBS];
     for (job, [a, c, d]) in jobs.iter_mut().zip([[10, 3, 20], [15, 5, 24], [30, 2, 40]]) {
@@ -86,11 +86,12 @@ fn d6() {
     assert_eq!(jobs, only(&[[25, 4, 29, 0], [30, 2, 40, 8]]));
 }
 
-/// One tick more than D6 needs breaks its deadline: 18, which drops and sets the clock.
+/// One tick more than D6 needs breaks its deadline: 18, which drops and sets the clock. The room
+/// before all jobs is from 25 to 29.
 #[test]
 fn d6_a_tick_longer() {
     let (answer, desk, jobs) = from_d1(25, 5, 29);
-    assert_eq!(answer, Answer::refused(18));
+    assert_eq!(answer, Answer::new(18, [0, 4, 1, 0]));
     assert_eq!(
         desk,
         Desk {
@@ -113,7 +114,7 @@ fn behind_all_jobs() {
     assert_eq!(answer, Answer::good([3, 32, 0, 0]));
     assert_eq!(jobs[3], only(&[[32, 19, 60, 9]])[0]);
     let (answer, desk, jobs) = from_d1(8, 20, 51);
-    assert_eq!(answer, Answer::refused(18));
+    assert_eq!(answer, Answer::new(18, [3, 19, 1, 0]));
     assert_eq!((desk.clock, desk.count, jobs), (8, 3, d1().1));
 }
 
@@ -130,10 +131,11 @@ fn an_empty_table() {
         let taken = Answer::good([0, u64::from(t), 0, 0]);
         assert_eq!(asked(t, c, d), (taken, 1, only(&[[t, c, d, d - t - c]])));
     }
-    let refused = (Answer::refused(18), 0, only(&[]));
-    assert_eq!(asked(0, 2, 1), refused);
-    assert_eq!(asked(7, 6, 12), refused);
-    assert_eq!(asked(1, 1_000_000, 1_000_000), refused);
-    assert_eq!(asked(1_000_000, 1, 1_000_000), refused);
-    assert_eq!(asked(7, 1, 6), refused);
+    let refused = |room| (Answer::new(18, [0, room, 1, 0]), 0, only(&[]));
+    assert_eq!(asked(0, 2, 1), refused(1));
+    assert_eq!(asked(7, 6, 12), refused(5));
+    assert_eq!(asked(1, 1_000_000, 1_000_000), refused(999_999));
+    assert_eq!(asked(1_000_000, 1, 1_000_000), refused(0));
+    // Past d there is no place at all.
+    assert_eq!(asked(7, 1, 6), (Answer::refused(18), 0, only(&[])));
 }

@@ -56,6 +56,54 @@ pub fn about_a_gap(rng: &mut Rng, count: usize) -> (Desk, Vec<Job>) {
     (desk, jobs)
 }
 
+/// Jobs one behind the other, nearly without gaps, that can all move far, but for one or two in the
+/// second half: those are late first. There has to be a job.
+pub fn chain(rng: &mut Rng, count: usize) -> (Desk, Vec<Job>) {
+    let spread = Spread {
+        from: rng.pick(&[0, 5, 50, 999_000]),
+        gap: rng.pick(&[0, 0, 1]),
+        budget: rng.pick(&[1, 3]),
+        slack: rng.pick(&[0, 9]),
+    };
+    let (desk, mut jobs) = table(rng, count, spread);
+    for job in &mut jobs[..count] {
+        job.d += 100;
+    }
+    let slack = rng.between(0, 6) as u32;
+    for _ in 0..rng.between(1, 2) {
+        let job = &mut jobs[rng.between(count / 2, count - 1)];
+        job.d = job.end() + slack;
+    }
+    (desk, jobs)
+}
+
+/// Jobs alike: the same gap before each, the same budget and the same slack, which is often none. So
+/// rooms are equal.
+pub fn alike(rng: &mut Rng, count: usize) -> (Desk, Vec<Job>) {
+    let gap = rng.between(0, 6) as u32;
+    let c = rng.between(1, 4) as u32;
+    let slack = rng.pick(&[0, 0, 1, 3]);
+    let mut jobs = vec![Job::default(); JOBS];
+    let mut end = rng.pick(&[0, 7, 998_000]);
+    for job in jobs.iter_mut().take(count) {
+        let a = end + gap;
+        end = a + c;
+        let d = end + slack;
+        *job = Job { a, c, d, x: 0 };
+    }
+    let count = count as u32;
+    (Desk { clock: 0, count }, jobs)
+}
+
+/// Jobs that can't move.
+pub fn tight(rng: &mut Rng, count: usize) -> (Desk, Vec<Job>) {
+    let spread = Spread {
+        slack: 0,
+        ..spread(rng)
+    };
+    table(rng, count, spread)
+}
+
 /// A number beside what it was, at the limit, or near the width's end.
 fn beside(rng: &mut Rng, number: u32) -> u32 {
     match rng.between(0, 5) {

@@ -33,6 +33,17 @@ impl Request {
     pub fn earliest(&self, left: &[Job], place: usize) -> u32 {
         left[..place].last().map_or(self.t, Job::end)
     }
+
+    /// The rooms of the places from 0 to l, by the flexibilities; below 0 there is none.
+    pub fn rooms(&self, left: &[Job]) -> Vec<i64> {
+        let l = self.l(left);
+        let room = |place: usize| {
+            let latest = left[..l].get(place).map_or(self.d, |job| job.a + job.x);
+            let s = self.earliest(left, place);
+            i64::from(latest.min(self.d)) - i64::from(s)
+        };
+        (0..=l).map(room).collect()
+    }
 }
 
 /// Requests of all kinds, at times with a number at or past its limit.
@@ -133,6 +144,42 @@ fn idle_time(rng: &mut Rng, clock: u32, listed: &[Job]) -> u32 {
 fn once_idle(listed: &[Job], time: u32) -> u32 {
     let running = |job: &&Job| job.a < time && time < job.end();
     listed.iter().find(running).map_or(time, Job::end)
+}
+
+/// A request that just doesn't fit anywhere, or just does, or is far too long.
+pub fn too_long(rng: &mut Rng, clock: u32, listed: &[Job]) -> Request {
+    let t = idle_time(rng, clock, listed);
+    let mut request = Request { t, c: 1, d: 0 };
+    let left = request.left(listed);
+    request.d = some_deadline(rng, t, left).min(LATEST);
+    let most = request.rooms(left).into_iter().max().unwrap_or(0).max(0) as u32;
+    let far = rng.between(1, TIME as usize) as u32;
+    let c = most + rng.pick(&[0, 1, 1, 1, 1, 2, 9, far]);
+    request.c = c.clamp(1, LATEST);
+    request
+}
+
+/// A deadline before t, at t or before all jobs; at the latest start that a job can be moved to, its
+/// start, its end or its deadline, or beside them; or about the last job's end.
+fn some_deadline(rng: &mut Rng, t: u32, left: &[Job]) -> u32 {
+    let beside = rng.pick(&[0, 1, 1, 1, 2]);
+    let ([first, ..], [.., last]) = (left, left) else {
+        return rng.pick(&[t.saturating_sub(1), t, t + 7]);
+    };
+    let job = rng.pick(left);
+    let latest = first.a + first.x;
+    match rng.between(0, 15) {
+        0 => rng.pick(&[0, t.saturating_sub(1)]),
+        1 => t,
+        2 => rng.between(t as usize, first.a.saturating_sub(1) as usize) as u32,
+        3 | 4 => (job.a + job.x + beside).saturating_sub(1),
+        5 => (latest + beside).saturating_sub(1),
+        6 => (job.a + beside).saturating_sub(1),
+        7 => (job.end() + beside).saturating_sub(1),
+        8 => (job.d + beside).saturating_sub(1),
+        9..=11 => rng.between(latest as usize, last.end() as usize) as u32,
+        _ => last.end() + rng.between(0, 4) as u32,
+    }
 }
 
 /// A request that every table with a place left takes, for its deadline lies behind all jobs. Time

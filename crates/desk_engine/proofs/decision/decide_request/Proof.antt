@@ -25,8 +25,11 @@ search-end-requires c κs = search needs
 returns-4 : tie.Need-returns-4
 returns-4 c = let e = rw (c .before .before .before .rest-of .ensures) at (c .before .before .if4 .left) in rw (sym (c .before .before .before .before .before .before .before .before .before .numbers-ok .ensures) ∙ c .before .before .before .before .before .before .before .before .if1 .taken, le-ltb _ _ (c .before .before .before .before .before .if2 .left), c .before .before .before .before .if3 .left, lt-leb _ _ e, sym (c .before .search-end .ensures) ∙ c .if5 .taken)
 
+explanation-requires : tie.Need-explanation-requires
+explanation-requires c κs = search needs
+
 returns-5 : tie.Need-returns-5
-returns-5 c = let e = rw (c .before .before .before .rest-of .ensures) at (c .before .before .if4 .left) in rw (sym (c .before .before .before .before .before .before .before .before .before .numbers-ok .ensures) ∙ c .before .before .before .before .before .before .before .before .if1 .taken, le-ltb _ _ (c .before .before .before .before .before .if2 .left), c .before .before .before .before .if3 .left, lt-leb _ _ e, sym (c .before .search-end .ensures) ∙ c .if5 .left)
+returns-5 c = let e = rw (c .before .before .before .before .rest-of .ensures) at (c .before .before .before .if4 .left) in rw (c .explanation .ensures, sym (c .before .before .before .before .before .before .before .before .before .before .numbers-ok .ensures) ∙ c .before .before .before .before .before .before .before .before .before .if1 .taken, le-ltb _ _ (c .before .before .before .before .before .before .if2 .left), c .before .before .before .before .before .if3 .left, lt-leb _ _ e, sym (c .before .before .search-end .ensures) ∙ c .before .if5 .left)
 
 returns-6 : tie.Need-returns-6
 returns-6 c = rw (sym (c .before .numbers-ok .ensures) ∙ c .if1 .left)
@@ -42,5 +45,6 @@ decide-request-spec =
     returns-3
     search-end-requires
     returns-4
+    explanation-requires
     returns-5
     returns-6)

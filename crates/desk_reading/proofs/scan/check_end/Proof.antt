@@ -9,7 +9,7 @@ returns : tie.Need-returns
 returns c = rw (c .before .before .if1 .taken) (c .last-ok .ensures)
 
 returns-2 : tie.Need-returns-2
-returns-2 c = search needs
+returns-2 c = rw (c .if1 .left)
 
 pub check-end-spec : {M : Type 1} → statement M
 check-end-spec = tie.close (tie.spec last-ok-requires returns returns-2)

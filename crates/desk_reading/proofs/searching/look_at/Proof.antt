@@ -19,7 +19,7 @@ goes-past-requires : tie.Need-goes-past-requires
 goes-past-requires c κs = search needs
 
 returns-2 : tie.Need-returns-2
-returns-2 c = let e = rw (c .before .before .before .room-at .ensures) at (c .before .if2 .taken) in rw (c .goes-past .ensures, c .before .before .before .before .before .before .before .busy-after .ensures, le-ltb _ _ (c .before .before .before .before .if1 .left), lt-ltb _ _ e)
+returns-2 c = let e = rw (c .before .before .before .room-at .ensures) at (c .before .if2 .taken) in rw (c .goes-past .ensures, c .before .before .before .before .before .before .before .busy-after .ensures, c .before .before .before .room-at .ensures, le-ltb _ _ (c .before .before .before .before .if1 .left), lt-ltb _ _ e)
 
 closes-requires-2 : tie.Need-closes-requires-2
 closes-requires-2 c κs = search needs

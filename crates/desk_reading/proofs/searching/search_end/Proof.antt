@@ -3,7 +3,7 @@ use Rattle.desk_reading.proofs.searching.search_end.Statement.{statemen
 use Rattle.desk_reading.proofs.searching.search_end.Tie as tie
 
 returns : tie.Need-returns
-returns c = search needs
+returns c = rw (c .if1 .taken)
 
 new-job-requires : tie.Need-new-job-requires
 new-job-requires c κs = search needs

@@ -18,10 +18,20 @@ look-at-requires c κs = search needs
 returns-2 : tie.Need-returns-2
 returns-2 c = rw (c .look-at .ensures, c .before .before .before .if1 .taken, sym (c .before .before .ends-by .ensures) ∙ c .before .if2 .left)
 
+seeks-on-requires : tie.Need-seeks-on-requires
+seeks-on-requires c κs = search needs
+
 returns-3 : tie.Need-returns-3
-returns-3 c = search needs
+returns-3 c = rw (c .seeks-on .ensures, c .before .if1 .left)
 
 pub search-step-spec : {M : Type 1} → statement M
 search-step-spec =
     tie.close
-    (tie.spec ends-by-requires drops-requires returns look-at-requires returns-2 returns-3)
+    (tie.spec
+    ends-by-requires
+    drops-requires
+    returns
+    look-at-requires
+    returns-2
+    seeks-on-requires
+    returns-3)

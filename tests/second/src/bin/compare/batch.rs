@@ -17,6 +17,7 @@ pub enum Entry {
     Build,
     Verdict,
     Plain,
+    Page,
     CountsFill,
     CountsHeld,
     CountsHeldMany,

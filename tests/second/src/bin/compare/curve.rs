@@ -32,8 +32,8 @@ pub const TRIALS: &[Named] = &[
 /// What stands behind the plan and the list is left alone.
 const BEHIND: usize = 3;
 
-/// What stands in the list before: nothing, all bits, or numbers that all differ.
-fn before(rng: &mut Rng, numbers: usize) -> Vec<u32> {
+/// What stands in a list before: nothing, all bits, or numbers that all differ.
+pub fn before(rng: &mut Rng, numbers: usize) -> Vec<u32> {
     match rng.between(0, 3) {
         0 => vec![0; numbers],
         1 => vec![u32::MAX; numbers],

@@ -1,6 +1,8 @@
 //! The desk: the library against the second program, call by call, and the promise over whole
 //! sequences.
 
+mod explained;
+
 use second::desk::{self, Desk, Job};
 use second::inputs::jobs;
 use second::inputs::requests::{self, Draw, Request, LATEST};
@@ -19,6 +21,17 @@ pub const TRIALS: &[Named] = &[
     ("desk, about place l", about_place_l),
     ("desk, from empty to full", from_empty_to_full),
     ("desk, every small request", every_small_request),
+    ("desk, 18 by hand", explained::by_hand),
+    ("desk, 18 far behind", explained::far_behind),
+    ("desk, 18 and equal rooms", explained::equal_rooms),
+    ("desk, 18 in tight tables", explained::tight),
+    ("desk, 18 about d", explained::about_d),
+    ("desk, 18 in nearly full tables", explained::nearly_full),
+    ("desk, 18 and a tick more", explained::and_a_tick_more),
+    (
+        "desk, 18 in every small table",
+        explained::every_small_table,
+    ),
     ("desk, openings", openings),
     ("desk, spoilt tables", spoilt_tables),
 ];
@@ -133,6 +146,7 @@ fn sequence(trial: &mut Trial, mut lent: Lent, requests: usize, draw: Draw, seen
         let before = lent.clone();
         let answer = request(trial, &mut lent, asked);
         note(seen, &before, asked, answer);
+        explained::hold(trial, seen, &before, asked, answer);
         let followed = record.follow(asked, answer, lent.listed());
         trial.same((asked, &before, &lent, "moved"), followed, true);
         trial.same((asked, &before, &record, "promise"), record.kept(), true);

@@ -4,10 +4,12 @@
 use second::inputs::plans::Served;
 use second::inputs::{editions, faults, granules, plans, tables};
 use second::limits::GRANULE;
+use second::page::ROW;
 use second::rng::Rng;
 use second::Answer;
 
 use crate::build;
+use crate::page::{self, asked::points};
 use crate::seen::{kind, Seen};
 use crate::service::compare_check;
 use crate::trial::{Named, Trial};
@@ -34,7 +36,7 @@ fn good(granule: u64) -> bool {
     (1..=GRANULE).contains(&granule)
 }
 
-/// The checker and both engines.
+/// The checker and both engines; and the page, which says what the verdict does.
 pub fn compare_all(trial: &mut Trial, input: &Input, place: usize) -> [Answer; 3] {
     let Input {
         edition,
@@ -45,6 +47,10 @@ pub fn compare_all(trial: &mut Trial, input: &Input, place: usize) -> [Answer; 3
     } = input;
     let checked = compare_check(trial, *edition, *granule, plan, parts);
     let [verdict, plain] = [VERDICT, PLAIN].map(|engine| ask(trial, engine, input, place));
+    let numbers = ROW * points(input, place);
+    let (page, _) = page::asked::compare(trial, input, place, numbers);
+    let [found, wanted] = [page, verdict].map(|answer| (answer.number, answer.first));
+    trial.same((input, place, "page"), found, wanted);
     [checked, verdict, plain]
 }
 

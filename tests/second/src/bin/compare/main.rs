@@ -12,6 +12,7 @@ mod granules;
 mod library;
 mod line;
 mod listing;
+mod page;
 mod plan;
 mod programs;
 mod progress;
@@ -44,6 +45,7 @@ fn trials() -> Vec<Named> {
         curve::TRIALS,
         build::TRIALS,
         verdict::TRIALS,
+        page::TRIALS,
         granules::TRIALS,
         editions::TRIALS,
         file::TRIALS,

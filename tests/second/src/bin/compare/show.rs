@@ -15,7 +15,7 @@ type Names = (
 const TEXT: &str = "text";
 const LINE: &str = "plan file or line";
 
-const ENTRIES: [Names; 19] = [
+const ENTRIES: [Names; 20] = [
     ("wants", &["granule", "m", "num", "den"], &[]),
     ("held", &["edition", "p", "s", "n"], &["plan"]),
     ("least", &["edition", "p", "t"], &["plan"]),
@@ -31,6 +31,11 @@ const ENTRIES: [Names; 19] = [
         "plain",
         &["edition", "granule", "place"],
         &["plan", "parts", "tasks"],
+    ),
+    (
+        "page",
+        &["edition", "granule", "place"],
+        &["plan", "parts", "tasks", "rows"],
     ),
     ("counts_fill", &[], &["plan", "parts", "list"]),
     (

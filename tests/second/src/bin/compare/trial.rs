@@ -107,7 +107,7 @@ impl Trial {
     }
 
     /// Ends the trial with a complaint.
-    fn fail(&self, why: &str) -> ! {
+    pub fn fail(&self, why: &str) -> ! {
         eprintln!("{}: seed {}\n{why}\n", self.name, self.seed);
         panic::resume_unwind(Box::new(()))
     }

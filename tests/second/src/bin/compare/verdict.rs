@@ -50,7 +50,7 @@ pub const TRIALS: &[Named] = &[
 ];
 
 /// Every task of partition 1 with a period up to five.
-fn every_task() -> Vec<Vec<u16>> {
+pub fn every_task() -> Vec<Vec<u16>> {
     let mut tasks = Vec::new();
     for t in 1..=5 {
         for d in 1..=t {
