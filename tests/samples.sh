@@ -59,7 +59,7 @@ is "no file for a refusal" "$(ls "$made/full.plan" 2>/dev/null)" ""
 
 # ---- why a task fails
 
-# The third function's three ticks come too late for the second task; with four of eight they don't.
+# Three ticks of eight are too few for the second task, and four are enough.
 for name in late mended; do
     ends "plan $name" 0 '' ./box plan "samples/$name.shares" "$made/$name.plan"
     ends "why $name" 0 '' ./box why "$made/$name.plan" 2
@@ -69,6 +69,7 @@ is "a page of nothing" "$(paged 1 </dev/null)" "refused 1"
 is "a page without a word" "$(paged <samples/w1.plan)" "refused 7"
 is "a page with two words" "$(paged 1 1 <samples/w1.plan)" "refused 7"
 is "a page of a plan that doesn't serve" "$({ printf '\0\2' && tail -c +3 samples/w1.plan; } | paged 1)" "refused 9"
+is "no task of a plan that doesn't serve" "$({ printf '\0\2' && tail -c +3 samples/w1.plan; } | paged 2)" "refused 7"
 is "a page of an overlong file" "$({ cat samples/w1.plan; head -c 20000 /dev/zero; } | paged 1)" "refused 5"
 
 # ---- as long as they may be
