@@ -10,18 +10,18 @@ use lib.ListN.{length, take, replicate}
 use lib.Seq.{take-all}
 use borrow.Author.Tests.{le-ltb, ne-eqb}
 use Rattle.rules.specs.Limits.{rowWidth}
-use Rattle.rules.specs.Walk.{only, count, gathered}
-use Rattle.rules.specs.Table.{partition, deadline}
+use Rattle.rules.specs.Walk.{only, gathered}
+use Rattle.rules.specs.Table.{partition}
 use Rattle.rules.specs.Terms.{filed, ruleOf}
 use Rattle.rules.specs.declared.Rule.{Rule}
 use Rattle.rules.proofs.Sum.{le-or-lt}
 use Rattle.theory.specs.Plan.{least, worstStart}
-use Rattle.theory.specs.Load.{demand, point}
+use Rattle.theory.specs.Load.{demand, shortage}
 use Rattle.theory.specs.Task.{taskLoad}
-use Rattle.theory.proofs.Tightest.{point-within}
 use Rattle.task_verdict.proofs.Engines as verdicts
 use Rattle.task_page.specs.declared.Paged.{Paged}
 use Rattle.task_page.specs.declared.Paged.the-variants.{Refused}
+use Rattle.task_page.proofs.Proved as pages
 use Rattle.task_page.specs.Page.{rowsOf, pointsOf, tightestOf, failOf, pageOf}
 use Rattle.output.specs.Text.{bytes}
 use Rattle.output.specs.Decimal.{decimal}
@@ -34,9 +34,9 @@ use Rattle.file_read.proofs.Reader.{accepted, contents-short}
 use Rattle.file_read.proofs.Proved as reader
 use Rattle.why_lines.specs.Lines.{columnWidth, padded, taskWords, failsLine, namesLine, columns, window, mark, rowLine, tickWords, shortLine}
 use Rattle.why_page.specs.Why.{lineOf, shortOf, spareOf, passText, failText, mostNumbers, pagedText, tablesText, readText, whyOf}
-use Rattle.why_page.specs.Theorems.{linesIn, FailLines, LineOfPoint, PointHasLine, FailShort, PassSpare, RoomEnough, WhyFirst, Proved}
-use Rattle.why_page.proofs.Rows.{nth-found, count-below, count-few, point-line}
-use Rattle.why_page.proofs.Paged.{point-in-time, pass-judged, fail-judged, fail-tightest, answered-reach}
+use Rattle.why_page.specs.Theorems.{linesIn, FailLines, FailShort, PassSpare, RoomEnough, WhyFirst, Proved}
+use Rattle.why_page.proofs.Rows.{line-for-each, points-few}
+use Rattle.why_page.proofs.Paged.{pass-judged, fail-judged, answered-reach}
 
 -- ---- how many lines
 
@@ -156,33 +156,13 @@ fail-lines e plan ps ts place n u h p =
     let f = fail-judged (filed e) plan ps ts place mostNumbers n u h p in
     (f .rows, ap (λ (x : Paged). linesIn (pagedText (ruleOf e) plan ts place x)) p ∙ fail-text-lines (ruleOf e) plan ts place ∙ ap (λ (k : ℕ). k + 3) (sym (f .rows)))
 
--- ---- which line is a point's
-
-line-of-point : LineOfPoint
-unfolding pointsOf
-line-of-point rule plan ts i u k l =
-    let w = nth-found (point (taskLoad ts) i) (suc (deadline ts i)) k l in
-    (w .0, w .2, w .3, point-line rule plan ts i u k (w .0) (w .1) (w .2) (w .3))
-
-point-has-line : PointHasLine
-unfolding pointsOf
-point-has-line rule plan ts i u t e =
-    let l : t < suc (deadline ts i) = omega (arith, point-in-time ts i t e) in
-    (count-below (point (taskLoad ts) i) (suc (deadline ts i)) t l e, point-line rule plan ts i u (count (point (taskLoad ts) i) t) t l e refl)
-
 -- ---- the sentences
 
 fail-short : FailShort
+unfolding shortage
 fail-short e plan ps ts place n u h p =
-    let f = fail-judged (filed e) plan ps ts place mostNumbers n u h p in
-    let t = fail-tightest (filed e) plan ps ts place mostNumbers n u h p in
-    let no-pass = verdicts.proved .by-points .fail-exactly (filed e) plan ps ts place .0 (f .judged-so) .1 in
-    let w = point-within (taskLoad ts) (place - 1) u (t .a-point) in
-    (t, short (λ l. absurd (no-pass (u, w .0, w .1, l))) (le-or-lt (demand (taskLoad ts) (place - 1) u) (least (ruleOf e) plan (partition ts (place - 1)) u)))
-  where
-    short : {d l : ℕ} → (d ≤ l → l < d) → (d ≤ l) ⊎ (l < d) → l < d
-    short f (inl h) = f h
-    short f (inr h) = h
+    let t = pages.proved .page-tightest (filed e) plan ps ts place mostNumbers n u h p in
+    (t .0, omega (arith, t .1, t .2))
 
 pass-spare : PassSpare
 unfolding tablesText passText spareOf
@@ -193,18 +173,12 @@ pass-spare e plan ps ts place t p = (
 
 -- ---- the room
 
-no-point-0 : (ts : List ℕ) (i : ℕ) → point (taskLoad ts) i 0 ≡ false
-unfolding point
-no-point-0 ts i = refl
-
 room-enough : RoomEnough
-unfolding pageOf failOf pointsOf
+unfolding pageOf failOf
 room-enough e plan ps ts place v =
     let a = verdicts.proved .by-points .fail-exactly (filed e) plan ps ts place .0 v .0 in
     let o = answered-reach (filed e) plan ps ts place mostNumbers 0 a (omega arith) .judgeable .in-order (place - 1) (omega arith) in
-    let n : ℕ = count (point (taskLoad ts) (place - 1)) (suc (deadline ts (place - 1))) in
-    let few = count-few (point (taskLoad ts) (place - 1)) (no-point-0 ts (place - 1)) (deadline ts (place - 1)) in
-    rw (v, le-ltb mostNumbers (rowWidth * n) (omega (arith, few, o .in-period, o .short)))
+    rw (v, le-ltb mostNumbers (rowWidth * pointsOf ts (place - 1)) (omega (arith, points-few ts (place - 1), o .in-period, o .short)))
 
 -- ---- the file's bytes
 
@@ -219,8 +193,7 @@ why-first b place n h = step (readOf b) refl
 pub proved : Proved
 proved = record {
   fail-lines = fail-lines;
-  line-of-point = line-of-point;
-  point-has-line = point-has-line;
+  fail-rows = line-for-each;
   fail-short = fail-short;
   pass-spare = pass-spare;
   room-enough = room-enough;

@@ -6,9 +6,9 @@ use mathlib.Core.Bool.{true}
 use mathlib.Core.List.{List, [], _∷_, _++_}
 use lib.Dec.{eqb}
 use lib.ListN.{take}
-use Rattle.rules.specs.Limits.{longestFile}
-use Rattle.rules.specs.Walk.{only, count}
-use Rattle.rules.specs.Table.{partition}
+use Rattle.rules.specs.Limits.{longestFile, rowWidth}
+use Rattle.rules.specs.Walk.{only}
+use Rattle.rules.specs.Table.{fieldAt, partition}
 use Rattle.rules.specs.Terms.{filed, ruleOf}
 use Rattle.rules.specs.declared.Rule.{Rule}
 use Rattle.theory.specs.Plan.{least, worstStart}
@@ -38,17 +38,20 @@ FailLines =
 abbrev pub pointLine : Rule → List ℕ → List ℕ → ℕ → ℕ → ℕ → List ℕ
 pointLine rule plan ts i u t = rowLine u t (demand (taskLoad ts) i t) (least rule plan (partition ts i) t) (worstStart rule plan (partition ts i) t)
 
--- "in rising order": line k is that of the scheduling point with k others below it, and there is one
-abbrev pub LineOfPoint : Type 0
-LineOfPoint =
-    (rule : Rule) (plan ts : List ℕ) (i u k : ℕ) → k < pointsOf ts i
-    → (t : ℕ) × (point (taskLoad ts) i t ≡ true) × (count (point (taskLoad ts) i) t ≡ k) × (lineOf u (rowsOf rule plan ts i) k ≡ pointLine rule plan ts i u t)
+-- the point of row k
+abbrev pub pointOf : Rule → List ℕ → List ℕ → ℕ → ℕ → ℕ
+pointOf rule plan ts i k = fieldAt rowWidth (rowsOf rule plan ts i) k 0
 
--- and every scheduling point has its line
-abbrev pub PointHasLine : Type 0
-PointHasLine =
-    (rule : Rule) (plan ts : List ℕ) (i u t : ℕ) → point (taskLoad ts) i t ≡ true
-    → (count (point (taskLoad ts) i) t < pointsOf ts i) × (lineOf u (rowsOf rule plan ts i) (count (point (taskLoad ts) i) t) ≡ pointLine rule plan ts i u t)
+-- "for each scheduling point in rising order": a line
+pub record LineForEach (rule : Rule) (plan ts : List ℕ) (i u : ℕ) : Type 0 where
+  pub line :
+      (k : ℕ) → k < pointsOf ts i
+      → (point (taskLoad ts) i (pointOf rule plan ts i k) ≡ true) × (lineOf u (rowsOf rule plan ts i) k ≡ pointLine rule plan ts i u (pointOf rule plan ts i k))
+  pub rising : (j k : ℕ) → j < k → k < pointsOf ts i → pointOf rule plan ts i j < pointOf rule plan ts i k
+  pub each-point : (t : ℕ) → point (taskLoad ts) i t ≡ true → (k : ℕ) × (k < pointsOf ts i) × (pointOf rule plan ts i k ≡ t)
+
+abbrev pub FailRows : Type 0
+FailRows = (rule : Rule) (plan ts : List ℕ) (i u : ℕ) → LineForEach rule plan ts i u
 
 -- a fail's sentence is about the point that ask 7 names, and something is short there
 abbrev pub FailShort : Type 0
@@ -85,8 +88,7 @@ WhyOne = (b out o o′ : List ℕ) (place r r′ : ℕ) → Put out 0 (whyOf b p
 
 pub record Proved : Type 0 where
   pub fail-lines : FailLines
-  pub line-of-point : LineOfPoint
-  pub point-has-line : PointHasLine
+  pub fail-rows : FailRows
   pub fail-short : FailShort
   pub pass-spare : PassSpare
   pub room-enough : RoomEnough
