@@ -1,4 +1,5 @@
 pub mod Lines
 pub mod Rows
 pub mod Paged
+pub mod Asked
 pub mod Proved
