@@ -39,9 +39,6 @@ or-more : (a b c : Bool) → (b ≡ true → c ≡ true) → a || b ≡ true →
 or-more true b c h e = refl
 or-more false b c h e = h e
 
-one-more : (ms ns : List ℕ) (n : ℕ) → ((m : ℕ) → among ms m ≡ true → among ns m ≡ true) → (k : ℕ) → among (k ∷ ms) n ≡ true → among (k ∷ ns) n ≡ true
-one-more ms ns n h k = or-more (eqb k n) (among ms n) (among ns n) (h n)
-
 with-12 : (n : ℕ) → Numbered (2 ∷ 3 ∷ 21 ∷ 6 ∷ 7 ∷ 8 ∷ 9 ∷ []) (record { number = n; first = 0; second = 0; third = 0; fourth = 0; fifth = 0 }) → among (0 ∷ 2 ∷ 3 ∷ 21 ∷ 6 ∷ 7 ∷ 8 ∷ 9 ∷ 12 ∷ []) n ≡ true
 with-12 n =
     more (2 ∷ 3 ∷ 21 ∷ 6 ∷ 7 ∷ 8 ∷ 9 ∷ []) (2 ∷ 3 ∷ 21 ∷ 6 ∷ 7 ∷ 8 ∷ 9 ∷ 12 ∷ []) 0
@@ -116,8 +113,8 @@ module _ (i g : ℕ) (plan ps ts : List ℕ) (place : ℕ) (list o : List ℕ) (
       let b = judging.judged-granule taskPoint i g plan ps ts place u tells in
       (λ e. b .0 (a .0 e), λ n. a .1 (b .1 n))
 
-  pub page-refused : Refused t → o ≡ list
-  page-refused h = left-is ∙ by answer (subst (λ (x : Told). Refused x) page-is h)
+  pub refused-leaves : Refused t → o ≡ list
+  refused-leaves h = left-is ∙ by answer (subst (λ (x : Told). Refused x) page-is h)
     where
       by : (r : Paged) → Refused (toldPage r) → pageLeft r (rowsOf (ruleOf i) plan ts (place - 1)) list ≡ list
       by (paged.Pass x) n = refl

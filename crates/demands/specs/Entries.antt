@@ -98,8 +98,8 @@ module _ {M : Type 1} (𝓤 : URA M) (H : Heap 𝓤) (A : Atoms 𝓤) (mem : Mem
         (λ κs a r e. TellsPlain (a .0) (a .1 .0) (a .1 .1 .0 .now) (a .1 .1 .1 .0 .now) (a .1 .1 .1 .1 .0 .now) (a .1 .1 .1 .1 .1 .0) r)
     pub of-c-page : Ensures c-page.ended (c-page.clauses 𝓤 H A mem run)
         (λ κs a r e.
-            TellsPage (a .0) (a .1 .0) (a .1 .1 .0 .now) (a .1 .1 .1 .0 .now) (a .1 .1 .1 .1 .0 .now) (a .1 .1 .1 .1 .1 .0) (a .1 .1 .1 .1 .1 .1 .0 .now)
-            (e .1 .1 .1 .1 .1 .1 .0 .now) r)
+        TellsPage (a .0) (a .1 .0) (a .1 .1 .0 .now) (a .1 .1 .1 .0 .now) (a .1 .1 .1 .1 .0 .now) (a .1 .1 .1 .1 .1 .0) (a .1 .1 .1 .1 .1 .1 .0 .now)
+        (e .1 .1 .1 .1 .1 .1 .0 .now) r)
     pub of-c-read : Ensures c-read.ended (c-read.clauses 𝓤 H A mem run) (λ κs a r e. TellsRead (a .0 .now) r)
     pub of-c-section : Ensures c-section.ended (c-section.clauses 𝓤 H A mem run) (λ κs a r e. TellsSection (a .0 .now) (a .1 .0) r)
     pub of-c-write : Ensures c-write.ended (c-write.clauses 𝓤 H A mem run)
