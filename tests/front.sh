@@ -8,6 +8,7 @@ cd "$(dirname "$0")/.." || exit 1
 top=$PWD
 table=samples/cabin.shares
 plan=samples/cabin.plan
+failing=10 # the task of it that fails
 # A plan of 4,096 runs of one tick, the most that there can be.
 printf 'partition 2 1/2\npartition 4096 1/2\n' >"$made/long.shares"
 long=16412
@@ -84,6 +85,7 @@ ends "a plan to a full device" 2 "box: can't write $made/full: No space left on 
 to_full() { "$@" >/dev/full; }
 ends "a plan to a full output" 2 "box: can't write standard output: *" to_full ./box plan "$table" -
 ends "a listing to a full output" 2 "box: can't write standard output: *" to_full ./box list "$plan"
+ends "a page to a full output" 2 "box: can't write standard output: *" to_full ./box why "$plan" 1
 
 echo old >"$made/limited"
 limited() { (trap '' XFSZ && ulimit -f 16 && ./box plan "$made/long.shares" "$made/limited"); }
@@ -121,6 +123,10 @@ for name in - /dev/stdin; do
     planning() { cat "$table" | ./box plan "$name" -; }
     ends "a plan from $name" 0 '' planning
     same "a plan from $name" "$made/out" "$plan"
+    # shellcheck disable=SC2002
+    paging() { cat "$plan" | ./box why "$name" "$failing"; }
+    ends "a page from $name" 0 '' paging
+    same "a page from $name" "$made/out" samples/cabin.why
 done
 timeout 10 sh -c "cat $plan >'$made/fifo'" &
 ends "a listing from a FIFO" 0 '' ./box list "$made/fifo"
@@ -132,7 +138,8 @@ same "a plan from <(..)" "$made/out" "$plan"
 
 listing() { ./box list "$1"; }
 planning() { ./box plan "$1" -; }
-for way in listing planning; do
+paging() { ./box why "$1" 1; }
+for way in listing planning paging; do
     ends "$way of nothing" 2 "box: can't read $made/none: No such file or directory" "$way" "$made/none"
     ends "$way of a directory" 2 "box: can't read $made: Is a directory" "$way" "$made"
     ends "$way of what can't be read" 2 "box: can't read /proc/self/mem: *" "$way" /proc/self/mem
@@ -159,7 +166,22 @@ box: samples/twos.shares is a share table: *" ./box list samples/twos.shares
 ends "a plan file planned" 1 "line 1: *
 box: $plan is a plan file: *" ./box plan "$plan" -
 
-for word in help --help -h 'list --help'; do
+for task in 0 11 65536 000001 18446744073709551617 x '' '1 ' -1; do
+    ends "task '$task'" 1 "refused 7
+box: $plan has no task $task" ./box why "$plan" "$task"
+    is "nothing of task '$task'" "$(cat "$made/out")" ""
+done
+without() { printf 'partition 1 1/1\n' | ./box plan - - | ./box why - 1; }
+ends "a file without tasks" 1 "refused 7
+box: - has no task 1" without
+ends "a page of a share table" 1 "refused 2
+box: $table is a share table: *" ./box why "$table" 1
+ends "a page of a text" 1 "refused 2" ./box why README.md 1
+# W1 with a budget of 0, which no task has: its task 1 is there, but no good one.
+{ head -c 30 samples/w1.plan && printf '\0\0' && tail -c +33 samples/w1.plan; } >"$made/budget.plan"
+ends "a page of a bad task" 1 "refused 7" ./box why "$made/budget.plan" 1
+
+for word in help --help -h 'list --help' 'why --help'; do
     # shellcheck disable=SC2086 # two words
     ends "$word" 0 '' ./box $word
     is "$word" "$(head -n 1 "$made/out" | cut -d' ' -f1-3)" "usage: box list"
@@ -170,12 +192,17 @@ ends "no command" 2 "box: usage: *" ./box
 ends "an unknown command" 2 "box: unknown command draw: *" ./box draw
 ends "no file" 2 "box: usage: box list *" ./box list
 ends "one file too many" 2 "box: usage: box plan *" ./box plan a b c
+ends "no task" 2 "box: usage: box why *" ./box why "$plan"
+ends "one task too many" 2 "box: usage: box why *" ./box why "$plan" 1 2
 
 ends "a task fails" 0 '' ./box list "$plan"
 ends "a task fails, strict" 3 '' ./box list --strict "$plan"
 same "a task fails, strict" "$made/out" samples/cabin.txt
 ends "no task fails, strict" 0 '' ./box list --strict samples/w1.plan
 ends "refused, strict" 1 "refused 2" ./box list --strict README.md
+ends "why a task passes" 0 '' ./box why "$plan" 1
+ends "why a task fails" 0 '' ./box why -- "$plan" "$failing"
+same "why a task fails" "$made/out" samples/cabin.why
 
 # ---- from where it is called
 

@@ -6,6 +6,7 @@ cd "$(dirname "$0")/.." || exit 1
 
 listed() { tools/x86 run target/bin/list; }
 planned() { tools/x86 run target/bin/plan; }
+paged() { tools/x86 run target/bin/why "$@"; }
 
 for name in w1 cabin second; do
     ends "list $name" 0 '' ./box list "samples/$name.plan"
@@ -56,6 +57,21 @@ is "no file for what falls short" "$(ls "$made/cabin.2" 2>/dev/null)" ""
 ends "plan full" 1 "$(cat samples/full.txt)" ./box plan samples/full.shares "$made/full.plan"
 is "no file for a refusal" "$(ls "$made/full.plan" 2>/dev/null)" ""
 
+# ---- why a task fails
+
+# Three ticks of eight are too few for the second task, and four are enough.
+for name in late mended; do
+    ends "plan $name" 0 '' ./box plan "samples/$name.shares" "$made/$name.plan"
+    ends "why $name" 0 '' ./box why "$made/$name.plan" 2
+    same "why $name" "$made/out" "samples/$name.why"
+done
+is "a page of nothing" "$(paged 1 </dev/null)" "refused 1"
+is "a page without a word" "$(paged <samples/w1.plan)" "refused 7"
+is "a page with two words" "$(paged 1 1 <samples/w1.plan)" "refused 7"
+is "a page of a plan that doesn't serve" "$({ printf '\0\2' && tail -c +3 samples/w1.plan; } | paged 1)" "refused 9"
+is "no task of a plan that doesn't serve" "$({ printf '\0\2' && tail -c +3 samples/w1.plan; } | paged 2)" "refused 7"
+is "a page of an overlong file" "$({ cat samples/w1.plan; head -c 20000 /dev/zero; } | paged 1)" "refused 5"
+
 # ---- as long as they may be
 
 # The largest plan file: 16 partitions by turns, a tick each, with 8 tasks of one tick each. Such a task and k - 1 higher
@@ -93,6 +109,28 @@ same "the largest file" "$made/out" "$made/largest.txt"
 for more in 1 20000; do
     is "the largest file and $more more" "$({ cat "$made/largest.plan" && zeros "$more"; } | listed)" "refused 5"
 done
+
+# The most rows: the first task asks for every tick, so that each of the second's 4,096 is a point, one tick short.
+crowded() {
+    awk 'BEGIN {
+        print 1, 1, 16, 1, 22, 2, 38, 1
+        print 1, 1, 1
+        print 1, 1, 1, 1
+        print 1, 1, 4096, 4096
+        print 1, 1
+    }'
+}
+crowded_page() {
+    awk 'BEGIN {
+        print "task 2 partition 1 fails"
+        print "   point   needs     has   short   worst stretch in wall ticks"
+        for (t = 1; t <= 4096; t++) printf "%8d%8d%8d%8d   0 to %d%s\n", t, t + 1, t, 1, t - 1, t == 1 ? "  <- tightest" : ""
+        print "at tick 1 it needs 2 and can be sure of 1: 1 short; the worst stretch starts at tick 0"
+    }'
+}
+crowded_page >"$made/crowded.why"
+crowded | numbers | paged 2 >"$made/out"
+same "the most rows" "$made/out" "$made/crowded.why"
 
 # W1's table with blanks in front of it, so that it stands across the limit, or behind it, where the part within the limit
 # would be good by itself.

@@ -34,7 +34,8 @@ use Rattle.file_read.proofs.Reader.{accepted, contents-short}
 use Rattle.file_read.proofs.Proved as reader
 use Rattle.file_listing.specs.Listing.{readLines, listingOf}
 use Rattle.file_listing.specs.Theorems.{planIn, LineOfBoth, ListingFirst, Proved}
-use Rattle.file_listing.proofs.Tables.{fit, scanned}
+use Rattle.file_runs.proofs.Loaded.{fit}
+use Rattle.file_listing.proofs.Tables.{scanned}
 
 listed-verdict : (b : List ℕ) (ed frame np nt nr : ℕ) → readOf b ≡ Contents ed frame np nt nr → (j : ℕ) → checkOf (filed ed) (planIn b) (tableOf b Partitions) ≡ found.Good → j < nt
     → Answered (filed ed) (planIn b) (tableOf b Partitions) (tableOf b Tasks) (j + 1)

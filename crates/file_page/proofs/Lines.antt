@@ -1,11 +1,9 @@
--- Laws of lines put one behind the other. Assumes nothing.
+-- Laws of the lines, at the numbers that the code holds. Assumes nothing.
 use Prim.Native.Nat.{ℕ, _+_, _≤_, _<_}
 use mathlib.Core.Path.{_≡_}
 use mathlib.Core.List.{List}
 use lib.ListN.{getD}
 use borrow.Author.Tests.{le-leb, lt-leb}
-use Rattle.output.specs.Put.{Put}
-use Rattle.output.proofs.Put.{put-none, and-then}
 use Rattle.rules.specs.Table.{cycle, partition, deadline, tasks}
 use Rattle.rules.specs.Terms.{usual, wanted}
 use Rattle.rules.specs.declared.Rule.{Rule}
@@ -14,15 +12,9 @@ use Rattle.theory.specs.Task.{taskPoint, taskTick}
 use Rattle.file_lines.specs.Lines.{partitionLine, passLine, failLine}
 use Rattle.rules.specs.Walk.{gathered}
 use Rattle.rules.specs.Contracts.{AsNamed}
-use Rattle.rules.proofs.First.{gathered-zero, gathered-more, gathered-ext}
+use Rattle.rules.proofs.First.{gathered-ext}
 use Rattle.file_page.specs.Page.{partLine, taskLine}
 use Rattle.file_page.specs.Contracts.{lineBy}
-
-pub lines-none : (f : ℕ → List ℕ) (l : List ℕ) (i : ℕ) → Put l i (gathered f 0) i l
-lines-none f l i = rw (gathered-zero f) (put-none l i)
-
-pub lines-more : {l m o : List ℕ} {i j r : ℕ} (f : ℕ → List ℕ) (k : ℕ) → Put l i (gathered f k) j m → Put m j (f k) r o → Put l i (gathered f (k + 1)) r o
-lines-more f k p q = rw (gathered-more f k) (and-then p q)
 
 -- a partition's line, at the numbers that the code holds
 pub part-line : (rule : Rule) (plan ps : List ℕ) (k q m w l : ℕ) → q ≡ wanted usual ps k → m ≡ cycle ps k → w ≡ m → l ≡ least rule plan (k + 1) m → partitionLine (k + 1) q w l ≡ partLine rule plan ps k

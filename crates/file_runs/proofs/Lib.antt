@@ -1,3 +1,4 @@
 pub mod Ticks
 pub mod Good
 pub mod Proved
+pub mod Loaded

@@ -1,2 +1,3 @@
 pub mod Ticks
 pub mod Theorems
+pub mod Contracts

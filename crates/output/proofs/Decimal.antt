@@ -53,6 +53,14 @@ pub decimal-length : (n : ℕ) → n < 2 ^ 64 → length (decimal n) ≤ 20
 unfolding tens
 decimal-length n h = decimal-below 19 n (omega arith)
 
+pub decimal-ten : (n : ℕ) → n < 10000000000 → length (decimal n) ≤ 10
+unfolding tens
+decimal-ten n h = decimal-below 9 n (omega arith)
+
+pub decimal-five : (n : ℕ) → n < 100000 → length (decimal n) ≤ 5
+unfolding tens
+decimal-five n h = decimal-below 4 n (omega arith)
+
 -- ---- the digits say the number, and the first of several is no 0
 
 pub value-append : (a b : List ℕ) (v : ℕ) → value (a ++ b) v ≡ value b (value a v)

@@ -7,6 +7,8 @@ use native.Mathlib.Numerals.{add-one}
 use native.Mathlib.Omega.{arith}
 use lib.ListN.{length, set, getD, take, drop, length-append}
 use lib.Seq.{sets, sets-eq, take-suc, take-at, length-take-le}
+use Rattle.rules.specs.Walk.{gathered}
+use Rattle.rules.proofs.First.{gathered-zero, gathered-more}
 use Rattle.output.specs.Put.{Put}
 
 sets-append : (a b l : List ℕ) (i : ℕ) → sets l i (a ++ b) ≡ sets (sets l i a) (i + length a) b
@@ -24,6 +26,13 @@ and-then {l} {m} {o} {a} {b} {i} {j} {r} p q = record {
   place = rw (length-append a b) (omega (arith, p .place, q .place));
   bytes = rw (sets-append a b l i, ← p .bytes, ← p .place) (q .bytes);
 }
+
+-- lines one behind the other: none, and one more
+pub lines-none : (f : ℕ → List ℕ) (l : List ℕ) (i : ℕ) → Put l i (gathered f 0) i l
+lines-none f l i = rw (gathered-zero f) (put-none l i)
+
+pub lines-more : {l m o : List ℕ} {i j r : ℕ} (f : ℕ → List ℕ) (k : ℕ) → Put l i (gathered f k) j m → Put m j (f k) r o → Put l i (gathered f (k + 1)) r o
+lines-more f k p q = rw (gathered-more f k) (and-then p q)
 
 -- a loop's turn over a text: one more of it
 pub put-more : {o m : List ℕ} (l : List ℕ) (i : ℕ) (s : List ℕ) (k : ℕ) → k < length s → o ≡ sets l i (take k s) → m ≡ set o (i + k) (getD s k 0) → m ≡ sets l i (take (k + 1) s)

@@ -71,3 +71,7 @@ longestLine = 128
 
 abbrev pub longestListing : ℕ
 longestListing = (1 + mostPartitions + mostTasks) * longestLine
+
+-- no page of a task is longer, in bytes: a line for each point, and the task, the columns' names and the sentence
+abbrev pub longestWhy : ℕ
+longestWhy = (3 + longest) * longestLine

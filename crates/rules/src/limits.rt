@@ -45,3 +45,6 @@ pub const LONGEST_FILE: usize = HEAD_BYTES
 pub const LONGEST_LINE: usize = 128;
 
 pub const LONGEST_LISTING: usize = (1 + MOST_PARTITIONS + MOST_TASKS) * LONGEST_LINE;
+
+// No page of a task is longer, in bytes: a line for each point, and the task, the columns' names and the sentence.
+pub const LONGEST_WHY: usize = (3 + LONGEST) * LONGEST_LINE;

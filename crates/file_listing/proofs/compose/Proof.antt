@@ -3,7 +3,8 @@ use Prim.Native.Nat.{_*_, _≤_}
 use lib.ListN.{length}
 use lib.Seq.{length-take-le}
 use Rattle.file_listing.specs.Listing.{listingOf}
-use Rattle.file_listing.proofs.Tables.{parts-held, tasks-held, runs-held, listable, tables-listed}
+use Rattle.file_runs.proofs.Loaded.{parts-held, tasks-held, runs-held}
+use Rattle.file_listing.proofs.Tables.{listable, tables-listed}
 use borrow.Author.Needs.{needs}
 use Rattle.file_listing.proofs.compose.Statement.{statement}
 use Rattle.file_listing.proofs.compose.Tie as tie

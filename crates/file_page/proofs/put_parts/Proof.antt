@@ -5,7 +5,7 @@ use Rattle.output.specs.Put.{Put}
 use Rattle.rules.specs.Limits.{longestLine}
 use Rattle.rules.specs.Walk.{gathered}
 use Rattle.file_page.specs.Page.{partLine}
-use Rattle.file_page.proofs.Lines.{lines-none, lines-more}
+use Rattle.output.proofs.Put.{lines-none, lines-more}
 use borrow.Author.Needs.{needs}
 use Rattle.file_page.proofs.put_parts.Statement.{statement}
 use Rattle.file_page.proofs.put_parts.Tie as tie

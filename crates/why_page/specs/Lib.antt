@@ -1,0 +1,3 @@
+pub mod Why
+pub mod Contracts
+pub mod Theorems
