@@ -166,14 +166,7 @@ pub extern "C" fn merkazobi_page(
     ensures { λ r. ⌜ TellsPage edition granule (now (plan .entry)) (now (parts .entry)) (now (tasks .entry))
         place (now (rows .entry)) (now (rows .exit)) r ⌝ }
 {
-    answers::tell_page(task_page::page(
-        Terms { edition, granule },
-        plan,
-        parts,
-        tasks,
-        place,
-        rows,
-    ))
+    answers::tell_page(task_page::page(Terms { edition, granule }, plan, parts, tasks, place, rows))
 }
 
 #[no_mangle]

@@ -49,6 +49,8 @@ use Rattle.counts.specs.Counts.{runningCounts, FillsCounts, HoldsOne, answerAt,
 use Rattle.counts.proofs.Changes as counts
 use Rattle.task_verdict.specs.Verdict.{Judges, JudgesPlainly, toldJudged}
 use Rattle.task_verdict.proofs.Engines as verdict
+use Rattle.task_page.specs.Page.{Pages, toldPage}
+use Rattle.task_page.proofs.Proved as page
 use Rattle.file_tables.proofs.Chain.{file-2, file-holds}
 use Rattle.file_read.specs.declared.Reading.{Reading}
 use Rattle.file_read.specs.declared.Reading.the-variants as reading
@@ -84,6 +86,7 @@ use Rattle.demands.proofs.Entries.{entries}
 use Rattle.demands.proofs.Counting as counting
 use Rattle.demands.proofs.Granules.{not-known, known-good, edition-exactly, granule-exactly, granule-one}
 use Rattle.demands.proofs.Judging as judging
+use Rattle.demands.proofs.Paging as paging
 
 -- ---- the numbers, whatever the tests give: one case for each answer
 
@@ -433,6 +436,7 @@ first = record {
   change-numbers = counting.change-numbers;
   verdict-numbers = judging.judged-numbers taskPoint;
   plain-numbers = judging.judged-numbers taskTick;
+  page-numbers = paging.page-numbers;
   read-numbers = λ b t p.
       rw (read-is b t p)
       (contents-hold b (λ (c : Reading). Numbered (1 ∷ 2 ∷ 3 ∷ 4 ∷ 5 ∷ 6 ∷ 7 ∷ 8 ∷ []) (toldReading (judgedBy c b))) refl refl refl refl refl
@@ -462,6 +466,7 @@ first = record {
       (of-plan (λ (r : Finding). ¬ (toldFinding r .number ≡ 2)) (ruleOf i) (wanted (given i g) ps) plan ps (λ z. absurd (omega arith)) (λ t z. absurd (omega arith)) (λ p s h w z. absurd (omega arith))));
   verdict-edition = judging.judged-edition taskPoint;
   plain-edition = judging.judged-edition taskTick;
+  page-edition = paging.page-edition;
   write-edition = λ i f ps ts rs out o t p.
       rw (write-is i f ps ts rs out o t p) (
         λ h k.
@@ -479,9 +484,11 @@ first = record {
       (of-plan (λ (r : Finding). ¬ (toldFinding r .number ≡ 21)) (ruleOf i) (wanted (given i g) ps) plan ps (λ z. absurd (omega arith)) (λ t z. absurd (omega arith)) (λ p s h w z. absurd (omega arith))));
   verdict-granule = judging.judged-granule taskPoint;
   plain-granule = judging.judged-granule taskTick;
+  page-granule = paging.page-granule;
   build-refused = λ g ps out o t p n. p .1 .1 ∙ left-refused (p .0) (harmonicPlan (wanted (granules g) ps) ps) out (λ z. n (rw (p .2) z));
   write-refused = λ i f ps ts rs out o t p n. p .1 .1 ∙ left-refused (writeOf i f ps ts rs (length out)) (fileOf i f ps ts rs) out (λ z. n (rw (write-is i f ps ts rs out o t p) z));
   curve-refused = λ i plan p n list o t c r. c .1 .1 ∙ left-refused (c .0) (leastCurve (ruleOf i) plan p n) list (λ z. r (rw (c .2) z));
+  page-refused = paging.refused-leaves;
   list-refused = λ b out o t p n. p .1 .1 ∙ left-refused (listOf b (length out)) (listingOf b) out (λ z. n (rw (list-is b out o t p) z));
   fill-refused = λ plan ps list o t p n. p .1 .1 ∙ left-refused (p .0) (runningCounts plan ps) list (λ z. n (rw (p .2) z));
   many-refused = λ plan ps list qs out o t p n. p .1 .1 ∙ left-refused (p .0) (listed (answerAt plan qs) (questions qs)) out (λ z. n (rw (p .2) z));
@@ -521,6 +528,7 @@ one-outcome = record {
   change-one = counting.change-one;
   verdict-one = λ i g plan ps ts place. same-told toldJudged (Judges (given i g) plan ps ts place) (verdict.proved .verdict-one (given i g) plan ps ts place);
   plain-one = λ i g plan ps ts place. same-told toldJudged (JudgesPlainly (given i g) plan ps ts place) (verdict.proved .plain-one (given i g) plan ps ts place);
+  page-one = λ i g plan ps ts place list. same-left toldPage (Pages (given i g) plan ps ts place list) (page.proved .page-one (given i g) plan ps ts place list);
   read-one = λ b. same-told toldReading (Reads b) (reader.proved .one-read b);
   section-one = λ b which. same-told (toldPart which) (Reads b) (reader.proved .one-read b);
   write-one = λ i f ps ts rs out. same-left toldFilling (Writes i f ps ts rs out) (writer.proved .one-write i f ps ts rs out);
@@ -544,6 +552,7 @@ second = record {
   of-builder = builder.proved;
   of-counts = counts.proved;
   of-verdicts = verdict.proved;
+  of-pages = page.proved;
   of-reader = reader.proved;
   of-writer = writer.proved;
   of-runs = runs.proved;
@@ -562,6 +571,7 @@ second = record {
   counts-walked = counting.walked;
   counts-follow = counting.follow;
   engines-alike = judging.engines-alike;
+  page-says = paging.page-says;
   accepted-before = λ i g plan ps t u p e q.
       rw (judging.check-is 1 g plan ps u q, checker.proved .accepted-before (given i g) plan ps (judging.accepted-is i g plan ps t p e));
   passed-before = judging.passed-before taskPoint (verdict.proved .by-points) judging.point-from-1;

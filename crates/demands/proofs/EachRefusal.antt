@@ -35,6 +35,7 @@ use Rattle.desk.specs.Table.{openOf}
 use Rattle.desk.specs.Reason.{roomAt, placesOf, largestRoom, asRoomy, roomiest, late, bindingAt, explanationOf}
 use Rattle.desk.specs.Request.{requestOf}
 use Rattle.demands.proofs.Judging.{TellsBy}
+use Rattle.demands.proofs.Paging.{page-verdicts, pages}
 use Rattle.demands.specs.EachRefusal.{EachPlan, EachVerdict, EachCount, EachFile, EachText, EachEdition, EachDesk, EachLimit, EachRefusal}
 
 plans : EachPlan
@@ -264,4 +265,4 @@ limits = record {
 }
 
 pub each-refusal : EachRefusal
-each-refusal = record { plans = plans; verdicts = verdicts taskPoint; plain-verdicts = verdicts taskTick; counts = counts; files = files; texts = texts; editions = editions; desks = desks; limits = limits }
+each-refusal = record { plans = plans; verdicts = verdicts taskPoint; plain-verdicts = verdicts taskTick; page-verdicts = page-verdicts; pages = pages; counts = counts; files = files; texts = texts; editions = editions; desks = desks; limits = limits }

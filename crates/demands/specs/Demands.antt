@@ -15,7 +15,7 @@ use prog.Wp.{Heap}
 use ghost.Atoms.{Atoms}
 use contract.Monad.{Fun}
 use Rattle.rules.specs.Limits.{longest, mostGranule, newestEdition}
-use Rattle.rules.specs.Table.{partitions, deadline}
+use Rattle.rules.specs.Table.{partitions, partition, deadline}
 use Rattle.rules.specs.Terms.{granules, ruleOf, wanted}
 use Rattle.rules.specs.Refusals.{placed, telling}
 use Rattle.rules.specs.declared.Binding.the-variants as binding
@@ -24,15 +24,18 @@ use Rattle.tables.specs.Tables.{withinLimits, GoodTables}
 use Rattle.output.specs.Theorems as output
 use Rattle.rules.specs.declared.Rule.{Rule}
 use Rattle.rules.specs.declared.Rule.the-variants.{Own}
-use Rattle.theory.specs.Plan.{held, Serves}
+use Rattle.theory.specs.Plan.{held, least, Serves}
 use Rattle.theory.specs.Harmonic.{Harmonic, frame, allWanted}
 use Rattle.theory.specs.Run.{Ran, done, LegalTo, Legal}
+use Rattle.theory.specs.Load.{shortage}
+use Rattle.theory.specs.Task.{taskLoad}
 use Rattle.theory.specs.Theorems as theory
 use Rattle.plan_curve.specs.Theorems as curve
 use Rattle.plan_check.specs.Theorems as checker
 use Rattle.plan_build.specs.Theorems as built-plans
 use Rattle.counts.specs.Theorems as counts
 use Rattle.task_verdict.specs.Theorems as verdict
+use Rattle.task_page.specs.Theorems as page
 use Rattle.file_read.specs.Theorems as reader
 use Rattle.file_write.specs.Theorems as writer
 use Rattle.file_runs.specs.Theorems as runs
@@ -45,7 +48,7 @@ use Rattle.desk.specs.Places.{early, startAt}
 use Rattle.desk.specs.Request.{kept}
 use Rattle.desk.specs.Theorems as desk
 use Rattle.desk_lent.specs.Theorems as lent
-use Rattle.api.specs.Answers.{TellsHeld, TellsLeast, TellsCurve, TellsCheck, TellsBuild, TellsFill, TellsCounted, TellsMany, TellsChange, TellsVerdict, TellsPlain, TellsRead, TellsSection, TellsWrite, TellsList, TellsOpen, TellsRequest}
+use Rattle.api.specs.Answers.{TellsHeld, TellsLeast, TellsCurve, TellsCheck, TellsBuild, TellsFill, TellsCounted, TellsMany, TellsChange, TellsVerdict, TellsPlain, TellsPage, TellsRead, TellsSection, TellsWrite, TellsList, TellsOpen, TellsRequest}
 use Rattle.demands.specs.Entries.{Entries}
 use Rattle.demands.specs.GranuleOne.{GranuleOne}
 
@@ -95,6 +98,10 @@ pub record Demand1 : Type 0 where
   -- "the verdict 3, 6, 7, 8, 9" with 2 and "21, after 3"
   pub verdict-numbers : (e g : ℕ) (plan ps ts : List ℕ) (place : ℕ) (t : Told) → TellsVerdict e g plan ps ts place t → Numbered (2 ∷ 3 ∷ 21 ∷ 6 ∷ 7 ∷ 8 ∷ 9 ∷ []) t
   pub plain-numbers : (e g : ℕ) (plan ps ts : List ℕ) (place : ℕ) (t : Told) → TellsPlain e g plan ps ts place t → Numbered (2 ∷ 3 ∷ 21 ∷ 6 ∷ 7 ∷ 8 ∷ 9 ∷ []) t
+  -- document 02, ask 7: "Refusals: the verdict's; a list too short for a failing task's points is 12."
+  pub page-numbers :
+      (e g : ℕ) (plan ps ts : List ℕ) (place : ℕ) (list o : List ℕ) (t : Told) → TellsPage e g plan ps ts place list o t
+      → Numbered (2 ∷ 3 ∷ 21 ∷ 6 ∷ 7 ∷ 8 ∷ 9 ∷ 12 ∷ []) t
   -- "the reader uses 1 to 8"
   pub read-numbers : (b : List ℕ) (t : Told) → TellsRead b t → Numbered (1 ∷ 2 ∷ 3 ∷ 4 ∷ 5 ∷ 6 ∷ 7 ∷ 8 ∷ []) t
   -- of a file that the reader refuses a section tells the reader's refusal, whatever part is asked for
@@ -118,6 +125,8 @@ pub record Demand1 : Type 0 where
   pub check-edition : (e g : ℕ) (plan ps : List ℕ) (t : Told) → TellsCheck e g plan ps t → (t .number ≡ 2) ↔ (¬ Known e)
   pub verdict-edition : (e g : ℕ) (plan ps ts : List ℕ) (place : ℕ) (t : Told) → TellsVerdict e g plan ps ts place t → (t .number ≡ 2) ↔ (¬ Known e)
   pub plain-edition : (e g : ℕ) (plan ps ts : List ℕ) (place : ℕ) (t : Told) → TellsPlain e g plan ps ts place t → (t .number ≡ 2) ↔ (¬ Known e)
+  pub page-edition :
+      (e g : ℕ) (plan ps ts : List ℕ) (place : ℕ) (list o : List ℕ) (t : Told) → TellsPage e g plan ps ts place list o t → (t .number ≡ 2) ↔ (¬ Known e)
   pub write-edition : (e f : ℕ) (ps ts rs out o : List ℕ) (t : Told) → TellsWrite e f ps ts rs out o t → (t .number ≡ 2) ↔ (¬ Known e)
   -- document 02, ask 5: "g outside 1 to 16 is 21, after 3": exactly then, whatever the records and the plan
   pub build-granule : (g : ℕ) (ps out o : List ℕ) (t : Told) → TellsBuild g ps out o t → (t .number ≡ 21) ↔ BadGranule 1 g longest ps []
@@ -126,10 +135,15 @@ pub record Demand1 : Type 0 where
       (e g : ℕ) (plan ps ts : List ℕ) (place : ℕ) (t : Told) → TellsVerdict e g plan ps ts place t → (t .number ≡ 21) ↔ BadGranule e g (length plan) ps ts
   pub plain-granule :
       (e g : ℕ) (plan ps ts : List ℕ) (place : ℕ) (t : Told) → TellsPlain e g plan ps ts place t → (t .number ≡ 21) ↔ BadGranule e g (length plan) ps ts
+  pub page-granule :
+      (e g : ℕ) (plan ps ts : List ℕ) (place : ℕ) (list o : List ℕ) (t : Told) → TellsPage e g plan ps ts place list o t
+      → (t .number ≡ 21) ↔ BadGranule e g (length plan) ps ts
   -- "refusals 1 to 12 change no output byte", and 21 "changes no output byte"
   pub build-refused : (g : ℕ) (ps out o : List ℕ) (t : Told) → TellsBuild g ps out o t → Refused t → o ≡ out
   pub write-refused : (e f : ℕ) (ps ts rs out o : List ℕ) (t : Told) → TellsWrite e f ps ts rs out o t → Refused t → o ≡ out
   pub curve-refused : (e : ℕ) (plan : List ℕ) (p n : ℕ) (list o : List ℕ) (t : Told) → TellsCurve e plan p n list o t → Refused t → o ≡ list
+  pub page-refused :
+      (e g : ℕ) (plan ps ts : List ℕ) (place : ℕ) (list o : List ℕ) (t : Told) → TellsPage e g plan ps ts place list o t → Refused t → o ≡ list
   pub list-refused : (b out o : List ℕ) (t : Told) → TellsList b out o t → Refused t → o ≡ out
   -- document 02, ask 2: "None of them changes anything."
   pub fill-refused : (plan ps list o : List ℕ) (t : Told) → TellsFill plan ps list o t → Refused t → o ≡ list
@@ -170,6 +184,9 @@ pub record OneOutcome : Type 0 where
       → TellsChange plan ps list tick owner plan₂ o₂ t′ → (t ≡ t′) × (plan₁ ≡ plan₂) × (o₁ ≡ o₂)
   pub verdict-one : (e g : ℕ) (plan ps ts : List ℕ) (place : ℕ) (t t′ : Told) → TellsVerdict e g plan ps ts place t → TellsVerdict e g plan ps ts place t′ → t ≡ t′
   pub plain-one : (e g : ℕ) (plan ps ts : List ℕ) (place : ℕ) (t t′ : Told) → TellsPlain e g plan ps ts place t → TellsPlain e g plan ps ts place t′ → t ≡ t′
+  pub page-one :
+      (e g : ℕ) (plan ps ts : List ℕ) (place : ℕ) (list o o′ : List ℕ) (t t′ : Told) → TellsPage e g plan ps ts place list o t → TellsPage e g plan ps ts place list o′ t′
+      → (t ≡ t′) × (o ≡ o′)
   pub read-one : (b : List ℕ) (t t′ : Told) → TellsRead b t → TellsRead b t′ → t ≡ t′
   pub section-one : (b : List ℕ) (which : ℕ) (t t′ : Told) → TellsSection b which t → TellsSection b which t′ → t ≡ t′
   pub write-one :
@@ -190,6 +207,22 @@ abbrev pub PassedBefore : (ℕ → ℕ → List ℕ → List ℕ → List ℕ �
 PassedBefore tells =
     (e g : ℕ) (plan ps ts : List ℕ) (place : ℕ) (t u : Told) → tells e g plan ps ts place t → t .number ≡ 0 → 1 ≤ t .first
     → tells 1 g plan ps ts place u → (u .number ≡ 0) × (1 ≤ u .first)
+
+-- document 02, ask 7: what is told of a task and then stands in a list, beside the verdict's u
+pub record PageSays (e : ℕ) (plan ts : List ℕ) (i : ℕ) (list o : List ℕ) (t u : Told) : Type 0 where
+  -- "A passing task lists nothing" and answers as the verdict does
+  pub pass : 1 ≤ u .first → u .number ≡ 0 → (t ≡ u) × (o ≡ list)
+  -- "Refusals: the verdict's"
+  pub refused : Refused u → t ≡ u
+  -- 12 behind them, of a failing task alone
+  pub short : t .number ≡ 12 → (u .number ≡ 0) × (u .first ≡ 0)
+  -- "for each scheduling point in rising order, its demand, its least service and a worst start (the lowest)"
+  pub rows : t .number ≡ 0 → t .first ≡ 0 → page.Rows (ruleOf e) plan ts i (t .second) list o
+  -- "and name the point with the smallest shortage, lowest point on equals", with that shortage
+  pub tightest :
+      t .number ≡ 0 → t .first ≡ 0
+      → theory.TightestPoint (taskLoad ts) (least (ruleOf e) plan (partition ts i)) i (t .third)
+      × (t .fourth ≡ shortage (taskLoad ts) (least (ruleOf e) plan (partition ts i)) i (t .third)) × (1 ≤ t .fourth)
 
 -- each flexibility in the table is the rule's own, worked out from nothing
 abbrev pub Afresh : Desk → List Job → Type 0
@@ -222,6 +255,7 @@ pub record Demand2 : Type 0 where
   pub of-builder : built-plans.Proved
   pub of-counts : counts.Proved
   pub of-verdicts : verdict.Proved
+  pub of-pages : page.Proved
   pub of-reader : reader.Proved
   pub of-writer : writer.Proved
   pub of-runs : runs.Proved
@@ -250,6 +284,10 @@ pub record Demand2 : Type 0 where
   pub engines-alike :
       (e g : ℕ) (plan ps ts : List ℕ) (place : ℕ) (t u : Told) → TellsVerdict e g plan ps ts place t → TellsPlain e g plan ps ts place u
       → ToldAlike t u
+  -- document 02, ask 7: "When a task fails, his engineer wants the reason."
+  pub page-says :
+      (e g : ℕ) (plan ps ts : List ℕ) (place : ℕ) (list o : List ℕ) (t u : Told) → TellsPage e g plan ps ts place list o t → TellsVerdict e g plan ps ts place u
+      → PageSays e plan ts (place - 1) list o t u
   -- document 02, ask 6: a plan that is accepted in edition 2 is so in edition 1, and a task that passes there, by either engine, passes here
   pub accepted-before : (e g : ℕ) (plan ps : List ℕ) (t u : Told) → TellsCheck e g plan ps t → t .number ≡ 0 → TellsCheck 1 g plan ps u → u .number ≡ 0
   pub passed-before : PassedBefore TellsVerdict

@@ -11,7 +11,7 @@ use Rattle.share_line.specs.Expected.{expectedLine}
 use Rattle.share_plan.specs.Answer.{Plans}
 use Rattle.desk.specs.declared.Job.{Job}
 use Rattle.desk.specs.Table.{job, filled, flexes}
-use Rattle.api.specs.Answers.{TellsHeld, TellsLeast, TellsCurve, TellsCheck, TellsBuild, TellsFill, TellsCounted, TellsMany, TellsChange, TellsVerdict, TellsPlain, TellsRead, TellsSection, TellsWrite, TellsList, TellsOpen, TellsRequest}
+use Rattle.api.specs.Answers.{TellsHeld, TellsLeast, TellsCurve, TellsCheck, TellsBuild, TellsFill, TellsCounted, TellsMany, TellsChange, TellsVerdict, TellsPlain, TellsPage, TellsRead, TellsSection, TellsWrite, TellsList, TellsOpen, TellsRequest}
 use Rattle.demands.specs.Document01.{three, eight, plan1, plan5, two, desk, opened, file, contained, page}
 
 -- a partition of cycle 4 that wants 2, and one like it with share 0
@@ -111,6 +111,22 @@ pub record EachVerdict (tells : ℕ → ℕ → List ℕ → List ℕ → List �
   pub verdict-8 : tells 1 1 (4 ∷ drop 1 plan1) (three 1 100) (two 14) 1 (placed 8 1)
   pub verdict-9 : tells 1 1 plan1 (three 1 2) (two 14) 1 (telling 9 3 0 1 4)
   pub verdict-9-granule : tells 1 2 plan1 (three 1 100) (two 14) 1 (telling 9 1 0 1 2)
+
+-- a list of rows that holds something
+abbrev pub rows-room : List ℕ
+rows-room = replicate 6 7
+
+-- what a call tells of the page, where that list is then as it was
+abbrev pub TellsUnpaged : ℕ → ℕ → List ℕ → List ℕ → List ℕ → ℕ → Told → Type 0
+TellsUnpaged e g plan ps ts place = TellsPage e g plan ps ts place rows-room rows-room
+
+-- the page's own: V2's first reading fails at its one point, a list of fewer numbers is 12, behind all others, and V2's second passes
+pub record EachPage : Type 0 where
+  pub page-fail : TellsPage 1 1 plan1 (three 1 100) (two 13) 2 rows-room (13 ∷ 4 ∷ 3 ∷ 4 ∷ drop 4 rows-room) (telling 0 0 1 13 1)
+  pub page-exact : TellsPage 1 1 plan1 (three 1 100) (two 13) 2 (take 4 rows-room) (13 ∷ 4 ∷ 3 ∷ 4 ∷ []) (telling 0 0 1 13 1)
+  pub page-12 : TellsPage 1 1 plan1 (three 1 100) (two 13) 2 (take 3 rows-room) (take 3 rows-room) (placed 12 0)
+  pub page-9-first : TellsPage 1 1 plan1 (three 1 2) (two 13) 2 [] [] (telling 9 3 0 1 4)
+  pub page-pass : TellsPage 1 1 plan1 (three 1 100) (two 14) 2 [] [] (placed 0 14)
 
 -- a plan of two partitions that doesn't serve them, its running counts with one number behind them, and the same with the last count off by one
 abbrev pub unserved : List ℕ
@@ -347,6 +363,8 @@ pub record EachRefusal : Type 0 where
   pub plans : EachPlan
   pub verdicts : EachVerdict TellsVerdict
   pub plain-verdicts : EachVerdict TellsPlain
+  pub page-verdicts : EachVerdict TellsUnpaged
+  pub pages : EachPage
   pub counts : EachCount
   pub files : EachFile
   pub texts : EachText

@@ -17,6 +17,7 @@ use Rattle.plan_check.specs.Check.{Checks}
 use Rattle.plan_build.specs.Build.{Builds}
 use Rattle.counts.specs.Counts.{FillsCounts, HoldsOne, HoldsMany, Changes}
 use Rattle.task_verdict.specs.Verdict.{Judges, JudgesPlainly}
+use Rattle.task_page.specs.Page.{Pages}
 use Rattle.file_read.specs.Reader.{Reads, HandsBack}
 use Rattle.file_write.specs.Writer.{Writes}
 use Rattle.output.specs.Put.{Put}
@@ -25,7 +26,7 @@ use Rattle.file_listing.specs.Listing.{Lists}
 use Rattle.share_text.specs.Table.{ReadsText}
 use Rattle.share_plan.specs.Answer.{Plans}
 use Rattle.desk.specs.Call.{callOf, Leaves}
-use Rattle.api.specs.Answers.{TellsHeld, TellsLeast, TellsCurve, TellsCheck, TellsBuild, TellsFill, TellsCounted, TellsMany, TellsChange, TellsVerdict, TellsPlain, TellsRead, TellsSection, TellsWrite, TellsList, TellsOpen, TellsRequest}
+use Rattle.api.specs.Answers.{TellsHeld, TellsLeast, TellsCurve, TellsCheck, TellsBuild, TellsFill, TellsCounted, TellsMany, TellsChange, TellsVerdict, TellsPlain, TellsPage, TellsRead, TellsSection, TellsWrite, TellsList, TellsOpen, TellsRequest}
 use Rattle.api.proofs.merkazobi_wants as c-wants
 use Rattle.api.proofs.merkazobi_held as c-held
 use Rattle.api.proofs.merkazobi_least as c-least
@@ -38,6 +39,7 @@ use Rattle.api.proofs.merkazobi_counts_held_many as c-many
 use Rattle.api.proofs.merkazobi_counts_change as c-change
 use Rattle.api.proofs.merkazobi_verdict as c-verdict
 use Rattle.api.proofs.merkazobi_plain as c-plain
+use Rattle.api.proofs.merkazobi_page as c-page
 use Rattle.api.proofs.merkazobi_read as c-read
 use Rattle.api.proofs.merkazobi_section as c-section
 use Rattle.api.proofs.merkazobi_write as c-write
@@ -56,6 +58,7 @@ use Rattle.plan_counts.proofs.held_many as many
 use Rattle.plan_counts.proofs.change as change
 use Rattle.task_verdict.proofs.verdict as verdict
 use Rattle.task_verdict.proofs.plain as plain
+use Rattle.task_page.proofs.page as page
 use Rattle.file_read.proofs.read as read
 use Rattle.file_read.proofs.section as section
 use Rattle.file_write.proofs.write as write
@@ -93,6 +96,10 @@ module _ {M : Type 1} (𝓤 : URA M) (H : Heap 𝓤) (A : Atoms 𝓤) (mem : Mem
         (λ κs a r e. TellsVerdict (a .0) (a .1 .0) (a .1 .1 .0 .now) (a .1 .1 .1 .0 .now) (a .1 .1 .1 .1 .0 .now) (a .1 .1 .1 .1 .1 .0) r)
     pub of-c-plain : Ensures c-plain.ended (c-plain.clauses 𝓤 H A mem run)
         (λ κs a r e. TellsPlain (a .0) (a .1 .0) (a .1 .1 .0 .now) (a .1 .1 .1 .0 .now) (a .1 .1 .1 .1 .0 .now) (a .1 .1 .1 .1 .1 .0) r)
+    pub of-c-page : Ensures c-page.ended (c-page.clauses 𝓤 H A mem run)
+        (λ κs a r e.
+        TellsPage (a .0) (a .1 .0) (a .1 .1 .0 .now) (a .1 .1 .1 .0 .now) (a .1 .1 .1 .1 .0 .now) (a .1 .1 .1 .1 .1 .0) (a .1 .1 .1 .1 .1 .1 .0 .now)
+        (e .1 .1 .1 .1 .1 .1 .0 .now) r)
     pub of-c-read : Ensures c-read.ended (c-read.clauses 𝓤 H A mem run) (λ κs a r e. TellsRead (a .0 .now) r)
     pub of-c-section : Ensures c-section.ended (c-section.clauses 𝓤 H A mem run) (λ κs a r e. TellsSection (a .0 .now) (a .1 .0) r)
     pub of-c-write : Ensures c-write.ended (c-write.clauses 𝓤 H A mem run)
@@ -118,6 +125,8 @@ module _ {M : Type 1} (𝓤 : URA M) (H : Heap 𝓤) (A : Atoms 𝓤) (mem : Mem
         (λ κs a r e. Changes (a .0 .now) (a .1 .0 .now) (a .1 .1 .0 .now) (a .1 .1 .1 .0) (a .1 .1 .1 .1 .0) (e .0 .now) (e .1 .1 .0 .now) r)
     pub of-verdict : Ensures verdict.ended (verdict.clauses 𝓤 H A mem run) (λ κs a r e. Judges (a .0) (a .1 .0 .now) (a .1 .1 .0 .now) (a .1 .1 .1 .0 .now) (a .1 .1 .1 .1 .0) r)
     pub of-plain : Ensures plain.ended (plain.clauses 𝓤 H A mem run) (λ κs a r e. JudgesPlainly (a .0) (a .1 .0 .now) (a .1 .1 .0 .now) (a .1 .1 .1 .0 .now) (a .1 .1 .1 .1 .0) r)
+    pub of-page : Ensures page.ended (page.clauses 𝓤 H A mem run)
+        (λ κs a r e. Pages (a .0) (a .1 .0 .now) (a .1 .1 .0 .now) (a .1 .1 .1 .0 .now) (a .1 .1 .1 .1 .0) (a .1 .1 .1 .1 .1 .0 .now) (e .1 .1 .1 .1 .1 .0 .now) r)
     pub of-read : Ensures read.ended (read.clauses 𝓤 H A mem run) (λ κs a r e. Reads (a .0 .now) r)
     pub of-section : Ensures section.ended (section.clauses 𝓤 H A mem run) (λ κs a r e. HandsBack (a .0 .now) (a .1 .0) (r .now))
     pub of-write : Ensures write.ended (write.clauses 𝓤 H A mem run)

@@ -7,16 +7,16 @@ use mathlib.Core.List.{List, [], _∷_}
 use native.Mathlib.Nat.{eq-or-lt-of-le}
 use native.Mathlib.Numerals.{add-one}
 use native.Mathlib.Omega.{arith}
-use lib.Dec.{leb, ltb}
+use lib.Dec.{leb, ltb, eqb}
 use lib.ListN.{length, drop, getD, length-drop}
-use borrow.Author.Tests.{lt-ltb, le-ltb, ltb-true, ltb-false, leb-true, leb-false}
+use borrow.Author.Tests.{le-ltb, ltb-true, ltb-false, leb-true, eqb-true, eqb-false}
 use Rattle.rules.specs.Walk.{pick}
 use Rattle.rules.specs.declared.Binding.the-variants.{Own, Listed}
+use Rattle.rules.specs.declared.Explanation.the-variants.{Nowhere}
 use Rattle.desk.specs.declared.Job.{Job}
 use Rattle.desk.specs.Table.{start, flex, ends, none, rightX}
 use Rattle.desk.specs.Places.{early, startAt, room}
 use Rattle.desk.specs.Reason.{roomAt, placesOf, bindingAt, explanationOf}
-use Rattle.desk.specs.Theorems.{Roomy}
 use Rattle.desk.proofs.Chain.{Chain}
 use Rattle.desk.proofs.Late.{beforeTight}
 use Rattle.desk.proofs.Rooms.{early-none, early-at, at-drop, room-early}
@@ -42,6 +42,9 @@ tight-few (j ∷ js) = cases (tight j) (tight-few js) where
   cases true h = omega arith
   cases false h = omega arith
 
+some : (p : ℕ) → (p ≡ 0 → ⊥) → 0 < p
+some p h = omega arith
+
 own-tick : (s d a x : ℕ) → s ≤ a → a ≤ d → d - a ≤ x → d < s + (a - s + min (d - a) x + 1)
 own-tick s d a x h g f = omega arith
 
@@ -56,39 +59,38 @@ module _ (t d : ℕ) (js : List Job) (order : Chain t js) (right : rightX js ≡
     due : b .listed ≡ true → startAt t js (b .place) + (b .room + 1) ≤ d
     job : b .listed ≡ true → pick (b .seeking) (b .job + beforeTight ks) (b .job) ≡ b .place + beforeTight (drop (b .place) js)
 
-  -- b is the roomiest of the first p places
+  -- b is the roomiest of the first p places, where there are any
   record Known (p : ℕ) (ks : List Job) (b : Best) : Type 0 where
-    nothing : b .some ≡ false → p ≡ 0
-    inside : b .some ≡ true → b .place < p
-    room-is : b .some ≡ true → roomAt t d js (b .place) ≡ b .room
-    largest : b .some ≡ true → (i : ℕ) → i < p → roomAt t d js i ≤ b .room
-    lowest : b .some ≡ true → (i : ℕ) → i < b .place → roomAt t d js i < b .room
-    binds : b .some ≡ true → Binds ks b
+    inside : 0 < p → b .place < p
+    room-is : 0 < p → roomAt t d js (b .place) ≡ b .room
+    largest : 0 < p → (i : ℕ) → i < p → roomAt t d js i ≤ b .room
+    lowest : 0 < p → (i : ℕ) → i < b .place → roomAt t d js i < b .room
+    binds : 0 < p → Binds ks b
 
   known-none : (ks : List Job) → Known 0 ks noBest
   known-none ks = record {
-    nothing = λ e. refl;
-    inside = λ e. absurd (true≢false (sym e));
-    room-is = λ e. absurd (true≢false (sym e));
-    largest = λ e. absurd (true≢false (sym e));
-    lowest = λ e. absurd (true≢false (sym e));
-    binds = λ e. absurd (true≢false (sym e));
+    inside = λ e. absurd (omega arith);
+    room-is = λ e. absurd (omega arith);
+    largest = λ e. absurd (omega arith);
+    lowest = λ e. absurd (omega arith);
+    binds = λ e. absurd (omega arith);
   }
 
   -- ---- one more place
 
-  -- of the places before p, those that b outdoes
-  under : (p : ℕ) (ks : List Job) (b : Best) (r : ℕ) → Known p ks b → outdone b r ≡ true → (i : ℕ) → i < p → roomAt t d js i < r
-  under p ks b r w h i l = cases (b .some) refl h where
-    cases : (v : Bool) → b .some ≡ v → pick v (ltb (b .room) r) true ≡ true → roomAt t d js i < r
-    cases true e f = omega (arith, w .largest e i l, ltb-true (b .room) r f)
-    cases false e f = absurd (omega (arith, w .nothing e))
+  -- the places before p, where p outdoes b
+  under : (p : ℕ) (ks : List Job) (b : Best) (r : ℕ) → Known p ks b → outdone b p r ≡ true → (i : ℕ) → i < p → roomAt t d js i < r
+  under p ks b r w h i l = cases (eqb p 0) refl h where
+    cases : (v : Bool) → eqb p 0 ≡ v → pick v true (ltb (b .room) r) ≡ true → roomAt t d js i < r
+    cases true e f = absurd (omega (arith, eqb-true p 0 e))
+    cases false e f = omega (arith, w .largest (omega arith) i l, ltb-true (b .room) r f)
 
-  stays-under : (b : Best) (r : ℕ) → outdone b r ≡ false → (b .some ≡ true) × (r ≤ b .room)
-  stays-under b r h = cases (b .some) refl h where
-    cases : (v : Bool) → b .some ≡ v → pick v (ltb (b .room) r) true ≡ false → (b .some ≡ true) × (r ≤ b .room)
-    cases true e f = (e, ltb-false (b .room) r f)
-    cases false e f = absurd (true≢false f)
+  -- and where it does not
+  stays-under : (p : ℕ) (b : Best) (r : ℕ) → outdone b p r ≡ false → (0 < p) × (r ≤ b .room)
+  stays-under p b r h = cases (eqb p 0) refl h where
+    cases : (v : Bool) → eqb p 0 ≡ v → pick v true (ltb (b .room) r) ≡ false → (0 < p) × (r ≤ b .room)
+    cases true e f = absurd (true≢false f)
+    cases false e f = (some p (eqb-false p 0 e), ltb-false (b .room) r f)
 
   -- a place p, its room r and what binds it
   record Tried (p : ℕ) (ks : List Job) (r : ℕ) (listed : Bool) : Type 0 where
@@ -99,7 +101,7 @@ module _ (t d : ℕ) (js : List Job) (order : Chain t js) (right : rightX js ≡
     rest : listed ≡ true → drop p js ≡ ks
 
   known-with : (p : ℕ) (ks : List Job) (b : Best) (r : ℕ) (listed : Bool) → Known p ks b → Tried p ks r listed → Known (p + 1) ks (bestWith b p r listed)
-  known-with p ks b r listed w v = cases (outdone b r) refl where
+  known-with p ks b r listed w v = cases (outdone b p r) refl where
     upto : (m : ℕ) → ((i : ℕ) → i < p → roomAt t d js i ≤ m) → r ≤ m → (i : ℕ) → i < p + 1 → roomAt t d js i ≤ m
     upto m below here i l =
         let small : i ≤ p = omega arith in
@@ -108,10 +110,8 @@ module _ (t d : ℕ) (js : List Job) (order : Chain t js) (right : rightX js ≡
     job-is : listed ≡ true → pick listed (p + beforeTight ks) p ≡ p + beforeTight (drop p js)
     job-is e = rw (e, v .rest e)
 
-    cases : (o : Bool) → outdone b r ≡ o
-        → Known (p + 1) ks (pick o (record { some = true; place = p; room = r; listed = listed; seeking = listed; job = p }) b)
+    cases : (o : Bool) → outdone b p r ≡ o → Known (p + 1) ks (pick o (record { place = p; room = r; job = p; listed = listed; seeking = listed }) b)
     cases true h = record {
-      nothing = λ e. absurd (true≢false e);
       inside = λ e. omega arith;
       room-is = λ e. v .room-is;
       largest = λ e. upto r (λ i l. let z = under p ks b r w h i l in omega arith) (omega arith);
@@ -119,24 +119,22 @@ module _ (t d : ℕ) (js : List Job) (order : Chain t js) (right : rightX js ≡
       binds = λ e. record { own = v .own; before = v .before; due = v .due; job = job-is };
     }
     cases false h =
-        let two = stays-under b r h in
+        let two = stays-under p b r h in
         record {
-          nothing = λ e. absurd (true≢false (sym (two .0) ∙ e));
-          inside = λ e. omega (arith, w .inside e);
-          room-is = w .room-is;
-          largest = λ e. upto (b .room) (w .largest e) (two .1);
-          lowest = w .lowest;
-          binds = w .binds;
+          inside = λ e. omega (arith, w .inside (two .0));
+          room-is = λ e. w .room-is (two .0);
+          largest = λ e. upto (b .room) (w .largest (two .0)) (two .1);
+          lowest = λ e. w .lowest (two .0);
+          binds = λ e. w .binds (two .0);
         }
 
   -- ---- one more job
 
   -- the same place, with what is known of the job that binds
   known-as : (p : ℕ) (ks js₂ : List Job) (b : Best) (seeking : Bool) (n : ℕ) → Known p ks b
-      → (b .some ≡ true → b .listed ≡ true → pick seeking (n + beforeTight js₂) n ≡ b .place + beforeTight (drop (b .place) js))
-      → Known p js₂ (record { some = b .some; place = b .place; room = b .room; listed = b .listed; seeking = seeking; job = n })
+      → (0 < p → b .listed ≡ true → pick seeking (n + beforeTight js₂) n ≡ b .place + beforeTight (drop (b .place) js))
+      → Known p js₂ (record { place = b .place; room = b .room; job = n; listed = b .listed; seeking = seeking })
   known-as p ks js₂ b seeking n w f = record {
-    nothing = w .nothing;
     inside = w .inside;
     room-is = w .room-is;
     largest = w .largest;
@@ -147,11 +145,11 @@ module _ (t d : ℕ) (js : List Job) (order : Chain t js) (right : rightX js ≡
   sought-known : (p : ℕ) (j : Job) (ks : List Job) (b : Best) → Known p (j ∷ ks) b → Known p ks (soughtAt b j)
   sought-known p j ks b w = by-seeking (b .seeking) refl where
     -- what is known of it before
-    told : (u v : Bool) → b .seeking ≡ u → tight j ≡ v → b .some ≡ true → b .listed ≡ true
+    told : (u v : Bool) → b .seeking ≡ u → tight j ≡ v → 0 < p → b .listed ≡ true
         → pick u (b .job + pick v 0 (suc (beforeTight ks))) (b .job) ≡ b .place + beforeTight (drop (b .place) js)
     told u v e f h g = rw (e, f) at (w .binds h .job g)
 
-    small : b .some ≡ true → b .listed ≡ true → b .place + beforeTight (drop (b .place) js) ≤ length js
+    small : 0 < p → b .listed ≡ true → b .place + beforeTight (drop (b .place) js) ≤ length js
     small h g =
         let short = early-at t d (b .place) js order (w .binds h .before g) .0 in
         omega (arith, tight-few (drop (b .place) js), length-drop (b .place) js)
@@ -223,49 +221,58 @@ module _ (t d : ℕ) (js : List Job) (order : Chain t js) (right : rightX js ≡
   abbrev s : ℕ
   s = startAt t js l
 
+  places-with : leb s d ≡ true → placesOf t d js ≡ l + 1
+  unfolding placesOf
+  places-with h = rw (h, add-one)
+
+  places-without : leb s d ≡ false → placesOf t d js ≡ l
+  unfolding placesOf
+  places-without h = rw h
+
+  last-tried : s ≤ d → Tried l [] (d - s) false
+  unfolding roomAt
+  last-tried by = record {
+    room-is = rw (le-ltb l l (omega arith));
+    own = λ z. omega arith;
+    before = λ z. absurd (true≢false (sym z));
+    due = λ z. absurd (true≢false (sym z));
+    rest = λ z. absurd (true≢false (sym z));
+  }
+
+  told-known : (b : Best) → 0 < placesOf t d js → Known (placesOf t d js) [] b → explained b ≡ explanationOf t d js
+  told-known b h w =
+      told-one t d js (b .place) (b .room) (bindingOf b)
+      (record { inside = w .inside h; room-is = w .room-is h; largest = w .largest h; lowest = w .lowest h })
+      (by-listed (b .listed) refl) where
+        by-seeking : (v : Bool) (n m : ℕ) → pick v (n + 0) n ≡ m → n ≡ m
+        by-seeking true n m e = omega arith
+        by-seeking false n m e = e
+
+        by-listed : (v : Bool) → b .listed ≡ v → bindingAt t d js (b .place) ≡ pick v (Listed (b .job)) Own
+        by-listed true e =
+            let v = w .binds h in
+            let due = rw (← w .room-is h) at (v .due e) in
+            binds-listed t d js order right (b .place) (v .before e) due ∙ ap (λ (k : ℕ). Listed k) (sym (by-seeking (b .seeking) (b .job) _ (v .job e)))
+        by-listed false e =
+            let over = rw (← w .room-is h) at (w .binds h .own e) in
+            binds-own t d js (b .place) over
+
   -- with place l, where it starts by d
-  known-last : (b : Best) → Known l [] b → Known (placesOf t d js) [] (pick (ltb d s) b (bestWith b l (d - s) false))
-  unfolding roomAt placesOf
-  known-last b w = cases (leb s d) refl where
-    here : roomAt t d js l ≡ d - s
-    here = rw (le-ltb l l (omega arith))
+  told-last : (b : Best) → Known l [] b
+      → pick (leb s d) (explained (bestWith b l (d - s) false)) (pick (eqb l 0) Nowhere (explained b)) ≡ explanationOf t d js
+  told-last b w = cases (leb s d) refl where
+    by-first : (v : Bool) → eqb l 0 ≡ v → placesOf t d js ≡ l → pick v Nowhere (explained b) ≡ explanationOf t d js
+    by-first true e z = told-none t d js (omega (arith, z, eqb-true l 0 e))
+    by-first false e z = told-known b (omega (arith, z, some l (eqb-false l 0 e))) (rw z w)
 
-    cases : (v : Bool) → leb s d ≡ v → Known (pick v (suc l) l) [] (pick (ltb d s) b (bestWith b l (d - s) false))
+    cases : (v : Bool) → leb s d ≡ v → pick v (explained (bestWith b l (d - s) false)) (pick (eqb l 0) Nowhere (explained b)) ≡ explanationOf t d js
     cases true h =
-        let by : s ≤ d = leb-true s d h in
-        let tried : Tried l [] (d - s) false = record {
-          room-is = here;
-          own = λ z. omega arith;
-          before = λ z. absurd (true≢false (sym z));
-          due = λ z. absurd (true≢false (sym z));
-          rest = λ z. absurd (true≢false (sym z));
-        } in
-        rw (le-ltb d s by) (subst (λ (q : ℕ). Known q [] (bestWith b l (d - s) false)) (add-one l) (known-with l [] b (d - s) false w tried))
-    cases false h = rw (lt-ltb d s (leb-false s d h)) w
-
-  explained-known : (b : Best) → Known (placesOf t d js) [] b → explained b ≡ explanationOf t d js
-  explained-known b w = by-some (b .some) refl where
-    by-seeking : (v : Bool) (n m : ℕ) → pick v (n + 0) n ≡ m → n ≡ m
-    by-seeking true n m e = omega arith
-    by-seeking false n m e = e
-
-    by-listed : (v : Bool) → b .listed ≡ v → b .some ≡ true → bindingAt t d js (b .place) ≡ pick v (Listed (b .job)) Own
-    by-listed true e h =
-        let v = w .binds h in
-        let due = rw (← w .room-is h) at (v .due e) in
-        binds-listed t d js order right (b .place) (v .before e) due ∙ ap (λ (k : ℕ). Listed k) (sym (by-seeking (b .seeking) (b .job) _ (v .job e)))
-    by-listed false e h =
-        let over = rw (← w .room-is h) at (w .binds h .own e) in
-        binds-own t d js (b .place) over
-
-    by-some : (v : Bool) → b .some ≡ v → explained b ≡ explanationOf t d js
-    by-some true e =
-        let all : Roomy t d js (b .place) (b .room) = record { inside = w .inside e; room-is = w .room-is e; largest = w .largest e; lowest = w .lowest e } in
-        rw e (told-one t d js (b .place) (b .room) (bindingOf b) all (by-listed (b .listed) refl e))
-    by-some false e = rw e (told-none t d js (w .nothing e))
+        let z = places-with h in
+        told-known (bestWith b l (d - s) false) (omega (arith, z)) (rw z (known-with l [] b (d - s) false w (last-tried (leb-true s d h))))
+    cases false h = by-first (eqb l 0) refl (places-without h)
 
   -- after the last job
-  pub explained-is : explained (pick (ltb d s) (bestFrom d noBest 0 t js) (bestWith (bestFrom d noBest 0 t js) l (d - s) false)) ≡ explanationOf t d js
+  pub explained-is : pick (leb s d) (explained (bestWith (bestFrom d noBest 0 t js) l (d - s) false)) (pick (eqb l 0) Nowhere (explained (bestFrom d noBest 0 t js))) ≡ explanationOf t d js
   explained-is =
       let first : early d js ≡ 0 + early d js = omega arith in
-      explained-known _ (known-last _ (known-from js 0 t noBest refl refl first order (known-none js)))
+      told-last (bestFrom d noBest 0 t js) (known-from js 0 t noBest refl refl first order (known-none js))

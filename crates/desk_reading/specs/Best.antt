@@ -8,24 +8,24 @@ use Rattle.rules.specs.Walk.{pick}
 use Rattle.rules.specs.declared.Binding.{Binding}
 use Rattle.rules.specs.declared.Binding.the-variants.{Own, Listed}
 use Rattle.rules.specs.declared.Explanation.{Explanation}
-use Rattle.rules.specs.declared.Explanation.the-variants.{Nowhere, Roomiest}
+use Rattle.rules.specs.declared.Explanation.the-variants.{Roomiest}
 use Rattle.desk.specs.declared.Job.{Job}
 use Rattle.desk.specs.Table.{flex, xOf}
 use Rattle.desk_records.specs.Sums.{sumTo}
 use Rattle.desk_reading.specs.declared.best.Best.{Best}
 
 abbrev pub noBest : Best
-noBest = record { some = false; place = 0; room = 0; listed = false; seeking = false; job = 0 }
+noBest = record { place = 0; room = 0; job = 0; listed = false; seeking = false }
 
--- a place further on with so much room is better: "the lowest place with the largest room"
-abbrev pub outdone : Best → ℕ → Bool
-outdone b room = pick (b .some) (ltb (b .room) room) true
+-- the next place, with so much room, is better: "the lowest place with the largest room"; place 0 is the first
+abbrev pub outdone : Best → ℕ → ℕ → Bool
+outdone b place room = pick (eqb place 0) true (ltb (b .room) room)
 
--- the better of the place so far and one further on
+-- the better of the place so far and the next one
 abbrev pub bestWith : Best → ℕ → ℕ → Bool → Best
 bestWith b place room listed =
-    pick (outdone b room)
-    (record { some = true; place = place; room = room; listed = listed; seeking = listed; job = place })
+    pick (outdone b place room)
+    (record { place = place; room = room; job = place; listed = listed; seeking = listed })
     b
 
 -- x is all that the job's own deadline leaves
@@ -35,7 +35,6 @@ tight j = eqb (flex j) (xOf j [])
 -- the job that binds is found
 abbrev pub foundJob : Best → Best
 foundJob b = record {
-  some = b .some;
   place = b .place;
   room = b .room;
   listed = b .listed;
@@ -46,7 +45,6 @@ foundJob b = record {
 -- it is further on
 abbrev pub nextJob : Best → Best
 nextJob b = record {
-  some = b .some;
   place = b .place;
   room = b .room;
   listed = b .listed;
@@ -63,4 +61,4 @@ abbrev pub bindingOf : Best → Binding
 bindingOf b = pick (b .listed) (Listed (b .job)) Own
 
 abbrev pub explained : Best → Explanation
-explained b = pick (b .some) (Roomiest (b .place) (b .room) (bindingOf b)) Nowhere
+explained b = Roomiest (b .place) (b .room) (bindingOf b)

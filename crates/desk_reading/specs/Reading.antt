@@ -6,13 +6,13 @@ use mathlib.Core.List.{List, []}
 use lib.Dec.{leb, ltb, eqb}
 use Rattle.rules.specs.Walk.{pick}
 use Rattle.rules.specs.declared.Explanation.{Explanation}
+use Rattle.rules.specs.declared.Explanation.the-variants.{Nowhere}
 use Rattle.desk.specs.declared.Job.{Job}
 use Rattle.desk.specs.Table.{job, start, budget, flex, ends, xOf, jobOk, zeros}
 use Rattle.desk.specs.Places.{room}
 use Rattle.desk_reading.specs.declared.checking.Checking.{Checking}
 use Rattle.desk_reading.specs.declared.searching.Searching.{Searching}
 use Rattle.desk_reading.specs.declared.scan.Scan.{Scan}
-use Rattle.desk_reading.specs.declared.best.Best.{Best}
 use Rattle.desk_reading.specs.Best.{bestWith, soughtAt, explained}
 use Rattle.desk_records.specs.Folds.{fold}
 use Rattle.desk_records.specs.Sums.{sumTo}
@@ -125,11 +125,10 @@ abbrev pub searchEnd : Searching → Bool
 searchEnd s = s .found || leb (ends (newJob s)) (s .deadline)
 
 -- with place l, which "has room d − s, bound by the request's deadline; a place with room below 0 is none"
-abbrev pub bestOf : Searching → Best
-bestOf s = pick (ltb (s .deadline) (s .start)) (s .best) (bestWith (s .best) (s .place) (s .deadline - s .start) false)
-
 abbrev pub explanationBy : Searching → Explanation
-explanationBy s = explained (bestOf s)
+explanationBy s =
+    pick (leb (s .start) (s .deadline)) (explained (bestWith (s .best) (s .place) (s .deadline - s .start) false))
+    (pick (eqb (s .place) 0) Nowhere (explained (s .best)))
 
 -- ---- the whole pass
 

@@ -10,52 +10,49 @@ use desk_records::numbers::sum;
 use rules::Binding;
 use rules::Explanation;
 
-// Whether there is one, the lowest with its room, and whether a listed job's deadline binds it. The first such job is
-// sought from the place on, `job` being the next one to look at until it is found.
+// The lowest with its room, once a place has been gone past, and whether a listed job's deadline binds it. The first
+// such job is sought from the place on, `job` being the next one to look at until it is found.
 pub struct Best {
-    pub some: bool,
     pub place: u32,
     pub room: u32,
+    pub job: u32,
     pub listed: bool,
     pub seeking: bool,
-    pub job: u32,
 }
 
 pub fn no_best() -> Best
     ensures { λ r. ⌜ r ≡ noBest ⌝ }
 {
     Best {
-        some: false,
         place: 0,
         room: 0,
+        job: 0,
         listed: false,
         seeking: false,
-        job: 0,
     }
 }
 
-// Whether a place further on with so much room is better.
-fn is_outdone(b: Best, room: u32) -> bool
-    ensures { λ r. ⌜ r ≡ outdone b room ⌝ }
+// Whether the next place, with so much room, is better: place 0 is the first.
+fn is_outdone(b: Best, place: u32, room: u32) -> bool
+    ensures { λ r. ⌜ r ≡ outdone b place room ⌝ }
 {
-    if b.some {
-        return b.room < room;
+    if place == 0 {
+        return true;
     }
-    true
+    b.room < room
 }
 
-// The better of the place so far and one further on.
+// The better of the place so far and the next one.
 pub fn best_with(b: Best, place: u32, room: u32, listed: bool) -> Best
     ensures { λ r. ⌜ r ≡ bestWith b place room listed ⌝ }
 {
-    if is_outdone(b, room) {
+    if is_outdone(b, place, room) {
         return Best {
-            some: true,
             place: place,
             room: room,
+            job: place,
             listed: listed,
             seeking: listed,
-            job: place,
         };
     }
     b
@@ -111,12 +108,9 @@ fn binding_of(b: Best) -> Binding
 pub fn explain(b: Best) -> Explanation
     ensures { λ r. ⌜ r ≡ explained b ⌝ }
 {
-    if b.some {
-        return Explanation::Roomiest {
-            place: told(b.place),
-            room: told(b.room),
-            binding: binding_of(b),
-        };
+    Explanation::Roomiest {
+        place: told(b.place),
+        room: told(b.room),
+        binding: binding_of(b),
     }
-    Explanation::Nowhere
 }

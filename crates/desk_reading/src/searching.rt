@@ -4,7 +4,7 @@ ghost use lib.Dec.{ltb, eqb};
 ghost use Rattle.rules.specs.Walk.{pick};
 ghost use Rattle.desk.specs.Table.{start};
 ghost use Rattle.desk_reading.specs.Reading.{searchDropped, searchClosed, searchPast, searchLook, searchStep};
-ghost use Rattle.desk_reading.specs.Reading.{searchBehind, newJob, searchEnd, bestOf, explanationBy};
+ghost use Rattle.desk_reading.specs.Reading.{searchBehind, newJob, searchEnd, explanationBy};
 use crate::best::Best;
 use crate::best::best_with;
 use crate::best::explain;
@@ -142,20 +142,16 @@ pub fn search_end(s: Searching) -> bool
     ends_by(new_job(s), s.deadline)
 }
 
-// The roomiest place, after the last job: place l is one where it starts by d, bound by the request's deadline.
-fn best_of(s: Searching) -> Best
-    ensures { λ r. ⌜ r ≡ bestOf s ⌝ }
-{
-    let b = s.best;
-    if s.deadline < s.start {
-        return b;
-    }
-    best_with(b, s.place, s.deadline - s.start, false)
-}
-
-// Why there is no place, after the last job.
+// Why there is no place, after the last job: place l is one too where it starts by d, bound by the request's deadline.
 pub fn explanation(s: Searching) -> Explanation
     ensures { λ r. ⌜ r ≡ explanationBy s ⌝ }
 {
-    explain(best_of(s))
+    let b = s.best;
+    if s.start <= s.deadline {
+        return explain(best_with(b, s.place, s.deadline - s.start, false));
+    }
+    if s.place == 0 {
+        return Explanation::Nowhere;
+    }
+    explain(b)
 }
