@@ -98,6 +98,26 @@ static void empty(void)
     expect_job("empty, new", 0, 7, 5, 12, 0);
 }
 
+/* What 18 says: the first place has 8 ticks, which job 1 binds, and just so many are taken there. */
+static void no_place(void)
+{
+    open_d1();
+    merkazobi_answer r = request(8, 9, 17);
+    expect("no place", r.number, MERKAZOBI_NO_PLACE);
+    expect("no place, the roomiest", r.first, 0);
+    expect("no place, its room", r.second, 8);
+    expect("no place, what binds it", r.third, MERKAZOBI_LISTED_DEADLINE);
+    expect("no place, that job", r.fourth, 1);
+    expect("no place, its deadline", table[r.fourth].d, 24);
+    r = request(8, (uint32_t)r.second, 17);
+    expect("as long as the room", r.number, 0);
+    expect("as long as the room, place", r.first, 0);
+    expect_job("as long as the room, the job that bound it", 2, 19, 5, 24, 0);
+    open_d1();
+    expect("no room at all", request(8, 1, 7).third, MERKAZOBI_NO_ROOM);
+    expect("its own deadline", request(8, 9, 16).third, MERKAZOBI_OWN_DEADLINE);
+}
+
 /* The ticks that went by while the box slept; it wakes `late` ticks after it should. */
 static uint32_t late;
 
@@ -143,6 +163,7 @@ int main(void)
     d5();
     d6();
     empty();
+    no_place();
     asked_again();
     return failures != 0;
 }

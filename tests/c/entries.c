@@ -36,6 +36,7 @@ typedef struct {
     uint16_t parts[2 * PARTS], tasks[2 * TASKS], plan[2 * TICKS], runs[2 * RUNS];
     uint16_t ticks[2 * TICKS];
     uint32_t curve[3 * TICKS];
+    uint32_t rows[4 * TICKS];
     uint8_t file[2 * FILE_BYTES];
     uint8_t out[2 * sizeof listing];
     merkazobi_desk desk[2];
@@ -259,6 +260,48 @@ static void verdicts(const char *name, engine *judge, size_t v1, size_t v2)
          (merkazobi_answer){9, 2, 3, 4, 5, 0});
     if (failures > before)
         printf("so answered %s\n", name);
+}
+
+/* ---- The supplier's page. */
+
+static merkazobi_answer page(size_t place, size_t row_numbers)
+{
+    return merkazobi_page(1, 1, lent.plan, TICKS, lent.parts, PARTS, lent.tasks, TASKS, place, lent.rows, row_numbers);
+}
+
+/* As an engine, with no list: what it refuses, it refuses as the verdict does, before it asks for room. */
+static merkazobi_answer paged(size_t edition, size_t granule, const uint16_t *ticks, size_t frame, const uint16_t *table,
+                              size_t part_numbers, const uint16_t *its_tasks, size_t task_numbers, size_t place)
+{
+    return merkazobi_page(edition, granule, ticks, frame, table, part_numbers, its_tasks, task_numbers, place, NULL, 0);
+}
+
+static void pages(void)
+{
+    static const uint32_t v2[] = {13, 4, 3, 4};
+    static const uint32_t fours[] = {4, 4, 0, 4, 8, 5, 3, 0, 12, 6, 3, 4};
+    static const uint32_t eights[] = {8, 4, 3, 0, 16, 7, 6, 0};
+    begin();
+    ends("V1 lists nothing", page(1, 4 * TICKS), told(0, 8));
+    ends("V2 lists nothing", page(2, 0), told(0, 14));
+    ends("the page of no task", page(3, 4 * TICKS), told(7, 0));
+    SET(tasks[6], 13);
+    ends("V2's fail, a number less", page(2, 3), told(12, 0));
+    memcpy(wanted.rows, v2, sizeof v2);
+    ends("V2's fail", page(2, 4), (merkazobi_answer){0, 0, 1, 13, 1, 0});
+    /* Points 4, 8 and 12 of a higher task of period 4, and the middle one falls short by the least. */
+    begin();
+    PUT(tasks, ((const uint16_t[TASKS]){2, 1, 4, 4, 2, 3, 12, 32}));
+    ends("three points, a number less", page(2, 11), told(12, 0));
+    memcpy(wanted.rows, fours, sizeof fours);
+    ends("three points, into a longer list", page(2, 4 * TICKS), (merkazobi_answer){0, 0, 3, 8, 2, 0});
+    /* Points 8 and 16 fall short by one each. */
+    begin();
+    PUT(tasks, ((const uint16_t[TASKS]){2, 3, 8, 8, 2, 1, 16, 32}));
+    memcpy(wanted.rows, eights, sizeof eights);
+    ends("equal shortages", page(2, 8), (merkazobi_answer){0, 0, 2, 8, 1, 0});
+    SET(plan[6], 4);
+    ends("8 before 12", page(2, 0), told(8, 7));
 }
 
 /* ---- Granules. */
@@ -688,19 +731,42 @@ static void requests_that_drop(void)
     ends("busy with the second job", request(16, 1, 40), told(16, 0));
     begin_desk(0, d1, 3);
     stand(&wanted, 25, &d1[2], 1);
-    ends("a tick longer than D6", request(25, 5, 29), told(18, 0));
+    ends("a tick longer than D6", request(25, 5, 29), (merkazobi_answer){18, 0, 4, 1, 0, 0});
     begin_desk(0, &d1[2], 1);
     stand(&wanted, 30, &d1[2], 1);
-    ends("a tick too long behind the last job", request(30, 10, 41), told(18, 0));
+    ends("a tick too long behind the last job", request(30, 10, 41), (merkazobi_answer){18, 1, 9, 1, 0, 0});
     begin_desk(0, NULL, 0);
     stand(&wanted, 7, NULL, 0);
-    ends("a tick too long for an empty table", request(7, 6, 12), told(18, 0));
+    ends("a tick too long for an empty table", request(7, 6, 12), (merkazobi_answer){18, 0, 5, 1, 0, 0});
     merkazobi_job full[PLACES];
     for (uint32_t i = 0; i < PLACES; i++)
         full[i] = (merkazobi_job){10 + i, 1, 1000000, 999926};
     begin_desk(0, full, PLACES);
     stand(&wanted, 5, full, PLACES);
     ends("request, 17", request(5, 1, 100), told(17, 0));
+}
+
+/* "the lowest place with the largest room, that room, and whether the request's own deadline or a listed job's binds it".
+   At 8 place 0 of D1 has 8 ticks: 2 before job 0, which can be moved back by 6, for job 1 behind it has no more. */
+static void explanations(void)
+{
+    static const struct {
+        const char *what;
+        uint32_t c, d;
+        merkazobi_answer said;
+    } cases[] = {
+        {"no place, the request on equals", 9, 16, {18, 0, 8, 1, 0, 0}},
+        {"no place, the job behind", 9, 17, {18, 0, 8, 2, 1, 0}},
+        {"no place, the last job", 19, 50, {18, 2, 18, 2, 2, 0}},
+        {"no place, the last job on equals", 19, 38, {18, 2, 18, 1, 0, 0}},
+        {"no place, no room", 1, 8, {18, 0, 0, 1, 0, 0}},
+        {"no place at all", 1, 7, {18, 0, 0, 0, 0, 0}},
+    };
+    for (size_t i = 0; i < sizeof cases / sizeof *cases; i++) {
+        begin_desk(0, d1, 3);
+        stand(&wanted, 8, d1, 3);
+        ends(cases[i].what, request(8, cases[i].c, cases[i].d), cases[i].said);
+    }
 }
 
 int main(void)
@@ -713,7 +779,9 @@ int main(void)
     checks();
     verdicts("merkazobi_verdict", merkazobi_verdict, 8, 14);
     verdicts("merkazobi_plain", merkazobi_plain, 7, 14);
+    pages();
     granules();
+    granule_refusals(paged);
     granule_refusals(merkazobi_verdict);
     granule_refusals(merkazobi_plain);
     granule_verdicts(merkazobi_verdict, 8);
@@ -728,6 +796,7 @@ int main(void)
     edition_checks();
     edition_verdicts(merkazobi_verdict, 8);
     edition_verdicts(merkazobi_plain, 7);
+    edition_refusals(paged);
     edition_refusals(merkazobi_verdict);
     edition_refusals(merkazobi_plain);
     edition_files();
@@ -736,6 +805,7 @@ int main(void)
     requests();
     requests_at_the_last_place();
     requests_that_change_nothing();
+    explanations();
     requests_that_drop();
     return failures != 0;
 }

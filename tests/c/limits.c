@@ -17,6 +17,9 @@ static uint16_t pair_runs[MERKAZOBI_RUNS];
 static uint16_t pairs[MERKAZOBI_FRAME];
 static uint16_t list[MERKAZOBI_COUNT_NUMBERS];
 static uint32_t curve[MERKAZOBI_CURVE_NUMBERS];
+static uint32_t rows[MERKAZOBI_PAGE_NUMBERS];
+/* Every tick up to the longest deadline is a point of the second, which asks for one tick more than there are. */
+static const uint16_t crowded[] = {1, 1, 1, 1, 1, 1, MERKAZOBI_PERIOD, MERKAZOBI_PERIOD};
 static uint16_t questions[MERKAZOBI_QUESTION_NUMBERS * MERKAZOBI_PARTITIONS];
 static uint16_t answers[MERKAZOBI_PARTITIONS];
 static uint8_t file[MERKAZOBI_FILE_BYTES];
@@ -68,6 +71,11 @@ static size_t judged(uint16_t c, uint16_t d, uint16_t t)
     const size_t number = merkazobi_verdict(1, 1, plan, FRAME, parts, PARTS, task, 4, 1).number;
     expect("the plain engine's number", merkazobi_plain(1, 1, plan, FRAME, parts, PARTS, task, 4, 1).number, number);
     return number;
+}
+
+static merkazobi_answer paged(size_t row_numbers)
+{
+    return merkazobi_page(1, 1, plan, FRAME, parts, PARTS, crowded, 8, 2, rows, row_numbers);
 }
 
 static size_t written(size_t frame, size_t part_numbers, size_t task_numbers, size_t run_numbers, size_t bytes)
@@ -142,6 +150,9 @@ static void limits(void)
     expect("a number less",
            merkazobi_curve(1, plan, FRAME, 1, MERKAZOBI_PERIOD, curve, MERKAZOBI_CURVE_NUMBERS - 1).number,
            MERKAZOBI_OUTPUT);
+    expect("the longest page", paged(MERKAZOBI_PAGE_NUMBERS).second, MERKAZOBI_PERIOD);
+    expect("its last point", rows[MERKAZOBI_PAGE_NUMBERS - MERKAZOBI_ROW_NUMBERS], MERKAZOBI_PERIOD);
+    expect("a number less, page", paged(MERKAZOBI_PAGE_NUMBERS - 1).number, MERKAZOBI_OUTPUT);
     expect("places", opened(PLACES, PLACES), MERKAZOBI_GOOD);
     expect("a place more", opened(1, PLACES + 1), MERKAZOBI_TABLE);
     expect("a place less", opened(1, PLACES - 1), MERKAZOBI_TABLE);
@@ -211,6 +222,7 @@ static void refusals(void)
     expect("no place left", asked(0, 1, 100), MERKAZOBI_FULL);
     opened(1, PLACES);
     expect("no place", asked(0, 11, 5), MERKAZOBI_NO_PLACE);
+    expect("no place, bound", merkazobi_request(&desk, jobs, PLACES, 0, 11, 5).third, MERKAZOBI_OWN_DEADLINE);
     expect("later", asked(4, 11, 5), MERKAZOBI_NO_PLACE);
     expect("before the clock", asked(3, 1, 5), MERKAZOBI_PAST);
     jobs[0] = (merkazobi_job){3, 4, 9, 2};
@@ -224,6 +236,8 @@ static void nulls(void)
     expect("null output", merkazobi_build(1, parts, 3, NULL, 0).number, MERKAZOBI_OUTPUT);
     expect("null tasks", merkazobi_verdict(1, 1, plan, FRAME, parts, PARTS, NULL, 0, 1).number, MERKAZOBI_TASK);
     expect("null tasks, plain", merkazobi_plain(1, 1, plan, FRAME, parts, PARTS, NULL, 0, 1).number, MERKAZOBI_TASK);
+    expect("null tasks, page", merkazobi_page(1, 1, plan, FRAME, parts, PARTS, NULL, 0, 1, NULL, 0).number, MERKAZOBI_TASK);
+    expect("null rows", merkazobi_page(1, 1, plan, FRAME, parts, PARTS, crowded, 8, 2, NULL, 0).number, MERKAZOBI_OUTPUT);
     expect("null file", merkazobi_read(NULL, 0).number, MERKAZOBI_FILE_SHORT);
     expect("null part", merkazobi_section(NULL, 0, 0).number, MERKAZOBI_FILE_SHORT);
     expect("null listing", merkazobi_list(NULL, 0, NULL, 0).number, MERKAZOBI_OUTPUT);
@@ -270,6 +284,7 @@ enum {
     CHECK_STACK = 448,
     VERDICT_STACK = 33536,
     PLAIN_STACK = 33536,
+    PAGE_STACK = 0,
     COUNTS_FILL_STACK = 256,
     COUNTS_HELD_STACK = 704,
     COUNTS_HELD_MANY_STACK = 704,
@@ -340,6 +355,8 @@ static void stack_in(size_t edition, const uint16_t *serving, const uint16_t *ta
           merkazobi_verdict(edition, 1, serving, FRAME, table, PARTS, tasks, TASKS, MERKAZOBI_TASKS));
     STACK(PLAIN_STACK, MERKAZOBI_VERDICT_STACK,
           merkazobi_plain(edition, 1, serving, FRAME, table, PARTS, tasks, TASKS, MERKAZOBI_TASKS));
+    STACK(PAGE_STACK, MERKAZOBI_VERDICT_STACK,
+          merkazobi_page(edition, 1, serving, FRAME, table, PARTS, crowded, 8, 2, rows, MERKAZOBI_PAGE_NUMBERS));
 }
 
 static void stack(void)
