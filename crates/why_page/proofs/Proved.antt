@@ -34,7 +34,7 @@ use Rattle.file_read.proofs.Reader.{accepted, contents-short}
 use Rattle.file_read.proofs.Proved as reader
 use Rattle.why_lines.specs.Lines.{columnWidth, padded, taskWords, failsLine, namesLine, columns, window, mark, rowLine, tickWords, shortLine}
 use Rattle.why_page.specs.Why.{lineOf, shortOf, spareOf, passText, failText, mostNumbers, pagedText, tablesText, readText, whyOf}
-use Rattle.why_page.specs.Theorems.{linesIn, FailLines, FailShort, PassSpare, RoomEnough, WhyFirst, Proved}
+use Rattle.why_page.specs.Theorems.{linesIn, FailLines, FailShort, OneMark, PassSpare, RoomEnough, WhyFirst, Proved}
 use Rattle.why_page.proofs.Rows.{line-for-each, points-few}
 use Rattle.why_page.proofs.Paged.{pass-judged, fail-judged, answered-reach}
 
@@ -164,6 +164,26 @@ fail-short e plan ps ts place n u h p =
     let t = pages.proved .page-tightest (filed e) plan ps ts place mostNumbers n u h p in
     (t .0, omega (arith, t .1, t .2))
 
+one-mark : OneMark
+one-mark e plan ps ts place n u h p =
+    let f = fail-judged (filed e) plan ps ts place mostNumbers n u h p in
+    let w = line-for-each (ruleOf e) plan ts (place - 1) u in
+    let m = w .each-point u (pages.proved .page-tightest (filed e) plan ps ts place mostNumbers n u h p .0 .a-point) in (
+      m .0,
+      omega (arith, f .rows, m .1),
+      m .2,
+      λ j l z.
+          same j (m .0)
+          (λ g. let r = w .rising j (m .0) g (m .1) in absurd (omega (arith, m .2)))
+          (λ g. let r = w .rising (m .0) j g (omega (arith, f .rows)) in absurd (omega (arith, m .2)))
+          (le-or-lt j (m .0)) (le-or-lt (m .0) j),
+    )
+  where
+    same : (j k : ℕ) → (j < k → j ≡ k) → (k < j → j ≡ k) → (j ≤ k) ⊎ (k < j) → (k ≤ j) ⊎ (j < k) → j ≡ k
+    same j k a b (inr l) y = b l
+    same j k a b (inl l) (inr g) = a g
+    same j k a b (inl l) (inl g) = omega arith
+
 pass-spare : PassSpare
 unfolding tablesText passText spareOf
 pass-spare e plan ps ts place t p = (
@@ -195,6 +215,7 @@ proved = record {
   fail-lines = fail-lines;
   fail-rows = line-for-each;
   fail-short = fail-short;
+  one-mark = one-mark;
   pass-spare = pass-spare;
   room-enough = room-enough;
   why-first = why-first;

@@ -60,6 +60,13 @@ FailShort =
     → TightestPoint (taskLoad ts) (least (ruleOf e) plan (partition ts (place - 1))) (place - 1) u
     × (least (ruleOf e) plan (partition ts (place - 1)) u < demand (taskLoad ts) (place - 1) u)
 
+-- and one line has the mark: that of the tightest point
+abbrev pub OneMark : Type 0
+OneMark =
+    (e : ℕ) (plan ps ts : List ℕ) (place n u h : ℕ) → pageOf (filed e) plan ps ts place mostNumbers ≡ Fail n u h
+    → (k : ℕ) × (k < n) × (pointOf (ruleOf e) plan ts (place - 1) k ≡ u)
+    × ((j : ℕ) → j < n → pointOf (ruleOf e) plan ts (place - 1) j ≡ u → j ≡ k)
+
 -- a pass's text, and that what it says to be to spare is what its need leaves of what it can be sure of
 abbrev pub PassSpare : Type 0
 PassSpare =
@@ -90,6 +97,7 @@ pub record Proved : Type 0 where
   pub fail-lines : FailLines
   pub fail-rows : FailRows
   pub fail-short : FailShort
+  pub one-mark : OneMark
   pub pass-spare : PassSpare
   pub room-enough : RoomEnough
   pub why-first : WhyFirst
