@@ -63,6 +63,7 @@ use Rattle.file_write.proofs.Proved as writer
 use Rattle.file_runs.proofs.Proved as runs
 use Rattle.file_listing.specs.Listing.{listingOf, listOf, Lists}
 use Rattle.file_listing.proofs.Proved as listing
+use Rattle.why_page.proofs.Proved as page-texts
 use Rattle.share_plan.proofs.Proved as planner
 use Rattle.desk.specs.declared.Job.{Job}
 use Rattle.desk.specs.declared.Desk.{Desk}
@@ -557,6 +558,7 @@ second = record {
   of-writer = writer.proved;
   of-runs = runs.proved;
   of-listings = listing.proved;
+  of-texts = page-texts.proved;
   of-planner = planner.proved;
   of-desk = desk.proved;
   of-lent-desk = lent.proved;

@@ -53,6 +53,7 @@ module _ {M : Type 1} (𝓤 : URA M) (H : Heap 𝓤) (A : Atoms 𝓤) (mem : Mem
     of-ticks = record { asks-nothing = λ κs a g. id⊢ 𝓤 _; ensures = λ κs a g r e. id⊢ 𝓤 _ };
     of-runs = record { asks-nothing = λ κs a g. id⊢ 𝓤 _; ensures = λ κs a g r e. id⊢ 𝓤 _ };
     of-listing = record { asks-nothing = λ κs a g. id⊢ 𝓤 _; ensures = λ κs a g r e. fst∗ 𝓤 _ (fact 𝓤 (length (listingOf (a .0 .now)) ≤ longestListing)) };
+    of-why = record { asks-nothing = λ κs a g. id⊢ 𝓤 _; ensures = λ κs a g r e. id⊢ 𝓤 _ };
     of-share-table = record { asks-nothing = λ κs a g. id⊢ 𝓤 _; ensures = λ κs a g r e. id⊢ 𝓤 _ };
     of-planner = record { asks-nothing = λ κs a g. id⊢ 𝓤 _; ensures = λ κs a g r e. fst∗ 𝓤 _ (fact 𝓤 (r ≤ max longestLine (length (a .1 .1 .0 .now)))) };
     of-desk = record { asks-nothing = λ κs a g. id⊢ 𝓤 _; ensures = λ κs a g r e. id⊢ 𝓤 _ };

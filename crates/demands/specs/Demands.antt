@@ -40,6 +40,7 @@ use Rattle.file_read.specs.Theorems as reader
 use Rattle.file_write.specs.Theorems as writer
 use Rattle.file_runs.specs.Theorems as runs
 use Rattle.file_listing.specs.Theorems as listing
+use Rattle.why_page.specs.Theorems as why
 use Rattle.share_plan.specs.Theorems as planner
 use Rattle.desk.specs.declared.Job.{Job}
 use Rattle.desk.specs.declared.Desk.{Desk}
@@ -260,6 +261,7 @@ pub record Demand2 : Type 0 where
   pub of-writer : writer.Proved
   pub of-runs : runs.Proved
   pub of-listings : listing.Proved
+  pub of-texts : why.Proved
   pub of-planner : planner.Proved
   pub of-desk : desk.Proved
   pub of-lent-desk : lent.Proved

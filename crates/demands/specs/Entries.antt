@@ -10,6 +10,8 @@ use contract.Monad.{Fun, fact}
 use contract.Lifetimes.{Lfts}
 use denote.Triple.Entry.{Args, Res}
 use denote.Triple.Clauses.{Ended, Clauses, AtExit}
+use Prim.Native.Nat.{_≤_}
+use Rattle.rules.specs.Limits.{longestWhy}
 use Rattle.rules.specs.Table.{WantsIs}
 use Rattle.theory.specs.Plan.{HeldIs, LeastIs}
 use Rattle.plan_curve.specs.Curve.{DrawsCurve}
@@ -23,6 +25,7 @@ use Rattle.file_write.specs.Writer.{Writes}
 use Rattle.output.specs.Put.{Put}
 use Rattle.file_runs.specs.Ticks.{ticksPut, runsPut}
 use Rattle.file_listing.specs.Listing.{Lists}
+use Rattle.why_page.specs.Why.{whyOf}
 use Rattle.share_text.specs.Table.{ReadsText}
 use Rattle.share_plan.specs.Answer.{Plans}
 use Rattle.desk.specs.Call.{callOf, Leaves}
@@ -65,6 +68,7 @@ use Rattle.file_write.proofs.write as write
 use Rattle.file_runs.proofs.ticks_of as ticks-of
 use Rattle.file_runs.proofs.runs_of as runs-of
 use Rattle.file_listing.proofs.listing as listing
+use Rattle.why_page.proofs.compose as why
 use Rattle.share_text.proofs.read as read-text
 use Rattle.share_plan.proofs.plan as plan
 use Rattle.desk_lent.proofs.call as call
@@ -134,6 +138,8 @@ module _ {M : Type 1} (𝓤 : URA M) (H : Heap 𝓤) (A : Atoms 𝓤) (mem : Mem
     pub of-ticks : Ensures ticks-of.ended (ticks-of.clauses 𝓤 H A mem run) (λ κs a r e. Put (a .1 .0 .now) 0 (ticksPut (a .0 .now)) r (e .1 .0 .now))
     pub of-runs : Ensures runs-of.ended (runs-of.clauses 𝓤 H A mem run) (λ κs a r e. Put (a .1 .0 .now) 0 (runsPut (a .0 .now)) r (e .1 .0 .now))
     pub of-listing : Ensures listing.ended (listing.clauses 𝓤 H A mem run) (λ κs a r e. Lists (a .0 .now) (a .1 .0 .now) (e .1 .0 .now) r)
+    pub of-why : Ensures why.ended (why.clauses 𝓤 H A mem run)
+        (λ κs a r e. Put (a .1 .1 .0 .now) 0 (whyOf (a .0 .now) (a .1 .0)) r (e .1 .1 .0 .now) × (r ≤ longestWhy))
     pub of-share-table : Ensures read-text.ended (read-text.clauses 𝓤 H A mem run)
         (λ κs a r e. ReadsText (a .0 .now) (a .1 .0 .now) (a .1 .1 .0 .now) (e .1 .0 .now) (e .1 .1 .0 .now) r)
     pub of-planner : Ensures plan.ended (plan.clauses 𝓤 H A mem run) (λ κs a r e. Plans (a .0) (a .1 .0 .now) (a .1 .1 .0 .now) (e .1 .1 .0 .now) r)

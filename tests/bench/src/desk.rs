@@ -1,4 +1,4 @@
-//! A request with 63 jobs, all of which move. The desk is lent anew to each call.
+//! A request with 63 jobs, all of which move, and one that is refused with 18. The desk is lent anew to each call.
 
 use second::desk::{self, Desk, Job};
 
@@ -27,10 +27,14 @@ fn end_to_end() -> (Desk, [Job; 64]) {
 }
 
 pub fn run() {
+    asked("desk 63 jobs move", [0, 15, 20]);
+    asked("desk 63 jobs, no place", [0, 300, 400]);
+}
+
+fn asked(name: &str, [t, c, d]: [u32; 3]) {
     let opened = end_to_end();
-    let [t, c, d] = [0, 15, 20];
     line(
-        "desk 63 jobs move",
+        name,
         || {
             let (mut desk, mut jobs) = opened;
             let answer = library::request(&mut desk, &mut jobs, t, c, d);

@@ -66,6 +66,19 @@ extern "C" {
         task_numbers: usize,
         place: usize,
     ) -> Answer;
+    fn merkazobi_page(
+        edition: usize,
+        granule: usize,
+        plan: *const u16,
+        ticks: usize,
+        parts: *const u16,
+        part_numbers: usize,
+        tasks: *const u16,
+        task_numbers: usize,
+        place: usize,
+        rows: *mut u32,
+        row_numbers: usize,
+    ) -> Answer;
     fn merkazobi_counts_held_many(
         plan: *const u16,
         ticks: usize,
@@ -177,6 +190,31 @@ pub fn verdict(edition: u64, plan: &[u16], parts: &[u16], tasks: &[u16], place: 
 
 pub fn plain(edition: u64, plan: &[u16], parts: &[u16], tasks: &[u16], place: usize) -> Answer {
     judged(merkazobi_plain, edition, plan, parts, tasks, place)
+}
+
+pub fn page(
+    edition: u64,
+    plan: &[u16],
+    parts: &[u16],
+    tasks: &[u16],
+    place: usize,
+    rows: &mut [u32],
+) -> Answer {
+    unsafe {
+        merkazobi_page(
+            edition as usize,
+            GRANULE as usize,
+            plan.as_ptr(),
+            plan.len(),
+            parts.as_ptr(),
+            parts.len(),
+            tasks.as_ptr(),
+            tasks.len(),
+            place,
+            rows.as_mut_ptr(),
+            rows.len(),
+        )
+    }
 }
 
 pub fn counts_held_many(

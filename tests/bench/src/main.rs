@@ -24,6 +24,7 @@ mod steps;
 mod timing;
 mod verdict;
 mod walk;
+mod why;
 
 use std::process::ExitCode;
 
@@ -33,6 +34,7 @@ const ENTRIES: &[(&str, fn())] = &[
     ("curve", curve::run),
     ("check", check::run),
     ("verdict", verdict::run),
+    ("page", why::run),
     ("list", list::run),
     ("growth", growth::run),
     ("desk", desk::run),

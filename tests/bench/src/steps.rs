@@ -120,7 +120,12 @@ impl Known {
 
 type Engine = fn(&Known, &Task) -> u64;
 
-fn earliest<const EDITION: u64>(plan: &[u16], tasks: &[Task], place: usize, engine: Engine) -> u64 {
+/// What is known of the task at a place, up to its deadline.
+fn known<'a, const EDITION: u64>(
+    plan: &[u16],
+    tasks: &'a [Task],
+    place: usize,
+) -> (Known, &'a Task) {
     let task = &tasks[place - 1];
     let mut known = Known::new::<EDITION>(plan, task.partition, task.d);
     for higher in &tasks[..place - 1] {
@@ -128,6 +133,11 @@ fn earliest<const EDITION: u64>(plan: &[u16], tasks: &[Task], place: usize, engi
             add(&mut known.asks, higher);
         }
     }
+    (known, task)
+}
+
+fn earliest<const EDITION: u64>(plan: &[u16], tasks: &[Task], place: usize, engine: Engine) -> u64 {
+    let (known, task) = known::<EDITION>(plan, tasks, place);
     engine(&known, task)
 }
 
@@ -165,6 +175,45 @@ pub fn plain<const EDITION: u64>(
     place: usize,
 ) -> Answer {
     judged::<EDITION>(plan, parts, tasks, place, Known::tick)
+}
+
+/// A row for each scheduling point, and the first of those that fall short by the least.
+fn rows<const EDITION: u64>(plan: &[u16], known: &Known, task: &Task, list: &mut [u32]) -> Answer {
+    let (asks, curve, d) = (&known.asks, &known.curve, task.d as usize);
+    let points = || (1..=d).filter(|&t| t == d || asks[t] < asks[t + 1]);
+    let count = points().count();
+    if list.len() < 4 * count {
+        return Answer::refused(12);
+    }
+    let demand = |t: usize| task.c as u32 + asks[t];
+    for (row, t) in list.chunks_mut(4).zip(points()) {
+        let start = walk::worst_start::<EDITION>(plan, task.partition, t, curve[t].into());
+        row.copy_from_slice(&[t as u32, demand(t), curve[t], start as u32]);
+    }
+    let shortage = |&t: &usize| demand(t) - curve[t];
+    let tightest = points().min_by_key(shortage).unwrap_or(d);
+    Answer::good([0, count as u64, tightest as u64, shortage(&tightest).into()])
+}
+
+pub fn page<const EDITION: u64>(
+    plan: &[u16],
+    parts: &[u16],
+    tasks: &[u16],
+    place: usize,
+    list: &mut [u32],
+) -> Answer {
+    let served = walk::check::<EDITION>(plan, parts);
+    match records::tasks(tasks) {
+        Ok(tasks) if served.number == 0 => {
+            let (known, task) = known::<EDITION>(plan, &tasks, place);
+            match known.point(task) {
+                0 => rows::<EDITION>(plan, &known, task, list),
+                point => Answer::good([point, 0, 0, 0]),
+            }
+        }
+        Ok(_) => served,
+        Err(refusal) => refusal,
+    }
 }
 
 /// Judges the tasks of one partition by one curve; each has its end at its own place.

@@ -64,6 +64,16 @@ pub fn least<const EDITION: u64>(plan: &[u16], p: u16, t: usize) -> u64 {
     least
 }
 
+/// The lowest start from which t ticks hold no more than the least.
+pub fn worst_start<const EDITION: u64>(plan: &[u16], p: u16, t: usize, least: u64) -> usize {
+    let mut worst = plan.len();
+    walk::<EDITION>(plan, p, t, |start, held| {
+        worst = start;
+        held != least
+    });
+    worst
+}
+
 /// "q = num·m/den, rounded up": divided, as the library does, and not counted.
 pub fn wants(partition: &Partition) -> u64 {
     (u64::from(partition.num) * u64::from(partition.cycle)).div_ceil(partition.den.into())
