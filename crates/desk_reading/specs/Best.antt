@@ -15,7 +15,7 @@ use Rattle.desk_records.specs.Sums.{sumTo}
 use Rattle.desk_reading.specs.declared.best.Best.{Best}
 
 abbrev pub noBest : Best
-noBest = record { place = 0; room = 0; job = 0; listed = false; seeking = false }
+noBest = record { place = 0; job = 0; room = 0; listed = false; seeking = false }
 
 -- the next place, with so much room, is better: "the lowest place with the largest room"; place 0 is the first
 abbrev pub outdone : Best → ℕ → ℕ → Bool
@@ -25,7 +25,7 @@ outdone b place room = pick (eqb place 0) true (ltb (b .room) room)
 abbrev pub bestWith : Best → ℕ → ℕ → Bool → Best
 bestWith b place room listed =
     pick (outdone b place room)
-    (record { place = place; room = room; job = place; listed = listed; seeking = listed })
+    (record { place = place; job = place; room = room; listed = listed; seeking = listed })
     b
 
 -- x is all that the job's own deadline leaves

@@ -14,8 +14,8 @@ use rules::Explanation;
 // such job is sought from the place on, `job` being the next one to look at until it is found.
 pub struct Best {
     pub place: u32,
-    pub room: u32,
     pub job: u32,
+    pub room: u32,
     pub listed: bool,
     pub seeking: bool,
 }
@@ -25,8 +25,8 @@ pub fn no_best() -> Best
 {
     Best {
         place: 0,
-        room: 0,
         job: 0,
+        room: 0,
         listed: false,
         seeking: false,
     }
@@ -49,8 +49,8 @@ pub fn best_with(b: Best, place: u32, room: u32, listed: bool) -> Best
     if is_outdone(b, place, room) {
         return Best {
             place: place,
-            room: room,
             job: place,
+            room: room,
             listed: listed,
             seeking: listed,
         };
