@@ -12,7 +12,6 @@ use Rattle.rules.specs.Table.{wants, goodShare, goodTimes, partition}
 use Rattle.rules.specs.Terms.{given, ruleOf, goodEdition, goodGranule}
 use Rattle.rules.specs.Refusals.{told}
 use Rattle.rules.specs.declared.Told.{Told}
-use Rattle.rules.specs.declared.Refusal.{Refusal}
 use Rattle.rules.proofs.Known.{not-0}
 use Rattle.tables.specs.Tables.{countedIn, withinLimits, inEdition, tablesOf}
 use Rattle.theory.specs.Plan.{owner, service, owned, least, worst, worstStart}
@@ -21,7 +20,6 @@ use Rattle.theory.specs.Task.{rival, taskLoad, taskPoint}
 use Rattle.theory.specs.Theorems.{TightestPoint}
 use Rattle.plan_check.specs.Check.{shortAt, scanOf, planCheckOf}
 use Rattle.task_verdict.specs.declared.Judged.{Judged}
-use Rattle.task_verdict.specs.declared.Judged.the-variants as judged
 use Rattle.task_verdict.specs.Verdict.{placeOf, answerableOf, passAt, verdictBy, verdictOf, toldJudged}
 use Rattle.task_page.specs.declared.Paged.{Paged}
 use Rattle.task_page.specs.declared.Paged.the-variants as paged

@@ -7,7 +7,7 @@ use native.Mathlib.Decide.{ℕ-discrete}
 use native.Mathlib.Omega.{arith}
 use lib.Dec.{leb, ltb}
 use borrow.Author.Tests.{lt-ltb, le-ltb, leb-true, leb-false}
-use Rattle.rules.specs.Walk.{pick, first, some, undercuts, leastAt, firstLeast}
+use Rattle.rules.specs.Walk.{pick, some, undercuts, leastAt, firstLeast}
 use Rattle.rules.proofs.First.{first-found, first-none, first-ext, some-at}
 use Rattle.rules.proofs.Sum.{le-or-lt}
 

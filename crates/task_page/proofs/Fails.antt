@@ -20,7 +20,7 @@ use Rattle.rules.proofs.Sum.{count-ext}
 use Rattle.rules.proofs.FirstLeast.{first-least-ext}
 use Rattle.output.specs.Put.{Put}
 use Rattle.output.proofs.Put.{put-front}
-use Rattle.theory.specs.Load.{point, shortage, tightest}
+use Rattle.theory.specs.Load.{shortage, tightest}
 use Rattle.theory.specs.Task.{taskLoad, taskPoint}
 use Rattle.theory.specs.Contracts.{leastFor}
 use Rattle.theory.proofs.Tasks.{task-last}

@@ -1,16 +1,16 @@
 -- The rows are exactly the scheduling points, each once, in rising order. Assumes nothing.
 use Prim.Native.Nat.{ℕ, zero, suc, _+_, _*_, _≤_, _<_}
-use mathlib.Core.Path.{_≡_, refl, sym, ap, subst, _∙_}
+use mathlib.Core.Path.{_≡_, refl, sym, subst, _∙_}
 use mathlib.Core.Logic.{_⊎_, inl, inr}
 use mathlib.Core.Bool.{Bool, true, false, true≢false}
-use mathlib.Core.List.{List, [], _∷_, _++_, append-nil}
+use mathlib.Core.List.{List, _++_, append-nil}
 use native.Mathlib.Numerals.{add-one}
 use native.Mathlib.Decide.{ℕ-discrete}
 use native.Mathlib.Omega.{arith}
 use lib.ListN.{length, getD, List·getD-append}
 use lib.Seq.{getD-append-add}
 use Rattle.rules.specs.Limits.{rowWidth}
-use Rattle.rules.specs.Walk.{only, count, gathered}
+use Rattle.rules.specs.Walk.{count, gathered}
 use Rattle.rules.specs.Table.{partition}
 use Rattle.rules.specs.declared.Rule.{Rule}
 use Rattle.rules.proofs.Sum.{le-or-lt, only-true, only-false, count-zero, count-more}

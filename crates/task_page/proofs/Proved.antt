@@ -10,11 +10,10 @@ use Rattle.rules.specs.Limits.{rowWidth}
 use Rattle.rules.specs.Table.{partitions, partition, deadline, tasks}
 use Rattle.rules.specs.Terms.{ruleIn}
 use Rattle.rules.specs.declared.Terms.{Terms}
-use Rattle.rules.specs.declared.Rule.{Rule}
 use Rattle.rules.proofs.Named.{new-tail}
 use Rattle.rules.proofs.Sum.{le-or-lt}
 use Rattle.tables.proofs.Chain.{within}
-use Rattle.theory.specs.Plan.{held, least, worstStart}
+use Rattle.theory.specs.Plan.{least}
 use Rattle.theory.specs.Load.{demand, lastPoint, point, shortage, tightest}
 use Rattle.theory.specs.Task.{taskLoad, TaskPasses}
 use Rattle.theory.specs.Contracts.{leastFor}
@@ -29,7 +28,7 @@ use Rattle.task_verdict.specs.Theorems.{Answered}
 use Rattle.task_verdict.proofs.Engines as verdicts
 use Rattle.task_page.specs.declared.Paged.{Paged}
 use Rattle.task_page.specs.declared.Paged.the-variants.{Pass, Fail, Refused}
-use Rattle.task_page.specs.Page.{rowsOf, pointsOf, tightestOf, shortageOf, failOf, pagedBy, pageOf, pageLeft, Pages}
+use Rattle.task_page.specs.Page.{rowsOf, pointsOf, tightestOf, shortageOf, failOf, pagedBy, pageOf, pageLeft}
 use Rattle.task_page.specs.Theorems.{PageBy, page-refused, page-pass, page-short, page-fail, PageAnswers, Row, Rows, PageRows, PageTightest, PageOne, Proved}
 use Rattle.task_page.proofs.Rows.{rows-length}
 use Rattle.task_page.proofs.Fails.{too-short, fails-so}

@@ -1,13 +1,13 @@
 -- The rows of the page, by the lists of a task. Assumes nothing.
 use Prim.Native.Nat.{ℕ, zero, suc, _+_, _*_, _^_, _≤_, _<_}
-use mathlib.Core.Path.{_≡_, refl, sym, ap, _∙_}
+use mathlib.Core.Path.{_≡_, refl, sym, _∙_}
 use mathlib.Core.Bool.{Bool, true, false}
 use mathlib.Core.List.{List, [], _∷_}
 use native.Mathlib.Nat.{mul-le-mul-right}
 use native.Mathlib.Numerals.{add-one}
 use native.Mathlib.Omega.{arith}
 use lib.ListN.{length, getD, length-append}
-use borrow.Author.Tests.{le-leb, lt-leb}
+use borrow.Author.Tests.{le-leb}
 use Rattle.rules.specs.Limits.{longest, mostTasks, rowWidth}
 use Rattle.rules.specs.Walk.{pick, only, count, gathered}
 use Rattle.rules.proofs.First.{gathered-zero, gathered-more}
@@ -19,7 +19,7 @@ use Rattle.rules.specs.declared.Rule.{Rule}
 use Rattle.theory.specs.Plan.{least, worstStart}
 use Rattle.theory.specs.Load.{demand, point}
 use Rattle.theory.specs.Task.{taskLoad}
-use Rattle.task_demand.specs.Contracts.{InOrder, Judgeable, Drawn}
+use Rattle.task_demand.specs.Contracts.{InOrder}
 use Rattle.task_demand.proofs.Asking.{all-small}
 use Rattle.task_demand.proofs.Lists.{demand-is}
 use Rattle.task_points.specs.Contracts.{pointAt}

@@ -1,20 +1,18 @@
 -- The supplier's page: the lowest worst start, and the tightest point. Assumes nothing.
 use Prim.Native.Nat.{ℕ, suc, _≤_, _<_}
 use mathlib.Core.Path.{_≡_, refl}
-use mathlib.Core.Bool.{true, false, _&&_, _||_}
-use mathlib.Core.List.{List}
+use mathlib.Core.Bool.{true, _&&_, _||_}
 use native.Mathlib.Omega.{arith}
 use lib.Dec.{eqb, leb}
 use lib.ListN.{length}
 use borrow.Author.Tests.{le-leb, leb-true, eq-eqb, eqb-true, eqb-false}
 use Rattle.rules.specs.Walk.{some}
-use Rattle.rules.specs.declared.Rule.{Rule}
 use Rattle.rules.proofs.First.{first-upto, first-at, first-before}
 use Rattle.rules.proofs.FirstLeast.{first-least-has}
 use Rattle.rules.proofs.Tests.{and-parts}
 use Rattle.theory.specs.Plan.{held, least, worst, worstStart}
 use Rattle.theory.specs.Load.{Load, lastPoint, multiple, point, shortage, tightest}
-use Rattle.theory.specs.Theorems.{WorstStartLowest, TightestPoint, TightestSo}
+use Rattle.theory.specs.Theorems.{WorstStartLowest, TightestSo}
 use Rattle.theory.proofs.Plan.{least-is-least, least-attained}
 
 pub worst-start-lowest : WorstStartLowest

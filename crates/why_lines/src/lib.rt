@@ -1,6 +1,5 @@
 // The lines of a task's page: each is put from a place on, and the answer is the place behind it.
 ghost use mathlib.Core.Path.{_≡_};
-ghost use mathlib.Core.List.{_++_};
 ghost use Prim.Native.Nat.{_+_, _-_, _≤_, _<_, _^_};
 ghost use lib.ListN.{length};
 ghost use Rattle.output.specs.Put.{Put};

@@ -1,6 +1,5 @@
 use Prim.Native.Nat.{_+_, _-_, _%_, _≤_}
 use mathlib.Core.Path.{_≡_, sym, _∙_}
-use native.Mathlib.Omega.{arith}
 use lib.ListN.{length}
 use Rattle.rules.specs.Walk.{first}
 use Rattle.rules.proofs.First.{first-zero, first-more, first-found, first-done}

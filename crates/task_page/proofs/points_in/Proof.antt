@@ -1,6 +1,5 @@
 use Prim.Native.Nat.{_+_, _-_, _≤_, _<_}
-use mathlib.Core.Path.{_≡_, _∙_}
-use native.Mathlib.Omega.{arith}
+use mathlib.Core.Path.{_≡_}
 use Rattle.rules.specs.Walk.{count}
 use Rattle.task_page.specs.Contracts.{pointIn}
 use Rattle.task_page.proofs.Tight.{count-1, count-turn}

@@ -1,5 +1,5 @@
 use Prim.Native.Nat.{_+_, _-_, _≤_}
-use mathlib.Core.Path.{_≡_, _∙_}
+use mathlib.Core.Path.{_≡_}
 use native.Mathlib.Omega.{arith}
 use Rattle.rules.proofs.FirstLeast.{FirstFrom}
 use Rattle.task_page.specs.Contracts.{pointIn, shortIn}
