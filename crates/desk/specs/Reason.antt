@@ -25,6 +25,7 @@ placesOf t d js = pick (leb (startAt t js (early d js)) d) (suc (early d js)) (e
 unfoldable pub largestRoom : ℕ → ℕ → List Job → ℕ
 largestRoom t d js = largest (roomAt t d js) (placesOf t d js)
 
+-- place i has it
 unfoldable pub asRoomy : ℕ → ℕ → List Job → ℕ → Bool
 asRoomy t d js i = leb (largestRoom t d js) (roomAt t d js i)
 
