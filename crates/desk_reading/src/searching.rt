@@ -102,9 +102,12 @@ fn seeks_on(s: Searching, j: Job) -> Searching
     ensures { λ r. ⌜ r ≡ searchBehind s j ⌝ }
 {
     let b = s.best;
-    let mut r = s;
-    r.best = sought_at(b, j);
-    r
+    if b.seeking {
+        let mut r = s;
+        r.best = sought_at(b, j);
+        return r;
+    }
+    s
 }
 
 // The search, at one more job. Those that end by t stand first, so none behind the place does.
