@@ -6,12 +6,12 @@ mod long;
 mod plain;
 mod shapes;
 
-use second::inputs::{editions, faults, granules, plans};
+use second::inputs::{editions, granules, plans};
 use second::{records, runs};
 
 use crate::seen::Seen;
 use crate::trial::{Named, Trial};
-use asked::{compare, judge, judge_all, served, Input, Judged, BELOW};
+use asked::{compare, faulty, judge, judge_all, served, Input, Judged, BELOW};
 
 pub const TRIALS: &[Named] = &[
     ("verdict, all small", all_small),
@@ -128,31 +128,7 @@ fn periods_that_meet(trial: &mut Trial) {
 fn faults(trial: &mut Trial) {
     let mut seen = Seen::default();
     for _ in trial.cases(50_000) {
-        let rng = &mut trial.rng;
-        let count = rng.between(0, 5);
-        let mut input = served(rng, count, 30);
-        let [partitions, frame] = [input.partitions(), input.plan.len()];
-        if rng.one_in(3) {
-            faults::partitions(rng, &mut input.parts, frame);
-        }
-        if rng.one_in(2) {
-            faults::tasks(rng, &mut input.tasks, partitions);
-        }
-        if rng.one_in(3) {
-            faults::plan(rng, &mut input.plan, partitions);
-        }
-        if rng.one_in(3) {
-            plans::damage(rng, &mut input.plan, partitions);
-        }
-        input.granule = granules::or_other(rng, input.granule);
-        input.edition = editions::or_other(rng, input.edition);
-        let listed = input.listed();
-        let outside = rng.pick(&[0, listed + 1, 1 << 32, (1 << 32) + 1, usize::MAX]);
-        let place = if rng.one_in(3) {
-            outside
-        } else {
-            rng.between(1, listed)
-        };
+        let (input, place) = faulty(&mut trial.rng);
         judge(trial, &input, place, &mut seen);
     }
     let refused = ["3", "6", "7", "7 with place 0", "8", "9"];

@@ -1,6 +1,5 @@
 //! What the page refuses: as the verdict does, and then lists that are too short.
 
-use second::inputs::{editions, faults, granules, plans};
 use second::page::ROW;
 use second::Answer;
 
@@ -8,36 +7,12 @@ use super::asked::{compare, judge, page_in, points, Paged, LONGER};
 use crate::granules::{all_good, first, up_to_two};
 use crate::seen::{kind, Seen};
 use crate::trial::Trial;
-use crate::verdict::asked::{served, Input};
+use crate::verdict::asked::{faulty, Input};
 
 pub fn faults(trial: &mut Trial) {
     let mut seen = Seen::default();
     for _ in trial.cases(50_000) {
-        let rng = &mut trial.rng;
-        let count = rng.between(0, 5);
-        let mut input = served(rng, count, 30);
-        let [partitions, frame] = [input.partitions(), input.plan.len()];
-        if rng.one_in(3) {
-            faults::partitions(rng, &mut input.parts, frame);
-        }
-        if rng.one_in(2) {
-            faults::tasks(rng, &mut input.tasks, partitions);
-        }
-        if rng.one_in(3) {
-            faults::plan(rng, &mut input.plan, partitions);
-        }
-        if rng.one_in(3) {
-            plans::damage(rng, &mut input.plan, partitions);
-        }
-        input.granule = granules::or_other(rng, input.granule);
-        input.edition = editions::or_other(rng, input.edition);
-        let listed = input.listed();
-        let outside = rng.pick(&[0, listed + 1, 1 << 32, (1 << 32) + 1, usize::MAX]);
-        let place = if rng.one_in(3) {
-            outside
-        } else {
-            rng.between(1, listed)
-        };
+        let (input, place) = faulty(&mut trial.rng);
         judge(trial, &input, place, &mut seen);
     }
     let refused = ["3", "6", "7", "7 with place 0", "8", "9"];

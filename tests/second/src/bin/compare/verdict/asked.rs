@@ -3,7 +3,7 @@
 use second::editions::Edition;
 use second::inputs::files::Tables;
 use second::inputs::plans::Served;
-use second::inputs::{editions, granules, plans, tables};
+use second::inputs::{editions, faults, granules, plans, tables};
 use second::rng::Rng;
 use second::service::Service;
 use second::{ticks, verdict, Answer};
@@ -177,4 +177,33 @@ pub fn served(rng: &mut Rng, tasks: usize, period: usize) -> Input {
     let mut input = without_tasks(rng, 3, longest);
     input.tasks = tables::tasks(rng, tasks, input.partitions(), period);
     input
+}
+
+/// Tables and a plan that serves them, with faults in some of them, and a place, at times outside.
+pub fn faulty(rng: &mut Rng) -> (Input, usize) {
+    let count = rng.between(0, 5);
+    let mut input = served(rng, count, 30);
+    let [partitions, frame] = [input.partitions(), input.plan.len()];
+    if rng.one_in(3) {
+        faults::partitions(rng, &mut input.parts, frame);
+    }
+    if rng.one_in(2) {
+        faults::tasks(rng, &mut input.tasks, partitions);
+    }
+    if rng.one_in(3) {
+        faults::plan(rng, &mut input.plan, partitions);
+    }
+    if rng.one_in(3) {
+        plans::damage(rng, &mut input.plan, partitions);
+    }
+    input.granule = granules::or_other(rng, input.granule);
+    input.edition = editions::or_other(rng, input.edition);
+    let listed = input.listed();
+    let outside = rng.pick(&[0, listed + 1, 1 << 32, (1 << 32) + 1, usize::MAX]);
+    let place = if rng.one_in(3) {
+        outside
+    } else {
+        rng.between(1, listed)
+    };
+    (input, place)
 }
