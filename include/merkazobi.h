@@ -11,13 +11,15 @@
    where the length is 0. What is lent for writing must not overlap anything else of the same call.
 
    Cost: `merkazobi_read` and `merkazobi_section` take up to MERKAZOBI_READ_STACK bytes of stack, `merkazobi_verdict`,
-   `merkazobi_plain` and `merkazobi_page` up to MERKAZOBI_VERDICT_STACK, `merkazobi_list` up to MERKAZOBI_LIST_STACK, every other call up
-   to MERKAZOBI_STACK. At the limits a build, check, read or write takes under a millisecond; a call over running counts
-   walks plan, list (65,552 numbers at most) and questions; merkazobi_held walks at most a frame, merkazobi_least two.
-   merkazobi_curve walks, for each run of the partition, as far as n goes, but no further than a frame: a verdict makes
-   one curve up to D, a listing one for each partition that has tasks. At the limits that is some thousandths of a second
-   for a verdict and some hundredths at most for a listing; docs/TIMES.md has what was measured. A call of the desk goes
-   through its 64 places a few times: about a microsecond, whatever is asked. */
+   `merkazobi_plain` and `merkazobi_page` up to MERKAZOBI_VERDICT_STACK, `merkazobi_list` up to MERKAZOBI_LIST_STACK,
+   every other call up to MERKAZOBI_STACK. At the limits a build, check, read or write takes under a millisecond; a
+   call over running counts walks plan, list (65,552 numbers at most) and questions; merkazobi_held walks at most a
+   frame, merkazobi_least two. merkazobi_curve walks, for each run of the partition, as far as n goes, but no further
+   than a frame: a verdict makes one curve up to D, a listing one for each partition that has tasks. At the limits
+   that is some thousandths of a second for a verdict and some hundredths at most for a listing. merkazobi_page makes
+   the verdict's curve and walks, for each scheduling point of a task that fails, at most two frames more: some
+   hundredths of a second where every tick of 4,096 is one. docs/TIMES.md has what was measured. A call of the desk
+   goes through its 64 places a few times: about a microsecond, whatever is asked. */
 #ifndef MERKAZOBI_H
 #define MERKAZOBI_H
 
