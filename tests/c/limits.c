@@ -293,7 +293,7 @@ enum {
     SECTION_STACK = 18176,
     WRITE_STACK = 512,
     LIST_STACK = 79936,
-    OPEN_STACK = 320,
+    OPEN_STACK = 384,
     REQUEST_STACK = 384,
 };
 
