@@ -145,7 +145,7 @@ fn every_task(trial: &mut Trial) {
 /// A task that just fails, and with a tick less just passes, if it did before.
 fn a_tick_too_many(trial: &mut Trial) {
     let mut seen = Seen::default();
-    for _ in trial.cases(3000) {
+    for _ in trial.cases(5000) {
         let rng = &mut trial.rng;
         let periods = some_periods(rng);
         let d = rng.between(1, 90);
@@ -207,7 +207,7 @@ fn the_page_beside_it(trial: &mut Trial) {
 /// Short periods below a late deadline: points of several of them, which meet.
 fn many_points(trial: &mut Trial) {
     let mut seen = Seen::default();
-    for _ in trial.cases(1200) {
+    for _ in trial.cases(3000) {
         let rng = &mut trial.rng;
         let periods: Vec<usize> = (0..rng.between(1, 4)).map(|_| rng.pick(&PERIODS)).collect();
         let d = rng.between(40, 400);

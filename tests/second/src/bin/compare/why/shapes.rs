@@ -98,7 +98,7 @@ pub fn in_both_editions(trial: &mut Trial) {
 /// tasks, each released twice, has seven.
 pub fn each_width(trial: &mut Trial) {
     let mut seen = Seen::default();
-    for _ in trial.cases(1500) {
+    for _ in trial.cases(4000) {
         let rng = &mut trial.rng;
         let mut input = served(rng, 0, 1);
         if rng.one_in(2) {
