@@ -1,6 +1,7 @@
 #!/bin/sh
-# The comparisons of the library and the planner against the second program (tests/second/README.md). Words choose the
-# trials whose names start with one of them. Needs the archive and the program: rt staticlib api, rt check plan.
+# The comparisons of the library and the programs against the second program (tests/second/README.md). Words choose the
+# trials whose names start with one of them. Needs the archive and the programs: rt staticlib api, rt check plan, rt
+# check why.
 set -eu
 cd "$(dirname "$0")/.."
 
@@ -11,6 +12,7 @@ needed() {
 archive=target/staticlib/libapi.a
 needed "$archive" "rt staticlib api"
 needed target/bin/plan "rt check plan"
+needed target/bin/why "rt check why"
 tools/x86 cc target/calls tests/c/calls.c "$archive" -std=c11 -Wall -Wextra -Werror -Iinclude
 tools/x86 so target/again.so tests/c/again.c -std=c11 -Wall -Wextra -Werror -Iinclude
 

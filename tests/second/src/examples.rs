@@ -7,6 +7,7 @@ mod editions;
 mod explained;
 mod granules;
 mod page;
+mod why;
 
 use crate::answer::Answer;
 use crate::builder::build;

@@ -1,6 +1,6 @@
 //! The rules of document 01 once more, with asks 1, 2 and 4 to 7 of document 02, the curve of least
-//! service and the share table, by plain counting and trying, to compare the library and the
-//! planner against.
+//! service, the share table and the page as text, by plain counting and trying, to compare the
+//! library and the programs against.
 
 pub mod answer;
 pub mod builder;
@@ -24,6 +24,8 @@ pub mod share_table;
 pub mod shares;
 pub mod ticks;
 pub mod verdict;
+pub mod why;
+mod words;
 
 #[cfg(test)]
 mod examples;

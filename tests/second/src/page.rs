@@ -65,7 +65,7 @@ fn written(rows: &[Row], list: &mut [u32]) -> Answer {
 }
 
 /// "for each scheduling point in rising order".
-fn rows(service: &Service, tasks: &[Task], place: usize) -> Vec<Row> {
+pub(crate) fn rows(service: &Service, tasks: &[Task], place: usize) -> Vec<Row> {
     let task = &tasks[place - 1];
     let worst = worst_up_to(service, task.partition, task.d as usize);
     let row = |point: u64| {
@@ -82,7 +82,7 @@ fn rows(service: &Service, tasks: &[Task], place: usize) -> Vec<Row> {
 }
 
 /// "the point with the smallest shortage, lowest point on equals"; there is at least D's.
-fn named(rows: &[Row]) -> Row {
+pub(crate) fn named(rows: &[Row]) -> Row {
     let mut named = rows[0];
     for row in rows {
         if row.shortage() < named.shortage() {

@@ -6,16 +6,14 @@ use crate::editions::Edition;
 use crate::limits::{CYCLE, FRAME};
 use crate::service::Service;
 use crate::share_table::{self, Wrong};
-use crate::{builder, file, plan, records, ticks};
+use crate::{builder, file, plan, records, ticks, words};
 
 /// Without a word it is edition 1, and one word of up to five digits is that number; any others name
 /// none.
 pub fn edition(words: &[&str]) -> u64 {
     match words {
         [] => 1,
-        [word] if word.len() <= 5 && word.bytes().all(|byte| byte.is_ascii_digit()) => {
-            word.parse().unwrap_or(0)
-        }
+        [word] => words::number(word).unwrap_or(0),
         _ => 0,
     }
 }

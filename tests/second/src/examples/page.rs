@@ -137,7 +137,7 @@ fn starts() {
 }
 
 /// A switch tick is no service: tick 1 alone is, of four. Seven ticks from 2 on hold one of them,
-/// in edition 1 four.
+/// in edition 1 three.
 #[test]
 fn in_edition_2() {
     let (plan, parts) = ([1, 1, 0, 0], [4, 1, 4]);

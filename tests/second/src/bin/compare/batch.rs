@@ -6,7 +6,7 @@ use std::ops::Range;
 use second::desk::{Desk, Job};
 use second::Answer;
 
-/// The library's entries and the planner, by the numbers they have in a batch.
+/// The library's entries, by the numbers they have in a batch, and the programs.
 #[derive(Clone, Copy)]
 pub enum Entry {
     Wants,
@@ -29,6 +29,17 @@ pub enum Entry {
     Open,
     Request,
     Plan,
+    Why,
+}
+
+impl Entry {
+    /// A run of either program is the same in a batch: which of them it is, the process says.
+    fn number(self) -> u64 {
+        match self {
+            Entry::Why => Entry::Plan as u64,
+            entry => entry as u64,
+        }
+    }
 }
 
 /// So many plain numbers stand in each call; those that it isn't given are 0.
@@ -136,7 +147,7 @@ impl Batch {
         numbers[..given.len()].copy_from_slice(given);
         self.starts.push(self.asked.len());
         for (bytes, answer) in [(&mut self.asked, UNANSWERED), (&mut self.expected, answer)] {
-            put_number(entry as u64, bytes);
+            put_number(entry.number(), bytes);
             let rest = numbers.into_iter().chain(answer.numbers());
             rest.for_each(|number| put_number(number, bytes));
             put_number(0, bytes);

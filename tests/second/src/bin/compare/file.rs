@@ -22,7 +22,7 @@ pub const TRIALS: &[Named] = &[
 const PATTERN: u8 = 0xA5;
 const BEHIND: usize = 8;
 
-const W1: [u8; 44] = [
+pub const W1: [u8; 44] = [
     0, 1, 0, 4, 0, 16, 0, 2, 0, 28, 0, 1, 0, 36, 0, 2, 0, 4, 0, 1, 0, 2, 0, 4, 0, 1, 0, 3, 0, 1, 0,
     1, 0, 4, 0, 4, 0, 1, 0, 2, 0, 2, 0, 2,
 ];
@@ -141,7 +141,7 @@ fn damaged_files(trial: &mut Trial) {
 }
 
 /// Makes the file break the rule of a refusal of the reader, and no other but it must.
-fn break_rule(rng: &mut Rng, bytes: &mut Vec<u8>, number: u64) {
+pub fn break_rule(rng: &mut Rng, bytes: &mut Vec<u8>, number: u64) {
     let [tasks, runs] = [8, 12].map(|at| usize::from(get(bytes, at)));
     match number {
         1 => bytes.truncate(rng.between(0, 15)),

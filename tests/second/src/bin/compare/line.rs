@@ -4,9 +4,9 @@ use std::time::{Duration, Instant};
 
 use second::Answer;
 
-use crate::batch::{Batch, Call, Entry};
+use crate::batch::{number, Batch, Call, Entry};
 use crate::library::Library;
-use crate::programs::{Asked, Programs};
+use crate::programs::{Asked, Programs, Words};
 use crate::show;
 
 /// A batch takes about so long, and not many more bytes: long enough that waiting for the pipe
@@ -72,10 +72,12 @@ impl Line {
         };
         let all = [&self.batch.asked, &self.reply, &self.batch.expected];
         let [asked, library, second] = all.map(|bytes| &bytes[call.clone()]);
-        let complaint = show::complaint(asked, library, second);
+        let shown = |entry| show::complaint(entry, asked, library, second);
+        let of_words = |entry, words: Words| format!("words {words:?}\n{}", shown(entry as usize));
         match self.asked {
-            Asked::Planner(words) => format!("words {words:?}\n{complaint}"),
-            Asked::Library => complaint,
+            Asked::Planner(words) => of_words(Entry::Plan, words),
+            Asked::Why(words) => of_words(Entry::Why, words),
+            Asked::Library => shown(number(asked, 0) as usize),
         }
     }
 }

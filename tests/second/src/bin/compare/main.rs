@@ -1,4 +1,4 @@
-//! The library and the planner against the second program. Words on the command line choose the trials whose names
+//! The library and the programs against the second program. Words on the command line choose the trials whose names
 //! start with one of them.
 
 mod batch;
@@ -24,6 +24,7 @@ mod show;
 mod trial;
 mod verdict;
 mod wants;
+mod why;
 
 use std::env;
 use std::panic;
@@ -52,6 +53,7 @@ fn trials() -> Vec<Named> {
         listing::TRIALS,
         desk::TRIALS,
         plan::TRIALS,
+        why::TRIALS,
     ]
     .concat()
 }

@@ -83,7 +83,7 @@ fn small(trial: &mut Trial) {
 }
 
 /// A plan of some shape, and tasks of one partition with these periods; the last has this deadline.
-fn of_one_partition(rng: &mut Rng, longest: usize, periods: &[usize], d: usize) -> Input {
+pub fn of_one_partition(rng: &mut Rng, longest: usize, periods: &[usize], d: usize) -> Input {
     let mut input = Input::from(plans::of_some_shape(rng, longest));
     let partition = rng.between(1, input.partitions());
     let service = input.service();
@@ -97,7 +97,7 @@ fn of_one_partition(rng: &mut Rng, longest: usize, periods: &[usize], d: usize) 
     input
 }
 
-fn some_periods(rng: &mut Rng) -> Vec<usize> {
+pub fn some_periods(rng: &mut Rng) -> Vec<usize> {
     let count = rng.pick(&[0, 1, 1, 2, 2, 3, 5]);
     let most = rng.pick(&[6, 20, 60]);
     (0..count).map(|_| rng.between(1, most)).collect()
@@ -164,7 +164,7 @@ fn that_much_less(trial: &mut Trial) {
     seen.share(trial, &[EQUAL, WITHIN, NAMED_LAST], [1, 20]);
 }
 
-const PERIODS: [usize; 12] = [1, 2, 3, 4, 5, 7, 8, 9, 11, 13, 16, 17];
+pub const PERIODS: [usize; 12] = [1, 2, 3, 4, 5, 7, 8, 9, 11, 13, 16, 17];
 
 /// Short periods below a late deadline: points of several of them, which meet.
 fn many_points(trial: &mut Trial) {

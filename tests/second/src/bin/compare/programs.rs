@@ -7,24 +7,27 @@ use std::process::{Child, Command, Stdio};
 
 pub const ADVICE: &str = "`sh tests/compare.sh` builds it";
 const PLAN_ADVICE: &str = "`rt check plan` builds it";
+const WHY_ADVICE: &str = "`rt check why` builds it";
 
 #[derive(Clone)]
 pub struct Programs {
     /// Calls the library.
     calls: Program,
     plan: Program,
-    /// The planner, made to answer calls.
-    again: Program,
+    why: Program,
+    /// What is loaded before one of the latter two, so that it answers calls.
+    again: PathBuf,
 }
 
-/// The words that the planner is started with.
+/// The words that a program is started with.
 pub type Words = &'static [&'static str];
 
-/// What answers a call. The planner's words are those of its process.
+/// What answers a call. A program's words are those of its process.
 #[derive(Clone, Copy, Debug, PartialEq)]
 pub enum Asked {
     Library,
     Planner(Words),
+    Why(Words),
 }
 
 /// A program, what runs it, and the words for both.
@@ -45,9 +48,9 @@ pub struct Ended {
 }
 
 impl Programs {
-    /// target/calls and target/bin/plan, or what SECOND_CALLS and SECOND_PLAN name. The package's
-    /// folder is asked for now: that of the building is another one where the repository was
-    /// copied or moved with what it built.
+    /// target/calls, target/bin/plan and target/bin/why, or what SECOND_CALLS, SECOND_PLAN and
+    /// SECOND_WHY name. The package's folder is asked for now: that of the building is another one
+    /// where the repository was copied or moved with what it built.
     pub fn find() -> Result<Programs, String> {
         let folder = env::var_os("CARGO_MANIFEST_DIR").map(PathBuf::from);
         let folder = folder.ok_or("not run by cargo: `sh tests/compare.sh` does it")?;
@@ -58,36 +61,51 @@ impl Programs {
         };
         let calls = there(&named("SECOND_CALLS", "target/calls"), ADVICE)?;
         let plan = there(&named("SECOND_PLAN", "target/bin/plan"), PLAN_ADVICE)?;
-        let before = there(&root.join("target/again.so"), ADVICE)?;
-        let program = |before: &[&Path], path: &Path| Program {
+        let why = there(&named("SECOND_WHY", "target/bin/why"), WHY_ADVICE)?;
+        let program = |path: PathBuf| Program {
             x86: root.join("tools/x86"),
-            before: before.iter().map(PathBuf::from).collect(),
-            path: path.to_path_buf(),
+            before: Vec::new(),
+            path,
             words: &[],
         };
         Ok(Programs {
-            calls: program(&[], &calls),
-            again: program(&[Path::new("--preload"), &before], &plan),
-            plan: program(&[], &plan),
+            calls: program(calls),
+            plan: program(plan),
+            why: program(why),
+            again: there(&root.join("target/again.so"), ADVICE)?,
         })
     }
 
     pub fn answering(&self, asked: Asked) -> Program {
+        let program = self.program(asked);
         match asked {
-            Asked::Library => self.calls.clone(),
-            Asked::Planner(words) => self.again.with(words),
+            Asked::Library => program,
+            Asked::Planner(_) | Asked::Why(_) => Program {
+                before: vec![PathBuf::from("--preload"), self.again.clone()],
+                ..program
+            },
         }
     }
 
-    /// The planner in a process of its own, with the text over a pipe.
-    pub fn plan(&self, words: Words, text: &[u8]) -> Result<Ended, String> {
-        let mut child = self.plan.with(words).start(Stdio::piped())?;
+    /// The program with its words.
+    fn program(&self, asked: Asked) -> Program {
+        match asked {
+            Asked::Library => self.calls.clone(),
+            Asked::Planner(words) => self.plan.with(words),
+            Asked::Why(words) => self.why.with(words),
+        }
+    }
+
+    /// A program in a process of its own, with the text or file over a pipe.
+    pub fn alone(&self, asked: Asked, text: &[u8]) -> Result<Ended, String> {
+        let program = self.program(asked);
+        let mut child = program.start(Stdio::piped())?;
         if let Some(mut to) = child.stdin.take() {
             // An overlong text need not be read to its end.
             let _ = to.write_all(text);
         }
         let ended = child.wait_with_output();
-        let ended = ended.map_err(|error| format!("{}: {error}", self.plan.name()))?;
+        let ended = ended.map_err(|error| format!("{}: {error}", program.name()))?;
         Ok(Ended {
             status: ended.status.code(),
             out: ended.stdout.escape_ascii().to_string(),

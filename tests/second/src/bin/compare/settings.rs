@@ -1,4 +1,4 @@
-//! What the environment says: SECOND_SEED, SECOND_CASES, SECOND_SECONDS, SECOND_CALLS, SECOND_PLAN.
+//! What the environment says: SECOND_SEED, SECOND_CASES, SECOND_SECONDS, SECOND_CALLS, SECOND_PLAN, SECOND_WHY.
 
 use std::env;
 use std::thread;

@@ -15,7 +15,7 @@ type Names = (
 const TEXT: &str = "text";
 const LINE: &str = "plan file or line";
 
-const ENTRIES: [Names; 20] = [
+const ENTRIES: [Names; 21] = [
     ("wants", &["granule", "m", "num", "den"], &[]),
     ("held", &["edition", "p", "s", "n"], &["plan"]),
     ("least", &["edition", "p", "t"], &["plan"]),
@@ -64,6 +64,7 @@ const ENTRIES: [Names; 20] = [
     ("open", &[], &["desk", "jobs"]),
     ("request", &["t", "c", "d"], &["desk", "jobs"]),
     ("plan", &["read_at_once", "written_at_once"], &[TEXT, LINE]),
+    ("why", &["read_at_once", "written_at_once"], &["file", TEXT]),
 ];
 
 /// So many calls of each entry.
@@ -78,14 +79,14 @@ pub fn by_entry(tally: &Tally) -> String {
     named.join(", ")
 }
 
-/// The call as it was asked, and what each program made of it.
-pub fn complaint(asked: &[u8], library: &[u8], second: &[u8]) -> String {
-    let (name, given, _) = ENTRIES[number(asked, 0) as usize];
+/// The call of an entry as it was asked, and what each program made of it.
+pub fn complaint(entry: usize, asked: &[u8], library: &[u8], second: &[u8]) -> String {
+    let (name, given, lent) = ENTRIES[entry];
     let mut text = format!("input {name}");
     for (place, what) in given.iter().enumerate() {
         let _ = write!(text, " {what} {}", number(asked, GIVEN + 8 * place));
     }
-    let slices = slices(asked);
+    let slices = slices(lent, asked);
     for slice in &slices {
         text += &slice.shown(asked);
     }
@@ -135,8 +136,7 @@ struct Slice {
     to: usize,
 }
 
-fn slices(asked: &[u8]) -> Vec<Slice> {
-    let (.., names) = ENTRIES[number(asked, 0) as usize];
+fn slices(names: &[&'static str], asked: &[u8]) -> Vec<Slice> {
     let mut at = HEAD;
     let mut slices = Vec::new();
     for name in names {
@@ -225,6 +225,7 @@ mod tests {
         reply[start + changed] += 1;
         let call = batch.differing(&reply).unwrap_or_default();
         complaint(
+            Entry::Build as usize,
             &batch.asked[call.clone()],
             &reply[call.clone()],
             &batch.expected[call],

@@ -29,7 +29,7 @@ pub struct Trial {
     progress: Rc<Progress>,
     shares_left_out: bool,
     programs: Programs,
-    /// The library, or a planner for each list of words; none before its first call.
+    /// The library, or a program for each list of words; none before its first call.
     lines: Vec<Line>,
     tally: Tally,
     pub rng: Rng,
@@ -81,6 +81,11 @@ impl Trial {
         self.call_of(Asked::Planner(words), Entry::Plan, given, answer)
     }
 
+    /// The same of the page as text.
+    pub fn why(&mut self, words: Words, given: &[u64], answer: Answer) -> Call<'_> {
+        self.call_of(Asked::Why(words), Entry::Why, given, answer)
+    }
+
     fn call_of(&mut self, asked: Asked, entry: Entry, given: &[u64], answer: Answer) -> Call<'_> {
         let at = self.line(asked);
         if self.lines[at].full() {
@@ -101,8 +106,17 @@ impl Trial {
 
     /// Runs the planner by itself.
     pub fn plan_alone(&mut self, words: Words, text: &[u8]) -> Ended {
-        self.tally[Entry::Plan as usize] += 1;
-        let ended = self.programs.plan(words, text);
+        self.alone(Asked::Planner(words), Entry::Plan, text)
+    }
+
+    /// Runs the page as text by itself.
+    pub fn why_alone(&mut self, words: Words, file: &[u8]) -> Ended {
+        self.alone(Asked::Why(words), Entry::Why, file)
+    }
+
+    fn alone(&mut self, asked: Asked, entry: Entry, text: &[u8]) -> Ended {
+        self.tally[entry as usize] += 1;
+        let ended = self.programs.alone(asked, text);
         ended.unwrap_or_else(|why| self.fail(&why))
     }
 
