@@ -184,15 +184,15 @@ pub fn worst_start(rule: Rule, plan: &[u16], p: usize, t: usize, low: usize) -> 
     requires { ⌜ (t < 2 ^ 32) × (low ≡ least rule (now plan) p t) ⌝ }
     ensures { λ r. ⌜ (r ≤ length (now (plan .entry))) × (r ≡ worstStart rule (now (plan .entry)) p t) ⌝ }
 {
-    let f = plan.len();
+    let frame = plan.len();
     let mut stretch = stretch_from(rule, plan, p, t, 0);
-    while stretch.start < f {
+    while stretch.start < frame {
         if stretch.held == low {
             return stretch.start;
         }
         stretch = next_stretch(rule, plan, p, stretch);
     }
-    f
+    frame
 }
 
 // The least number by an edition.

@@ -10,15 +10,15 @@ use Rattle.plan_service.proofs.worst_start.Statement.{statement}
 use Rattle.plan_service.proofs.worst_start.Tie as tie
 
 abbrev Inv-loop : tie.InvT-loop
-Inv-loop rule plan p t low f stretch₀ stretch =
-    (stretch .start ≤ f)
+Inv-loop rule plan p t low frame stretch₀ stretch =
+    (stretch .start ≤ frame)
     × (stretch .length ≡ t)
     × (stretch .held ≡ held rule plan p (stretch .length) (stretch .start))
-    × (stretch .enters ≡ (stretch .start + stretch .length) % f)
+    × (stretch .enters ≡ (stretch .start + stretch .length) % frame)
     × (first (worst rule plan p t) (stretch .start) ≡ stretch .start)
 
 abbrev μ-loop : tie.MeasureT-loop
-μ-loop rule plan p t low f stretch₀ stretch = f - stretch .start
+μ-loop rule plan p t low frame stretch₀ stretch = frame - stretch .start
 
 stretch-from-requires : tie.Need-stretch-from-requires Inv-loop μ-loop
 stretch-from-requires c κs = search needs
