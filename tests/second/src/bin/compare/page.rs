@@ -3,7 +3,7 @@
 
 pub mod asked;
 mod refused;
-mod shapes;
+pub mod shapes;
 
 use second::inputs::{editions, granules, plans, tasks};
 use second::page::ROW;

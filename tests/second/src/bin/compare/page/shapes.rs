@@ -110,20 +110,25 @@ pub fn one_tick(trial: &mut Trial) {
     seen.share(trial, &["2", "21"], [1, 100]);
 }
 
+/// Up to three tasks of one partition with D beyond the frame, up to twelve frames.
+pub fn far(rng: &mut Rng) -> Input {
+    let longest = rng.between(1, 16);
+    let mut input = without_tasks(rng, 3, longest);
+    let [own, frame] = [rng.between(1, input.partitions()), input.plan.len()];
+    let service = input.service();
+    for _ in 0..rng.between(1, 3) {
+        let d = rng.between(frame + 1, 12 * frame);
+        let t = rng.between(d, 13 * frame);
+        tasks::add(rng, &service, &mut input.tasks, [own, d, t]);
+    }
+    input
+}
+
 /// D beyond the frame, up to twelve frames: the stretches pass its end several times.
 pub fn beyond_the_frame(trial: &mut Trial) {
     let mut seen = Seen::default();
     for _ in trial.cases(8000) {
-        let rng = &mut trial.rng;
-        let longest = rng.between(1, 16);
-        let mut input = without_tasks(rng, 3, longest);
-        let [own, frame] = [rng.between(1, input.partitions()), input.plan.len()];
-        let service = input.service();
-        for _ in 0..rng.between(1, 3) {
-            let d = rng.between(frame + 1, 12 * frame);
-            let t = rng.between(d, 13 * frame);
-            tasks::add(rng, &service, &mut input.tasks, [own, d, t]);
-        }
+        let mut input = far(&mut trial.rng);
         if until_it_fails(&mut input) {
             judge(trial, &input, input.listed(), &mut seen);
         }

@@ -2,13 +2,14 @@
 //! width, and at the limits.
 
 use second::editions::Edition;
-use second::inputs::{plans, tasks};
+use second::inputs::plans;
 use second::limits::PERIOD;
 
 use super::asked::{
     digits, judge, lines, naming, AT_THE_END, COLUMNS, EQUAL, LAST_TICK, LATER, PAST,
 };
 use crate::page::asked::until_it_fails;
+use crate::page::shapes::far;
 use crate::seen::Seen;
 use crate::trial::Trial;
 use crate::verdict::asked::{served, without_tasks, Input};
@@ -47,16 +48,7 @@ pub fn equal_shortages(trial: &mut Trial) {
 pub fn beyond_the_frame(trial: &mut Trial) {
     let mut seen = Seen::default();
     for _ in trial.cases(3000) {
-        let rng = &mut trial.rng;
-        let longest = rng.between(1, 16);
-        let mut input = without_tasks(rng, 3, longest);
-        let [own, frame] = [rng.between(1, input.partitions()), input.plan.len()];
-        let service = input.service();
-        for _ in 0..rng.between(1, 3) {
-            let d = rng.between(frame + 1, 12 * frame);
-            let t = rng.between(d, 13 * frame);
-            tasks::add(rng, &service, &mut input.tasks, [own, d, t]);
-        }
+        let mut input = far(&mut trial.rng);
         if until_it_fails(&mut input) {
             let words = naming(trial, input.listed());
             judge(trial, words, &input.file(), &mut seen);
