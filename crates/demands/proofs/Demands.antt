@@ -21,7 +21,7 @@ use Rattle.rules.specs.declared.Binding.the-variants as binding
 use Rattle.rules.specs.declared.Explanation.{Explanation}
 use Rattle.rules.specs.declared.Explanation.the-variants as why
 use Rattle.rules.specs.declared.Refusal.{Refusal}
-use Rattle.rules.specs.declared.Refusal.the-variants.{Edition, Tick, Shortfall, Unharmonic, Want, Output, Rules, Numbers, Past, Busy, Full, NoPlace, TooFar}
+use Rattle.rules.specs.declared.Refusal.the-variants.{Edition, Tick, Shortfall, Unharmonic, Want, Output, Rules, Numbers, Past, Busy, Full, NoPlace}
 use Rattle.rules.specs.Refusals.{telling, told, toldFinding, toldFilling, toldHolding, Tells}
 use Rattle.rules.specs.Filling.{leftBy}
 use Rattle.rules.proofs.Known.{not-0, by-number, filling-fills, tells-one}
@@ -70,7 +70,7 @@ use Rattle.desk.specs.declared.Desk.{Desk}
 use Rattle.desk.specs.declared.Answer.{Answer}
 use Rattle.desk.specs.declared.Answer.the-variants.{Opened, Taken, Refused}
 use Rattle.desk.specs.Table.{job, start, ends, none, filled, flexes, Outcome, outcome, tableOk, openOf}
-use Rattle.desk.specs.Request.{kept, Place, At, Nowhere, find, tooFar, insertAt, taking, dropping, drops, requestOf}
+use Rattle.desk.specs.Request.{kept, Place, At, Nowhere, find, insertAt, taking, dropping, drops, requestOf}
 use Rattle.desk.specs.Call.{deskOf, Leaves, said}
 use Rattle.desk.specs.Places.{early, startAt}
 use Rattle.desk.specs.Reason.{explanationOf}
@@ -136,17 +136,13 @@ module _ (P : Outcome → Type 0) (clock n : ℕ) (l : List Job) (t c d : ℕ) w
   abbrev takes : ℕ → ℕ → Outcome
   takes i s = outcome (filled (insertAt i (job s c d 0) js)) (length js + 1) t (Taken i s)
 
-  taking-holds : (p : Place) → P (dropping t js (NoPlace (explanationOf t d js))) → P (stays TooFar) → ((i s : ℕ) → P (takes i s)) → P (taking (stays TooFar) t c d js p)
-  taking-holds Nowhere none far new = none
-  taking-holds (At i s) none far new = at (tooFar (s + c) (drop i js))
-    where
-      at : (b : Bool) → P (pick b (stays TooFar) (takes i s))
-      at true = far
-      at false = new i s
+  taking-holds : (p : Place) → P (dropping t js (NoPlace (explanationOf t d js))) → ((i s : ℕ) → P (takes i s)) → P (taking t c d js p)
+  taking-holds Nowhere none new = none
+  taking-holds (At i s) none new = new i s
 
-  request-holds : P (stays Rules) → P (stays Numbers) → P (stays Past) → P (dropping t js Busy) → P (dropping t js Full) → P (dropping t js (NoPlace (explanationOf t d js))) → P (stays TooFar)
+  request-holds : P (stays Rules) → P (stays Numbers) → P (stays Past) → P (dropping t js Busy) → P (dropping t js Full) → P (dropping t js (NoPlace (explanationOf t d js)))
       → ((i s : ℕ) → P (takes i s)) → P (requestOf clock n l t c d)
-  request-holds thirteen fourteen fifteen sixteen seventeen eighteen nineteen new = by (requestOf clock n l t c d) (comes clock n l t c d)
+  request-holds thirteen fourteen fifteen sixteen seventeen eighteen new = by (requestOf clock n l t c d) (comes clock n l t c d)
     where
       by : (o : Outcome) → Comes clock n l t c d o → P o
       by o (at-13 e) = thirteen
@@ -154,7 +150,7 @@ module _ (P : Outcome → Type 0) (clock n : ℕ) (l : List Job) (t c d : ℕ) w
       by o (at-15 e) = fifteen
       by o (at-16 late small e) = sixteen
       by o (at-17 late small e) = seventeen
-      by o (through w) = taking-holds (find t c d js) eighteen nineteen new
+      by o (through w) = taking-holds (find t c d js) eighteen new
 
 -- ---- from what is told to the rule's answer, and back
 
@@ -279,9 +275,9 @@ module _ (k k′ : Desk) (l l′ : List Job) (time c d : ℕ) (t : Told) (p : Te
       let f : drops (r .0) ≡ b = which (told (r .0) .number) (rw (← r .2) e) in
       (r .0, rw (← f) (desk.proved .request-leaves (k .clock) (k .count) l time c d (r .0) (r .1)))
 
-  stayed : ToldAs (13 ∷ 14 ∷ 15 ∷ 19 ∷ []) t → (k′ ≡ k) × (l′ ≡ l)
+  stayed : ToldAs (13 ∷ 14 ∷ 15 ∷ []) t → (k′ ≡ k) × (l′ ≡ l)
   stayed e =
-      let a = leaving (13 ∷ 14 ∷ 15 ∷ 19 ∷ []) false (λ n h. not-true (dropsBy n) (every-among (λ n. not (dropsBy n)) (13 ∷ 14 ∷ 15 ∷ 19 ∷ []) n refl h)) (λ z. true≢false (sym z)) e in
+      let a = leaving (13 ∷ 14 ∷ 15 ∷ []) false (λ n h. not-true (dropsBy n) (every-among (λ n. not (dropsBy n)) (13 ∷ 14 ∷ 15 ∷ []) n refl h)) (λ z. true≢false (sym z)) e in
       left-is asked k′ l′ t p _ (a .1)
 
   dropped : ToldAs (16 ∷ 17 ∷ 18 ∷ []) t → (k′ .clock ≡ time) × (k′ .count ≡ length left) × (l′ ≡ filled left)
@@ -291,7 +287,7 @@ module _ (k k′ : Desk) (l l′ : List Job) (time c d : ℕ) (t : Told) (p : Te
       (ap (λ (x : Desk). x .clock) (q .0), ap (λ (x : Desk). x .count) (q .0), q .1)
 
   not-opened : ¬ (asked .answer ≡ Opened)
-  not-opened = request-holds (λ o. ¬ (o .answer ≡ Opened)) (k .clock) (k .count) l time c d other other other other other other other (λ i s e. let z : _≡_ {A = ℕ} 0 1 = cc in absurd (omega arith))
+  not-opened = request-holds (λ o. ¬ (o .answer ≡ Opened)) (k .clock) (k .count) l time c d other other other other other other (λ i s e. let z : _≡_ {A = ℕ} 0 1 = cc in absurd (omega arith))
     where
       other : {r : Refusal} → ¬ (_≡_ {A = Answer} (Refused r) Opened)
       other e = let z : _≡_ {A = ℕ} 0 1 = cc in absurd (omega arith)
@@ -324,6 +320,14 @@ module _ (k k′ : Desk) (l l′ : List Job) (time c d : ℕ) (t : Told) (p : Te
       go : (a : Answer) → asked .answer ≡ a → said a .second ≡ startAt time left (said a .first)
       go Opened f = absurd (not-opened f)
       go (Taken i s) f = desk.proved .taken-start (k .clock) (k .count) l time c d i s f
+      go (Refused r) f = absurd (not-0 r (rw (desk-is asked k′ l′ t p, f) at e))
+
+  near-told : t .number ≡ 0 → desk.MovesWithin left (t .first) l′
+  near-told e = rw (p .1 .2) (go (asked .answer) refl)
+    where
+      go : (a : Answer) → asked .answer ≡ a → desk.MovesWithin left (t .first) (asked .jobs)
+      go Opened f = absurd (not-opened f)
+      go (Taken i s) f = ?
       go (Refused r) f = absurd (not-0 r (rw (desk-is asked k′ l′ t p, f) at e))
 
   busy-told : t .number ≡ 16
@@ -451,10 +455,8 @@ first = record {
       (write-told (ltb (length out) (sizeFor ps ts rs)) _));
   list-numbers = λ b out o t p. rw (list-is b out o t p) (list-told (ltb (length out) (length (listingOf b))) _);
   open-numbers = λ k k′ l l′ t p. rw (desk-is _ k′ l′ t p) (open-told (tableOk (k .count) l) _ _ (k .count) (k .clock));
-  request-numbers = λ k k′ l l′ time c d t p. (
-    rw (desk-is _ k′ l′ t p) (request-holds (λ o. Numbered (13 ∷ 14 ∷ 15 ∷ 16 ∷ 17 ∷ 18 ∷ 19 ∷ []) (said (o .answer))) (k .clock) (k .count) l time c d refl refl refl refl refl refl refl (λ i s. refl)),
-    λ e. absurd (desk.proved .never-too-far (k .clock) (k .count) l time c d (rw (desk-is _ k′ l′ t p) at e)),
-  );
+  request-numbers = λ k k′ l l′ time c d t p.
+      rw (desk-is _ k′ l′ t p) (request-holds (λ o. Numbered (13 ∷ 14 ∷ 15 ∷ 16 ∷ 17 ∷ 18 ∷ []) (said (o .answer))) (k .clock) (k .count) l time c d refl refl refl refl refl refl (λ i s. refl));
   held-edition = λ i plan p s n t q.
       rw (held-is i plan p s n t q) (by-edition i (λ (r : Holding). toldHolding r .number) (holding.Holds (held (ruleOf i) plan p n s)) (holding.Refused Edition) refl (λ z. absurd (omega arith)));
   least-edition = λ i plan p u t q.
@@ -586,6 +588,7 @@ second = record {
   no-place-explained = explained-told;
   no-place-room-taken = room-told;
   taken-start = start-told;
+  never-too-far = near-told;
   busy-ends = busy-told;
 }
 

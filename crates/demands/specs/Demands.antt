@@ -115,10 +115,10 @@ pub record Demand1 : Type 0 where
   pub list-numbers : (b out o : List ℕ) (t : Told) → TellsList b out o t → Numbered (12 ∷ []) t
   -- "opening 13"
   pub open-numbers : (k k′ : Desk) (l l′ : List Job) (t : Told) → TellsOpen k l k′ l′ t → Numbered (13 ∷ []) t
-  -- "a request 13 to 19", of which 19 never comes
+  -- "a request 13 to 19", and document 02, ask 8: "Refusal 19 goes."
   pub request-numbers :
       (k k′ : Desk) (l l′ : List Job) (time c d : ℕ) (t : Told) → TellsRequest k l time c d k′ l′ t
-      → Numbered (13 ∷ 14 ∷ 15 ∷ 16 ∷ 17 ∷ 18 ∷ 19 ∷ []) t × ¬ (t .number ≡ 19)
+      → Numbered (13 ∷ 14 ∷ 15 ∷ 16 ∷ 17 ∷ 18 ∷ []) t
   -- document 02, ask 6: "2 now means neither 1 nor 2, in a call too": exactly then, whatever else comes in
   pub held-edition : (e : ℕ) (plan : List ℕ) (p s n : ℕ) (t : Told) → TellsHeld e plan p s n t → (t .number ≡ 2) ↔ (¬ Known e)
   pub least-edition : (e : ℕ) (plan : List ℕ) (p u : ℕ) (t : Told) → TellsLeast e plan p u t → (t .number ≡ 2) ↔ (¬ Known e)
@@ -152,11 +152,11 @@ pub record Demand1 : Type 0 where
   pub change-refused :
       (plan ps list plan′ o : List ℕ) (tick owner : ℕ) (t : Told) → TellsChange plan ps list tick owner plan′ o t → Refused t
       → (plan′ ≡ plan) × (o ≡ list)
-  -- "13, 14, 15 and 19 change nothing at the desk."
+  -- "13, 14, 15 .. change nothing at the desk."
   pub open-refused : (k k′ : Desk) (l l′ : List Job) (t : Told) → TellsOpen k l k′ l′ t → Refused t → (k′ ≡ k) × (l′ ≡ l)
   pub request-refused :
       (k k′ : Desk) (l l′ : List Job) (time c d : ℕ) (t : Told) → TellsRequest k l time c d k′ l′ t
-      → ToldAs (13 ∷ 14 ∷ 15 ∷ 19 ∷ []) t → (k′ ≡ k) × (l′ ≡ l)
+      → ToldAs (13 ∷ 14 ∷ 15 ∷ []) t → (k′ ≡ k) × (l′ ≡ l)
   -- "16, 17, 18 set the clock to t and drop finished jobs .. nothing else changes."
   pub request-drops :
       (k k′ : Desk) (l l′ : List Job) (time c d : ℕ) (t : Told) → TellsRequest k l time c d k′ l′ t → ToldAs (16 ∷ 17 ∷ 18 ∷ []) t
@@ -322,6 +322,10 @@ pub record Demand2 : Type 0 where
   pub taken-start :
       (k k′ : Desk) (l l′ : List Job) (time c d : ℕ) (t : Told) → TellsRequest k l time c d k′ l′ t → t .number ≡ 0
       → t .second ≡ startAt time (kept time (take (k .count) l)) (t .first)
+  -- document 02, ask 8: it "never leads to a move beyond a job's flexibility", from the jobs left to those in the caller's table
+  pub never-too-far :
+      (k k′ : Desk) (l l′ : List Job) (time c d : ℕ) (t : Told) → TellsRequest k l time c d k′ l′ t → t .number ≡ 0
+      → desk.MovesWithin (kept time (take (k .count) l)) (t .first) l′
   -- after 16 the first job in the caller's table is running, and a request when it ends is not refused with 16
   pub busy-ends :
       (k k′ : Desk) (l l′ : List Job) (time c d : ℕ) (t : Told) → TellsRequest k l time c d k′ l′ t → t .number ≡ 16

@@ -1,5 +1,5 @@
 -- One call for each refusal number and each entry that uses it, and for each limit one call at it and one beyond: what is told, and what is left in all that
--- was lent. (19 never comes: `Demand1`.) Assumes nothing.
+-- was lent. (19 is gone: document 02, ask 8.) Assumes nothing.
 use Prim.Native.Nat.{ℕ, zero, suc, _+_}
 use mathlib.Core.List.{List, [], _∷_, _++_}
 use lib.ListN.{take, drop, replicate}

@@ -6,17 +6,17 @@ use mathlib.Core.List.{List, [], _∷_}
 use native.Mathlib.Nat.{min-le-right}
 use native.Mathlib.Omega.{arith}
 use lib.Dec.{leb, eqb}
-use borrow.Author.Tests.{eqb-true, leb-true, le-leb, lt-leb, leb-false, le-ltb}
+use borrow.Author.Tests.{eqb-true, leb-true, le-leb, lt-leb, leb-false}
 use Rattle.rules.specs.Limits.{latest}
 use Rattle.desk.specs.declared.Job.{Job}
 use Rattle.rules.specs.Walk.{pick}
 use mathlib.Core.Bool.{_&&_}
 use Rattle.desk.specs.Table.{xOf, rightX, ordered, jobOk, ends}
 use Rattle.desk.specs.Places.{shift}
-use Rattle.desk.specs.Request.{tooFar, kept}
+use Rattle.desk.specs.Request.{kept}
 use Rattle.rules.proofs.Tests.{and-parts}
 use Rattle.desk.proofs.Check.{xOf-le}
-use Rattle.desk.proofs.Afresh.{Near, sub-both}
+use Rattle.desk.proofs.Afresh.{Near, AllNear, sub-both}
 
 pub record Fine (j : Job) : Type 0 where
   pub some : 1 ≤ j .budget
@@ -100,14 +100,12 @@ near-next e j (k ∷ ks) h x g =
     let top : max e (j .start) ≤ j .start + j .flex = omega arith in
     omega arith
 
--- on a sound table no later move exceeds its x: refusal 19 is never given once the first move fits
-pub never-far : (e f : ℕ) (js : List Job) → Chain f js → rightX js ≡ true → Near e js → tooFar e js ≡ false
-never-far e f [] g r h = refl
-never-far e f (j ∷ js) g r h =
+-- on a sound table no later move exceeds its x once the first one fits
+pub all-near : (e f : ℕ) (js : List Job) → Chain f js → rightX js ≡ true → Near e js → AllNear e js
+all-near e f [] g r h = tt
+all-near e f (j ∷ js) g r h =
     let x : j .flex ≡ xOf j js = eqb-true _ _ (and-parts _ (rightX js) r .0) in
-    let fits : max e (j .start) - j .start ≤ j .flex = omega arith in
-    rw (le-ltb (j .flex) _ fits)
-    (never-far (max e (j .start) + j .budget) (ends j) js (g .2) (and-parts (eqb (j .flex) (xOf j js)) _ r .1) (near-next e j js h x (g .2)))
+    (h, all-near (max e (j .start) + j .budget) (ends j) js (g .2) (and-parts (eqb (j .flex) (xOf j js)) _ r .1) (near-next e j js h x (g .2)))
 
 -- with right flexibilities and the first move within its x, all stay fine
 pub chain-shift : (e : ℕ) (js : List Job) → Chain 0 js → rightX js ≡ true → Near e js → Chain e (shift e js)

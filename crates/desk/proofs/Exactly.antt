@@ -1,6 +1,6 @@
 -- A request that no lower number refuses is taken exactly when some place keeps every deadline, and else is 18. Assumes nothing.
 use Prim.Native.Nat.{ℕ, zero, suc, _+_, _-_, _<_, _≤_}
-use mathlib.Core.Path.{_≡_, refl, sym, ap, subst, _∙_}
+use mathlib.Core.Path.{_≡_, refl, subst}
 use mathlib.Core.Logic.{_↔_, _⊎_, inl, inr}
 use mathlib.Core.Bool.{Bool, true, false}
 use mathlib.Core.List.{List, [], _∷_}
@@ -14,7 +14,6 @@ use Rattle.rules.specs.Refusals.{told}
 use Rattle.rules.specs.declared.Refusal.the-variants.{Busy, Full, NoPlace}
 use Rattle.rules.proofs.Tests.{and-parts}
 use Rattle.desk.specs.declared.Job.{Job}
-use Rattle.desk.specs.declared.Answer.{Answer}
 use Rattle.desk.specs.declared.Answer.the-variants.{Taken}
 use Rattle.desk.specs.Table.{job, xOf, rightX, ends, Outcome}
 use Rattle.desk.specs.Places.{early, startAt, room}
@@ -24,7 +23,7 @@ use Rattle.desk.specs.Story.{Entry, entry, noEntry, finish, standing, en
 use Rattle.desk.specs.Theorems.{Refuses, Fits, NoLower, TakenExactly, NoPlaceExactly, TakenStart}
 use Rattle.desk.proofs.Chain.{Chain}
 use Rattle.desk.proofs.Spot.{Spot, early-late, right-tail, spot-start, spot-inside, chain-insert}
-use Rattle.desk.proofs.Rules.{good-of, good-kept, fresh, running, full, nowhere, Ending, same, dropped, taken, ending, sound-unless}
+use Rattle.desk.proofs.Rules.{good-of, good-kept, fresh, running, full, nowhere, Ending, same, dropped, taken, ending, sound-unless, sound-taken}
 use Rattle.desk.proofs.Entries.{withEntry, Follow, line-entries, follow-insert, follow-open, entries-open, line-promise}
 use Rattle.desk.proofs.Still.{join-here}
 
@@ -224,8 +223,7 @@ module _ (clock n : ℕ) (l : List Job) (t c d : ℕ) where
 
 pub taken-start : TakenStart
 taken-start clock n l t c d i s e =
-    let sound = sound-unless clock n l t c d (λ f. let z : 0 ≡ 13 = sym (ap (λ (a : Answer). said a .number) e) ∙ f in absurd (omega arith)) in
-    started clock n l t c d (requestOf clock n l t c d) i s e (ending clock n l t c d sound)
+    started clock n l t c d (requestOf clock n l t c d) i s e (ending clock n l t c d (sound-taken clock n l t c d i s e))
 
 pub taken-exactly : TakenExactly
 taken-exactly clock n l t c d nl = taken-fits clock n l t c d (requestOf clock n l t c d) (sought-of clock n l t c d nl)

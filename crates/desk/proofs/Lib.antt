@@ -13,4 +13,5 @@ pub mod Still
 pub mod Exactly
 pub mod Busy
 pub mod Reason
+pub mod Moves
 pub mod Proved

@@ -1,26 +1,27 @@
 -- Each statement of specs/Theorems.antt, proved. Assumes nothing.
-use Prim.Native.Nat.{ℕ, zero, suc, _+_, _<_}
+use Prim.Native.Nat.{ℕ, zero, suc, _<_}
 use mathlib.Core.Path.{_≡_, refl, ap, _∙_}
 use mathlib.Core.Bool.{Bool, true, false}
 use mathlib.Core.List.{List, [], _∷_}
 use native.Mathlib.Omega.{arith}
-use lib.ListN.{length, take, drop, getD}
+use lib.ListN.{length, take, getD}
 use lib.Seq.{getD-take}
 use Rattle.rules.specs.Walk.{pick}
 use Rattle.rules.specs.declared.Refusal.{Refusal}
-use Rattle.rules.specs.declared.Refusal.the-variants.{Rules, Numbers, Past, Busy, Full, NoPlace, TooFar}
+use Rattle.rules.specs.declared.Refusal.the-variants.{Rules, Numbers, Past, Busy, Full, NoPlace}
 use Rattle.desk.specs.declared.Job.{Job}
 use Rattle.desk.specs.declared.Answer.the-variants.{Opened, Taken, Refused}
 use Rattle.desk.specs.Table.{none, filled, outcome, flexes, tableOk, openOf, Outcome}
 use Rattle.desk.specs.Reason.{explanationOf}
-use Rattle.desk.specs.Request.{kept, find, tooFar, dropping, taking, drops, requestOf, Place, At, Nowhere}
+use Rattle.desk.specs.Request.{kept, find, dropping, taking, drops, requestOf, Place, At, Nowhere}
 use Rattle.desk.specs.Story.{Entry, noEntry, entries, Story, begin}
-use Rattle.desk.specs.Theorems.{OpenLeaves, NeverTooFar, Refuses, OpenTells, InEveryStory, Matches, Proved}
-use Rattle.desk.proofs.Rules.{Sound, request-sound, request-numbers, opened-table, open-is, open-sound, open-good, open-sound-unless, sound-unless, afresh}
+use Rattle.desk.specs.Theorems.{OpenLeaves, Refuses, OpenTells, InEveryStory, Matches, Proved}
+use Rattle.desk.proofs.Rules.{Sound, request-sound, request-not-13, opened-table, open-is, open-sound, open-good, open-sound-unless, sound-unless, afresh}
 use Rattle.desk.proofs.Entries.{Follow, entries-open}
 use Rattle.desk.proofs.Promise.{take-filled, table, Kept, kept-good, kept-many, kept-begin, promise}
 use Rattle.desk.proofs.Exactly.{taken-start, taken-exactly, no-place-exactly}
 use Rattle.desk.proofs.Busy.{busy-ends}
+use Rattle.desk.proofs.Moves.{room-never-too-far, never-too-far}
 use Rattle.desk.proofs.Reason.{no-place-roomiest, no-place-nowhere, no-place-breaks, no-place-room-taken}
 use Rattle.desk.proofs.Ready.{Comes, at-13, at-14, at-15, at-16, at-17, through, comes, lower-exactly}
 use Rattle.desk.proofs.Still.{refused-same, taken-joined, still, all-since-opening, still-ever, length-entries}
@@ -57,15 +58,9 @@ module _ (clock n : ℕ) (l : List Job) (t c d : ℕ) where
         taken = λ i s e. refl;
       }
 
-  choose : (b : Bool) (o p : Outcome) → Right o → Right p → Right (pick b o p)
-  choose true o p h g = h
-  choose false o p h g = g
-
-  right-placed : (p : Place) → Right (taking (outcome l n clock (Refused TooFar)) t c d (kept t (take n l)) p)
+  right-placed : (p : Place) → Right (taking t c d (kept t (take n l)) p)
   right-placed Nowhere = drops-all (NoPlace (explanationOf t d (kept t (take n l)))) refl
-  right-placed (At i s) =
-      choose (tooFar (s + c) (drop i (kept t (take n l)))) _ _ (stays TooFar refl)
-      (record { refused = λ r e. absurd (let z : _≡_ {A = ℕ} 0 1 = cc in omega arith); taken = λ k u e. refl })
+  right-placed (At i s) = record { refused = λ r e. absurd (let z : _≡_ {A = ℕ} 0 1 = cc in omega arith); taken = λ k u e. refl }
 
   right-by : (o : Outcome) → Comes clock n l t c d o → Right o
   right-by o (at-13 e) = stays Rules refl
@@ -111,11 +106,7 @@ tells h w =
     }
 
 not-rules : (clock n : ℕ) (l : List Job) → Sound clock n l → (t c d : ℕ) → Refuses (requestOf clock n l t c d) 13 → ⊥
-not-rules clock n l s t c d = request-numbers clock n l t c d s .0
-
-never-too-far : NeverTooFar
-never-too-far clock n l t c d e =
-    request-numbers clock n l t c d (sound-unless clock n l t c d (λ f. absurd (omega arith))) .1 e
+not-rules clock n l s t c d = request-not-13 clock n l t c d s
 
 pub proved : Proved
 proved =
@@ -129,6 +120,7 @@ proved =
       not-rules-after-request = λ clock n l t c d h. not-rules _ _ _ (request-sound clock n l t c d (sound-unless clock n l t c d h));
       open-afresh = λ clock n l h. afresh (openOf clock n l) (open-sound-unless clock n l h);
       request-afresh = λ clock n l t c d h. afresh (requestOf clock n l t c d) (request-sound clock n l t c d (sound-unless clock n l t c d h));
+      room-never-too-far = room-never-too-far;
       never-too-far = never-too-far;
       lower-exactly = lower-exactly;
       taken-exactly = taken-exactly;

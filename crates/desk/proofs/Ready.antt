@@ -1,19 +1,19 @@
 -- How far a request comes, in one walk over its tests; and that 13 to 17 refuse exactly where something that they ask for fails. Assumes nothing.
-use Prim.Native.Nat.{ℕ, _+_, _<_, _≤_}
+use Prim.Native.Nat.{ℕ, _<_, _≤_}
 use mathlib.Core.Path.{_≡_, refl, sym, _∙_}
 use mathlib.Core.Bool.{Bool, true, false, not, true≢false}
 use mathlib.Core.List.{List}
 use native.Mathlib.Omega.{arith}
 use lib.Dec.{leb, ltb}
-use lib.ListN.{length, take, drop}
+use lib.ListN.{length, take}
 use borrow.Author.Tests.{leb-true, leb-false, ltb-true, ltb-false}
 use Rattle.rules.specs.Walk.{pick}
 use Rattle.rules.specs.Limits.{places, latest}
-use Rattle.rules.specs.declared.Refusal.the-variants.{Rules, Numbers, Past, Busy, Full, TooFar}
+use Rattle.rules.specs.declared.Refusal.the-variants.{Rules, Numbers, Past, Busy, Full}
 use Rattle.desk.specs.declared.Job.{Job}
-use Rattle.desk.specs.declared.Answer.the-variants.{Taken, Refused}
-use Rattle.desk.specs.Table.{job, filled, deskOk, outcome, Outcome}
-use Rattle.desk.specs.Request.{kept, busy, find, tooFar, insertAt, dropping, taking, numbersOk, requestOf, Place, At, Nowhere}
+use Rattle.desk.specs.declared.Answer.the-variants.{Refused}
+use Rattle.desk.specs.Table.{deskOk, outcome, Outcome}
+use Rattle.desk.specs.Request.{kept, busy, find, dropping, taking, numbersOk, requestOf, Place, At, Nowhere}
 use Rattle.desk.specs.Theorems.{NoLower, Ready, LowerExactly}
 use Rattle.desk.proofs.Check.{numbers-small}
 
@@ -25,7 +25,7 @@ pub data Comes (clock n : ℕ) (l : List Job) (t c d : ℕ) : Outcome → Type 0
   at-16 : clock ≤ t → t ≤ latest → busy t (kept t (take n l)) ≡ true → Comes clock n l t c d (dropping t (kept t (take n l)) Busy)
   at-17 : clock ≤ t → t ≤ latest → places ≤ length (kept t (take n l)) → Comes clock n l t c d (dropping t (kept t (take n l)) Full)
   through : Ready clock n l t c d
-      → Comes clock n l t c d (taking (outcome l n clock (Refused TooFar)) t c d (kept t (take n l)) (find t c d (kept t (take n l))))
+      → Comes clock n l t c d (taking t c d (kept t (take n l)) (find t c d (kept t (take n l))))
 
 module _ (clock n : ℕ) (l : List Job) (t c d : ℕ) where
   abbrev js : List Job
@@ -33,7 +33,7 @@ module _ (clock n : ℕ) (l : List Job) (t c d : ℕ) where
 
   -- what is left of a request behind each test
   abbrev behind-16 : Outcome
-  behind-16 = pick (leb places (length js)) (dropping t js Full) (taking (outcome l n clock (Refused TooFar)) t c d js (find t c d js))
+  behind-16 = pick (leb places (length js)) (dropping t js Full) (taking t c d js (find t c d js))
 
   abbrev behind-15 : Outcome
   behind-15 = pick (busy t js) (dropping t js Busy) behind-16
@@ -48,7 +48,7 @@ module _ (clock n : ℕ) (l : List Job) (t c d : ℕ) where
   unfolding requestOf
   comes = by-13 (deskOk clock n l) refl where
     by-17 : (b : Bool) → leb places (length js) ≡ b → deskOk clock n l ≡ true → numbersOk t c d ≡ true → clock ≤ t → busy t js ≡ false
-        → Comes clock n l t c d (pick b (dropping t js Full) (taking (outcome l n clock (Refused TooFar)) t c d js (find t c d js)))
+        → Comes clock n l t c d (pick b (dropping t js Full) (taking t c d js (find t c d js)))
     by-17 true e r m h i = at-17 h (numbers-small t c d m .2) (leb-true places (length js) e)
     by-17 false e r m h i =
         through (record { rules = r; numbers = m; not-past = h; not-busy = i; not-full = omega (arith, leb-false places (length js) e) })
@@ -72,9 +72,6 @@ module _ (clock n : ℕ) (l : List Job) (t c d : ℕ) where
     by-13 true e = by-14 (numbersOk t c d) refl e
     by-13 false e = at-13 e
 
-  abbrev stays : Outcome
-  stays = outcome l n clock (Refused TooFar)
-
   ready : (o : Outcome) → NoLower o → Comes clock n l t c d o → Ready clock n l t c d
   ready o nl (at-13 e) = absurd (nl 13 (omega arith) (omega arith) refl)
   ready o nl (at-14 e) = absurd (nl 14 (omega arith) (omega arith) refl)
@@ -83,12 +80,9 @@ module _ (clock n : ℕ) (l : List Job) (t c d : ℕ) where
   ready o nl (at-17 late small e) = absurd (nl 17 (omega arith) (omega arith) refl)
   ready o nl (through w) = w
 
-  searched-none : (p : Place) → NoLower (taking stays t c d js p)
+  searched-none : (p : Place) → NoLower (taking t c d js p)
   searched-none Nowhere m h g e = omega arith
-  searched-none (At i s) m h g e = by-far (tooFar (s + c) (drop i js)) m h g e where
-    by-far : (b : Bool) → NoLower (pick b stays (outcome (filled (insertAt i (job s c d 0) js)) (length js + 1) t (Taken i s)))
-    by-far true m h g e = omega arith
-    by-far false m h g e = omega arith
+  searched-none (At i s) m h g e = omega arith
 
   unrefused : Ready clock n l t c d → (o : Outcome) → Comes clock n l t c d o → NoLower o
   unrefused w o (at-13 e) = absurd (true≢false (sym (w .rules) ∙ e))

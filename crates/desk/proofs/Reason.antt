@@ -10,7 +10,7 @@ use lib.ListN.{length, take, drop, length-drop}
 use borrow.Author.Tests.{le-leb, lt-leb, le-ltb, lt-ltb, leb-true, leb-false, ltb-true, ltb-false}
 use Rattle.rules.specs.Walk.{pick, first}
 use Rattle.rules.specs.Limits.{places, latest}
-use Rattle.rules.specs.declared.Refusal.the-variants.{NoPlace, TooFar}
+use Rattle.rules.specs.declared.Refusal.the-variants.{NoPlace}
 use Rattle.rules.specs.declared.Binding.{Binding}
 use Rattle.rules.specs.declared.Binding.the-variants.{Own, Listed}
 use Rattle.rules.specs.declared.Explanation.{Explanation}
@@ -19,13 +19,12 @@ use Rattle.rules.proofs.Tests.{and-parts}
 use Rattle.rules.proofs.Sum.{le-or-lt}
 use Rattle.desk.specs.declared.Job.{Job}
 use Rattle.desk.specs.declared.Answer.the-variants.{Taken, Refused}
-use Rattle.desk.specs.Table.{job, filled, rightX, Outcome, outcome}
+use Rattle.desk.specs.Table.{rightX, Outcome}
 use Rattle.desk.specs.Places.{early, startAt}
 use Rattle.desk.specs.Reason.{roomAt, placesOf, largestRoom, roomiest, longerEnd, late, bindingAt, explanationOf}
-use Rattle.desk.specs.Request.{kept, find, tooFar, insertAt, numbersOk, taking, requestOf, Place, At, Nowhere}
+use Rattle.desk.specs.Request.{kept, find, numbersOk, taking, requestOf, Place, At, Nowhere}
 use Rattle.desk.specs.Theorems.{Ready, Roomy, NoPlaceRoomiest, NoPlaceNowhere, Breaks, TickBreaks, NoPlaceBreaks, NoPlaceRoomTaken}
 use Rattle.desk.proofs.Chain.{Chain}
-use Rattle.desk.proofs.Spot.{found-spot, spot-near}
 use Rattle.desk.proofs.Late.{beforeTight, FirstLate, breaks-first}
 use Rattle.desk.proofs.Rooms.{places-only, none-roomy, lowest-roomy, roomy-of, room-one, place-one, early-at, tick-breaks}
 use Rattle.desk.proofs.Ready.{Comes, at-13, at-14, at-15, at-16, at-17, through, comes}
@@ -42,16 +41,10 @@ module _ (clock n : ℕ) (l : List Job) (t c d : ℕ) where
   abbrev js : List Job
   js = kept t (take n l)
 
-  abbrev stays : Outcome
-  stays = outcome l n clock (Refused TooFar)
-
-  searched : (reason : Explanation) → Ready clock n l t c d → (p : Place) → find t c d js ≡ p → taking stays t c d js p .answer ≡ Refused (NoPlace reason)
+  searched : (reason : Explanation) → Ready clock n l t c d → (p : Place) → find t c d js ≡ p → taking t c d js p .answer ≡ Refused (NoPlace reason)
       → Because clock n l t c d reason
   searched reason w Nowhere e q = record { ready = w; is = cc; nowhere = e }
-  searched reason w (At i s) e q = absurd (by-far (tooFar (s + c) (drop i js)) q) where
-    by-far : (b : Bool) → pick b stays (outcome (filled (insertAt i (job s c d 0) js)) (length js + 1) t (Taken i s)) .answer ≡ Refused (NoPlace reason) → ⊥
-    by-far true z = let y : _≡_ {A = ℕ} 0 1 = cc in omega arith
-    by-far false z = let y : _≡_ {A = ℕ} 0 1 = cc in omega arith
+  searched reason w (At i s) e q = absurd (let y : _≡_ {A = ℕ} 0 1 = cc in omega arith)
 
   because-by : (reason : Explanation) (o : Outcome) → Comes clock n l t c d o → o .answer ≡ Refused (NoPlace reason) → Because clock n l t c d reason
   because-by reason o (at-13 e) q = absurd (let y : _≡_ {A = ℕ} 0 1 = cc in omega arith)
@@ -71,15 +64,13 @@ module _ (clock n : ℕ) (l : List Job) (t c d : ℕ) where
   right w = good-kept t n (take n l) (good-of clock n l (record { test = w .rules })) .right
 
   -- a request that comes to the search
-  request-ready : Ready clock n l t c d → requestOf clock n l t c d ≡ taking stays t c d js (find t c d js)
+  request-ready : Ready clock n l t c d → requestOf clock n l t c d ≡ taking t c d js (find t c d js)
   unfolding requestOf
   request-ready w = rw (w .rules, w .numbers, le-ltb t clock (w .not-past), w .not-busy, lt-leb places (length js) (w .not-full))
 
   -- and finds a place there
   request-taken : Ready clock n l t c d → (i s : ℕ) → find t c d js ≡ At i s → requestOf clock n l t c d .answer ≡ Taken i s
-  request-taken w i s e =
-      let near = spot-near c d t i js s (ordered w) (right w) (found-spot t c d js (ordered w) i s e) in
-      rw (request-ready w, e, near)
+  request-taken w i s e = rw (request-ready w, e)
 
 -- ---- the definition says what it is to
 

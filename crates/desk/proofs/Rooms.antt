@@ -17,8 +17,9 @@ use Rattle.desk.specs.Places.{early, startAt, room}
 use Rattle.desk.specs.Reason.{roomAt, placesOf, largestRoom, asRoomy, roomiest, longerEnd}
 use Rattle.desk.specs.Request.{findFrom, find, At, Nowhere}
 use Rattle.desk.specs.Theorems.{Roomy}
+use Rattle.desk.proofs.Afresh.{drop-right}
 use Rattle.desk.proofs.Chain.{Chain}
-use Rattle.desk.proofs.Spot.{early-late, right-tail}
+use Rattle.desk.proofs.Spot.{early-late}
 use Rattle.desk.proofs.Late.{beforeTight, FirstLate, beyond}
 
 -- ---- the places behind the first job are those of the jobs behind it
@@ -35,15 +36,15 @@ ltb-suc i n = cases (ltb i n) refl where
 
 -- the job in front starts by d
 module _ (s d : ℕ) (j : Job) (js : List Job) (low : leb (start j) d ≡ true) where
-  room-first : roomAt s d (j ∷ js) 0 ≡ room s d j
+  pub room-first : roomAt s d (j ∷ js) 0 ≡ room s d j
   unfolding roomAt
   room-first = rw (low, lt-ltb 0 (suc (early d js)) (omega arith))
 
-  room-next : (i : ℕ) → roomAt s d (j ∷ js) (suc i) ≡ roomAt (ends j) d js i
+  pub room-next : (i : ℕ) → roomAt s d (j ∷ js) (suc i) ≡ roomAt (ends j) d js i
   unfolding roomAt
   room-next i = rw (low, ltb-suc i (early d js), start-next s j js i)
 
-  places-next : placesOf s d (j ∷ js) ≡ suc (placesOf (ends j) d js)
+  pub places-next : placesOf s d (j ∷ js) ≡ suc (placesOf (ends j) d js)
   unfolding placesOf
   places-next = rw (low, start-next s j js (early d js)) (cases (leb (startAt (ends j) js (early d js)) d)) where
     cases : (b : Bool) → pick b (suc (suc (early d js))) (suc (early d js)) ≡ suc (pick b (suc (early d js)) (early d js))
@@ -52,7 +53,7 @@ module _ (s d : ℕ) (j : Job) (js : List Job) (low : leb (start j) d ≡ true) 
 
 -- none does: place l is the first
 module _ (s d : ℕ) (ks : List Job) (e : early d ks ≡ 0) where
-  room-only : roomAt s d ks 0 ≡ d - s
+  pub room-only : roomAt s d ks 0 ≡ d - s
   unfolding roomAt
   room-only = rw e
 
@@ -60,7 +61,7 @@ module _ (s d : ℕ) (ks : List Job) (e : early d ks ≡ 0) where
   unfolding placesOf
   places-only = rw e
 
-  only-first : (i : ℕ) → i < placesOf s d ks → (i ≡ 0) × (s ≤ d)
+  pub only-first : (i : ℕ) → i < placesOf s d ks → (i ≡ 0) × (s ≤ d)
   only-first i h = cases (leb s d) refl (rw places-only at h) where
     cases : (b : Bool) → leb s d ≡ b → i < pick b 1 0 → (i ≡ 0) × (s ≤ d)
     cases true f g = (omega arith, leb-true s d f)
@@ -192,11 +193,6 @@ chain-drop s zero js g h = g
 chain-drop s (suc i) [] g h = absurd (omega arith)
 chain-drop s (suc i) (j ∷ js) g h = rw (start-next s j js i) (chain-drop (ends j) i js (g .2) (omega arith))
 
-right-drop : (i : ℕ) (js : List Job) → rightX js ≡ true → rightX (drop i js) ≡ true
-right-drop zero js r = r
-right-drop (suc i) [] r = refl
-right-drop (suc i) (j ∷ js) r = right-drop i js (right-tail j js r)
-
 pub early-at : (s d i : ℕ) (js : List Job) → Chain s js → i < early d js → (i < length js) × (start (getD js i none) ≤ d)
 early-at s d i [] g h = absurd (omega arith)
 early-at s d i (j ∷ js) g h = by-early (leb (start j) d) refl i h (λ m. early-at (ends j) d m js (g .2)) where
@@ -220,16 +216,11 @@ module _ (t d : ℕ) (js : List Job) (g : Chain t js) (r : rightX js ≡ true) (
   unfolding roomAt
   room-early = rw (lt-ltb i (early d js) h)
 
-  pub start-early : startAt t js i ≤ start (getD js i none)
-  start-early =
-      let short = early-at t d i js g h .0 in
-      (rw (at-drop i js short) at (chain-drop t i js g (omega arith))) .0
-
   pub tick-breaks : longerEnd t d js i ≤ d → FirstLate (longerEnd t d js i) (drop i js) (beforeTight (drop i js))
   tick-breaks due =
       let two = early-at t d i js g h in
       let order : Chain (startAt t js i) (getD js i none ∷ drop (suc i) js) = rw (at-drop i js (two .0)) at (chain-drop t i js g (omega (arith, two .0))) in
-      let right : rightX (getD js i none ∷ drop (suc i) js) ≡ true = rw (at-drop i js (two .0)) at (right-drop i js r) in
+      let right : rightX (getD js i none ∷ drop (suc i) js) ≡ true = rw (at-drop i js (two .0)) at (drop-right i js r) in
       let end : longerEnd t d js i ≡ start (getD js i none) + flex (getD js i none) + 1 =
       rw room-early (own-end (startAt t js i) d (start (getD js i none)) (flex (getD js i none)) (order .0) (two .1) (rw room-early at due)) in
       rw (at-drop i js (two .0)) (beyond (longerEnd t d js i) (startAt t js i) (getD js i none) (drop (suc i) js) end order right)

@@ -1,4 +1,4 @@
--- The table rules survive each call, refusal 19 is never given, and each x is the rule's own. Assumes nothing.
+-- The table rules survive each call, and each x is the rule's own. Assumes nothing.
 use Prim.Native.Nat.{ℕ, zero, suc, _+_, _-_, _<_, _≤_}
 use mathlib.Core.Path.{_≡_, refl, sym, ap, _∙_}
 use mathlib.Core.Bool.{Bool, true, false, true≢false}
@@ -11,7 +11,7 @@ use borrow.Author.Tests.{le-leb, ltb-false, eqb-true, eq-eqb}
 use Rattle.rules.specs.Refusals.{told}
 use Rattle.rules.specs.declared.Refusal.{Refusal}
 use Rattle.rules.specs.declared.Explanation.{Explanation}
-use Rattle.rules.specs.declared.Refusal.the-variants.{Rules, Numbers, Past, Busy, Full, NoPlace, TooFar}
+use Rattle.rules.specs.declared.Refusal.the-variants.{Rules, Numbers, Past, Busy, Full, NoPlace}
 use Rattle.rules.specs.Limits.{places, latest}
 use Rattle.desk.specs.declared.Job.{Job}
 use Rattle.desk.specs.declared.Answer.{Answer}
@@ -108,15 +108,14 @@ module _ (clock n : ℕ) (l : List Job) (t c d : ℕ) (sound : Sound clock n l) 
   good = good-kept t n (take n l) (good-of clock n l sound)
 
   ending-placed : Ready clock n l t c d → (p : Place) → find t c d (kept t (take n l)) ≡ p
-      → Ending clock n l t c d (taking (outcome l n clock (Refused TooFar)) t c d (kept t (take n l)) p)
+      → Ending clock n l t c d (taking t c d (kept t (take n l)) p)
   ending-placed w Nowhere e =
       dropped (NoPlace _) (nowhere _ refl (not-busy t (kept t (take n l)) (w .not-busy) (good .order)) e) (w .not-past) (numbers-small t c d (w .numbers) .2)
   ending-placed w (At i s) e =
       let order = not-busy t (kept t (take n l)) (w .not-busy) (good .order) in
       let spot = found-spot t c d (kept t (take n l)) order i s e in
       let small = numbers-small t c d (w .numbers) in
-      rw (spot-near c d t i (kept t (take n l)) s order (good .right) spot)
-      (taken i s (w .not-past) (small .2) (small .0) (small .1) (w .not-full) order spot)
+      taken i s (w .not-past) (small .2) (small .0) (small .1) (w .not-full) order spot
 
   ending-by : (o : Outcome) → Comes clock n l t c d o → Ending clock n l t c d o
   ending-by o (at-13 e) = absurd (true≢false (sym (sound .test) ∙ e))
@@ -147,16 +146,16 @@ module _ (clock n : ℕ) (l : List Job) (t c d : ℕ) (sound : Sound clock n l) 
   pub request-sound : SoundAfter (requestOf clock n l t c d)
   request-sound = sound-ending (requestOf clock n l t c d) ending
 
-  -- 2. and it answers neither 13 nor 19
-  numbers-ending : (o : Outcome) → Ending clock n l t c d o → (said (o .answer) .number ≡ 13 → ⊥) × (said (o .answer) .number ≡ 19 → ⊥)
-  numbers-ending o (same q h) = (λ e. omega arith, λ e. omega arith)
-  numbers-ending o (dropped Busy (running b) late small) = (λ e. omega arith, λ e. omega arith)
-  numbers-ending o (dropped Full full late small) = (λ e. omega arith, λ e. omega arith)
-  numbers-ending o (dropped (NoPlace _) (nowhere why is g f) late small) = (λ e. omega arith, λ e. omega arith)
-  numbers-ending o (taken i s late small some due few g spot) = (λ e. omega arith, λ e. omega arith)
+  -- 2. and it does not answer 13
+  not-13 : (o : Outcome) → Ending clock n l t c d o → said (o .answer) .number ≡ 13 → ⊥
+  not-13 o (same q h) e = omega arith
+  not-13 o (dropped Busy (running b) late small) e = omega arith
+  not-13 o (dropped Full full late small) e = omega arith
+  not-13 o (dropped (NoPlace _) (nowhere why is g f) late small) e = omega arith
+  not-13 o (taken i s late small some due few g spot) e = omega arith
 
-  pub request-numbers : (said (requestOf clock n l t c d .answer) .number ≡ 13 → ⊥) × (said (requestOf clock n l t c d .answer) .number ≡ 19 → ⊥)
-  request-numbers = numbers-ending (requestOf clock n l t c d) ending
+  pub request-not-13 : said (requestOf clock n l t c d .answer) .number ≡ 13 → ⊥
+  request-not-13 = not-13 (requestOf clock n l t c d) ending
 
 order-refit : (e : ℕ) (js : List Job) → Chain e js → Chain e (refit js [])
 order-refit e [] g = tt
@@ -216,6 +215,11 @@ sound-unless clock n l t c d h = cases (deskOk clock n l) refl where
   cases : (b : Bool) → deskOk clock n l ≡ b → Sound clock n l
   cases true z = record { test = z }
   cases false z = absurd (h (ap (λ (a : Answer). said a .number) (refuse-rules clock n l t c d z)))
+
+-- nor is one that is taken
+pub sound-taken : (clock n : ℕ) (l : List Job) (t c d i s : ℕ) → requestOf clock n l t c d .answer ≡ Taken i s → Sound clock n l
+sound-taken clock n l t c d i s e =
+    sound-unless clock n l t c d (λ f. let z : 0 ≡ 13 = sym (ap (λ (a : Answer). said a .number) e) ∙ f in absurd (omega arith))
 
 pub open-sound-unless : (clock n : ℕ) (l : List Job) → (said (openOf clock n l .answer) .number ≡ 13 → ⊥) → SoundAfter (openOf clock n l)
 open-sound-unless clock n l h = cases (tableOk n l) refl where

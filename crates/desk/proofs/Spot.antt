@@ -12,11 +12,11 @@ use Rattle.desk.specs.declared.Job.{Job}
 use Rattle.rules.specs.Walk.{pick}
 use Rattle.desk.specs.Table.{job, xOf, rightX, ends}
 use Rattle.desk.specs.Places.{shift, early, room}
-use Rattle.desk.specs.Request.{tooFar, insertAt, find, findFrom, At, Nowhere}
+use Rattle.desk.specs.Request.{insertAt, find, findFrom, At, Nowhere}
 use Rattle.rules.proofs.Tests.{and-parts}
 use Rattle.desk.proofs.Check.{length-refit}
-use Rattle.desk.proofs.Afresh.{Near}
-use Rattle.desk.proofs.Chain.{Chain, chain-low, chain-shift, never-far}
+use Rattle.desk.proofs.Afresh.{Near, AllNear}
+use Rattle.desk.proofs.Chain.{Chain, chain-low, chain-shift, all-near}
 
 -- p is a place for c and d among js, with start s: the end of the job before it, or e in front of all
 abbrev pub Spot : ℕ → ℕ → ℕ → ℕ → List Job → ℕ → Type 0
@@ -35,12 +35,12 @@ early-late d e (j ∷ js) h g =
     let late : d < j .start = omega (arith, g .0) in
     rw (lt-leb (j .start) d late) (early-late d (ends j) js (omega arith) (g .2))
 
-near-low : (e f : ℕ) (js : List Job) → f ≤ e → Near e js → Near f js
+pub near-low : (e f : ℕ) (js : List Job) → f ≤ e → Near e js → Near f js
 near-low e f [] h n = tt
 near-low e f (j ∷ js) h n = omega (arith, n)
 
 -- a place with room is a spot: the step from room ≥ C to a first move within x
-room-spot : (c d e : ℕ) (j : Job) → e ≤ j .start → j .start ≤ d → c ≤ room e d j → (e + c ≤ d) × (e + c ≤ j .start + j .flex)
+pub room-spot : (c d e : ℕ) (j : Job) → e ≤ j .start → j .start ≤ d → c ≤ room e d j → (e + c ≤ d) × (e + c ≤ j .start + j .flex)
 room-spot c d e j h g r = (omega arith, omega arith)
 
 -- place l is a spot: the job behind it, if any, starts after d
@@ -90,8 +90,8 @@ pub right-tail : (j : Job) (js : List Job) → rightX (j ∷ js) ≡ true → ri
 right-tail j js r = and-parts (eqb (j .flex) (xOf j js)) _ r .1
 
 -- at a spot no move exceeds its job's x
-pub spot-near : (c d e p : ℕ) (js : List Job) (s : ℕ) → Chain e js → rightX js ≡ true → Spot c d e p js s → tooFar (s + c) (drop p js) ≡ false
-spot-near c d e zero js s g r h = never-far (s + c) e js g r (h .2)
+pub spot-near : (c d e p : ℕ) (js : List Job) (s : ℕ) → Chain e js → rightX js ≡ true → Spot c d e p js s → AllNear (s + c) (drop p js)
+spot-near c d e zero js s g r h = all-near (s + c) e js g r (h .2)
 spot-near c d e (suc p) [] s g r h = absurd h
 spot-near c d e (suc p) (j ∷ js) s g r h = spot-near c d (ends j) p js s (g .2) (right-tail j js r) h
 

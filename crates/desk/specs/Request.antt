@@ -1,7 +1,7 @@
--- A request at time t, of budget c and deadline d: document 01, "The desk", with the range of document 02, ask 1, and refusals 13 to 19 in their order;
+-- A request at time t, of budget c and deadline d: document 01, "The desk", with the range of document 02, ask 1, and refusals 13 to 18 in their order;
 -- clock, n and l are those at the call, js the jobs left. Assumes nothing.
-use Prim.Native.Nat.{ℕ, _+_, _-_, max}
-use mathlib.Core.Bool.{Bool, false, not, _&&_, _||_}
+use Prim.Native.Nat.{ℕ, _+_}
+use mathlib.Core.Bool.{Bool, false, not, _&&_}
 use mathlib.Core.List.{List, [], _∷_, _++_}
 use lib.Dec.{leb, ltb}
 use lib.ListN.{length, take, drop}
@@ -9,11 +9,11 @@ use Rattle.rules.specs.Walk.{pick}
 use Rattle.rules.specs.Limits.{places, latest}
 use Rattle.rules.specs.Refusals.{told}
 use Rattle.rules.specs.declared.Refusal.{Refusal}
-use Rattle.rules.specs.declared.Refusal.the-variants.{Rules, Numbers, Past, Busy, Full, NoPlace, TooFar}
+use Rattle.rules.specs.declared.Refusal.the-variants.{Rules, Numbers, Past, Busy, Full, NoPlace}
 use Rattle.desk.specs.declared.Job.{Job}
 use Rattle.desk.specs.declared.Answer.the-variants.{Taken, Refused}
-use Rattle.desk.specs.Table.{job, start, flex, ends, filled, Outcome, outcome, refit, deskOk}
-use Rattle.desk.specs.Places.{early, room, moved, shift}
+use Rattle.desk.specs.Table.{job, start, ends, filled, Outcome, outcome, refit, deskOk}
+use Rattle.desk.specs.Places.{early, room, shift}
 use Rattle.desk.specs.Reason.{explanationOf}
 
 -- "First, jobs with a + C ≤ t are dropped and the rest move up."
@@ -41,11 +41,6 @@ findFrom i s c d (j ∷ js) = pick (leb c (room s d j)) (At i s) (findFrom (i + 
 abbrev pub find : ℕ → ℕ → ℕ → List Job → Place
 find t c d js = findFrom 0 t c d (take (early d js) js)
 
--- "a move would exceed a job's x"
-abbrev pub tooFar : ℕ → List Job → Bool
-tooFar e [] = false
-tooFar e (j ∷ js) = ltb (flex j) (max e (start j) - start j) || tooFar (ends (moved e j)) js
-
 -- the new job at place i: later jobs move, "earlier x are worked out again from there towards the front"
 abbrev pub insertAt : ℕ → Job → List Job → List Job
 insertAt i new js = refit (take i js ++ (new ∷ [])) (shift (ends new) (drop i js))
@@ -58,13 +53,12 @@ numbersOk t c d = leb 1 c && (leb c latest && (leb d latest && leb t latest))
 abbrev pub dropping : ℕ → List Job → Refusal → Outcome
 dropping t js r = outcome (filled js) (length js) t (Refused r)
 
--- 18 with its reason, 19 with what a call that changes nothing leaves, or "A job taken in sets the clock too."
-abbrev pub taking : Outcome → ℕ → ℕ → ℕ → List Job → Place → Outcome
-taking same t c d js Nowhere = dropping t js (NoPlace (explanationOf t d js))
-taking same t c d js (At i s) =
-    pick (tooFar (s + c) (drop i js)) same (outcome (filled (insertAt i (job s c d 0) js)) (length js + 1) t (Taken i s))
+-- 18 with its reason, or "A job taken in sets the clock too."
+abbrev pub taking : ℕ → ℕ → ℕ → List Job → Place → Outcome
+taking t c d js Nowhere = dropping t js (NoPlace (explanationOf t d js))
+taking t c d js (At i s) = outcome (filled (insertAt i (job s c d 0) js)) (length js + 1) t (Taken i s)
 
--- "13, 14, 15 and 19 change nothing at the desk."
+-- "13, 14, 15 .. change nothing at the desk."
 unfoldable pub requestOf : ℕ → ℕ → List Job → ℕ → ℕ → ℕ → Outcome
 requestOf clock n l t c d =
     let js = kept t (take n l) in
@@ -73,7 +67,7 @@ requestOf clock n l t c d =
     (pick (ltb t clock) (outcome l n clock (Refused Past))
     (pick (busy t js) (dropping t js Busy)
     (pick (leb places (length js)) (dropping t js Full)
-    (taking (outcome l n clock (Refused TooFar)) t c d js (find t c d js))))))
+    (taking t c d js (find t c d js))))))
 
 -- whether a refusal is 16, 17 or 18
 abbrev pub drops : Refusal → Bool

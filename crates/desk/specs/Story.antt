@@ -71,7 +71,7 @@ withNew q Opened rs = rs
 withNew q (Taken i s) rs = take i rs ++ (entry (q .time) (q .budget) (q .deadline) s ∷ drop i rs)
 withNew q (Refused r) rs = rs
 
--- a request that leaves o: the jobs that end by the desk's clock, which 13, 14, 15 and 19 leave as it was, are gone
+-- a request that leaves o: the jobs that end by the desk's clock, which 13, 14 and 15 leave as it was, are gone
 abbrev pub after : Story → Asked → Outcome → Story
 after h q o =
     record { desk = o; gone = h .gone ++ ended (o .clock) (live h); listed = withNew q (o .answer) (unended (o .clock) (live h)) }

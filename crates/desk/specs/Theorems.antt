@@ -1,5 +1,5 @@
 -- What is proved of the desk's rules, each statement below the documents' words. `Proved` has a field for each. Assumes nothing.
-use Prim.Native.Nat.{ℕ, _+_, _-_, _<_, _≤_}
+use Prim.Native.Nat.{ℕ, suc, _+_, _-_, _<_, _≤_}
 use mathlib.Core.Path.{_≡_}
 use mathlib.Core.Logic.{_↔_}
 use mathlib.Core.Bool.{Bool, true, false}
@@ -16,20 +16,20 @@ use Rattle.rules.specs.declared.Explanation.the-variants.{Nowhere, Roomiest}
 use Rattle.desk.specs.declared.Job.{Job}
 use Rattle.desk.specs.declared.Asked.{Asked}
 use Rattle.desk.specs.declared.Answer.the-variants.{Opened, Taken, Refused}
-use Rattle.desk.specs.Table.{start, budget, deadline, ends, none, Outcome, outcome, flexes, deskOk, openOf}
+use Rattle.desk.specs.Table.{job, start, budget, deadline, flex, ends, none, Outcome, outcome, flexes, deskOk, openOf}
 use Rattle.desk.specs.Places.{early, startAt, shift}
 use Rattle.desk.specs.Reason.{roomAt, placesOf}
-use Rattle.desk.specs.Request.{kept, busy, numbersOk, drops, dropping, requestOf}
+use Rattle.desk.specs.Request.{kept, busy, insertAt, numbersOk, drops, dropping, requestOf}
 use Rattle.desk.specs.Call.{said}
 use Rattle.desk.specs.Story.{Entry, entry, noEntry, standing, Story, live, ever, begin, next, many, Promise, Joined, Fixed, takens}
 
--- opening's refusal is 13, and "13, 14, 15 and 19 change nothing at the desk"
+-- opening's refusal is 13, and "13, 14, 15 .. change nothing at the desk"
 abbrev pub OpenLeaves : Type 0
 OpenLeaves =
     (clock n : ℕ) (l : List Job) (r : Refusal) → openOf clock n l .answer ≡ Refused r
     → openOf clock n l ≡ outcome l n clock (Refused Rules)
 
--- "13, 14, 15 and 19 change nothing at the desk. 16, 17, 18 set the clock to t and drop finished jobs .. nothing else changes."
+-- "13, 14, 15 .. change nothing at the desk. 16, 17, 18 set the clock to t and drop finished jobs .. nothing else changes."
 abbrev pub RequestLeaves : Type 0
 RequestLeaves =
     (clock n : ℕ) (l : List Job) (t c d : ℕ) (r : Refusal) → requestOf clock n l t c d .answer ≡ Refused r
@@ -77,9 +77,23 @@ OpenAfresh = (clock n : ℕ) (l : List Job) → Afresh (openOf clock n l)
 abbrev pub RequestAfresh : Type 0
 RequestAfresh = (clock n : ℕ) (l : List Job) (t c d : ℕ) → Afresh (requestOf clock n l t c d)
 
--- 19: "a move would exceed a job's x" is never so: a table that passes 13 never gives 19, and any other gives 13
+-- with a job put in at place i, so that each later one stands a place further on, none of them starts later by more than its x
+abbrev pub MovesWithin : List Job → ℕ → List Job → Type 0
+MovesWithin before i after =
+    (k : ℕ) → i ≤ k → k < length before → start (getD after (suc k) none) ≤ start (getD before k none) + flex (getD before k none)
+
+-- document 02, ask 8: "a place with enough room never leads to a move beyond a job's flexibility, from any table that passes 13": whichever place that is
+abbrev pub RoomNeverTooFar : Type 0
+RoomNeverTooFar =
+    (clock n : ℕ) (l : List Job) (t c d i : ℕ) → deskOk clock n l ≡ true → busy t (kept t (take n l)) ≡ false
+    → i < placesOf t d (kept t (take n l)) → c ≤ roomAt t d (kept t (take n l)) i
+    → MovesWithin (kept t (take n l)) i (insertAt i (job (startAt t (kept t (take n l)) i) c d 0) (kept t (take n l)))
+
+-- and the one that the search takes, from the jobs left to those that the call leaves
 abbrev pub NeverTooFar : Type 0
-NeverTooFar = (clock n : ℕ) (l : List Job) (t c d : ℕ) → Refuses (requestOf clock n l t c d) 19 → ⊥
+NeverTooFar =
+    (clock n : ℕ) (l : List Job) (t c d i s : ℕ) → requestOf clock n l t c d .answer ≡ Taken i s
+    → MovesWithin (kept t (take n l)) i (requestOf clock n l t c d .jobs)
 
 -- "some place in the order, started at t or later, with earlier jobs unmoved and later ones only delayed, keeps every deadline": the jobs js with the request's
 -- own among them, whatever new starts the later ones have, so that all keep the desk's promise (document 01): the request's own deadline is kept, and no two overlap
@@ -243,6 +257,7 @@ pub record Proved : Type 0 where
   pub not-rules-after-request : NotRulesAfterRequest
   pub open-afresh : OpenAfresh
   pub request-afresh : RequestAfresh
+  pub room-never-too-far : RoomNeverTooFar
   pub never-too-far : NeverTooFar
   pub lower-exactly : LowerExactly
   pub taken-exactly : TakenExactly

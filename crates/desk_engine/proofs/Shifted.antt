@@ -4,14 +4,11 @@ use mathlib.Core.Path.{_≡_, refl, ap, _∙_}
 use mathlib.Core.Bool.{false}
 use mathlib.Core.List.{List, [], _∷_, _++_}
 use native.Mathlib.Omega.{arith}
-use lib.Dec.{ltb}
 use lib.ListN.{length, replicate}
-use borrow.Author.Tests.{ltb-false}
-use Rattle.rules.proofs.Tests.{or-neither}
 use Rattle.desk.specs.declared.Job.{Job}
 use Rattle.desk.specs.Table.{none, ends}
 use Rattle.desk.specs.Places.{moved, shift}
-use Rattle.desk.specs.Request.{tooFar}
+use Rattle.desk.proofs.Afresh.{AllNear}
 use Rattle.desk_writing.specs.declared.shift.Shift.{Shift}
 use Rattle.desk_records.specs.Folds.{forth}
 use Rattle.desk_records.specs.Sums.{most32, sumTo}
@@ -106,9 +103,7 @@ abbrev pub Lows : List Job → Type 0
 Lows [] = Unit {0}
 Lows (j ∷ js) = Low j × Lows js
 
-pub near-within : (e : ℕ) (js : List Job) → Lows js → tooFar e js ≡ false → Within e js
+pub near-within : (e : ℕ) (js : List Job) → Lows js → AllNear e js → Within e js
 near-within e [] l n = tt
 near-within e (j ∷ js) l n =
-    let two = or-neither (ltb (j .flex) (max e (j .start) - j .start)) (tooFar (max e (j .start) + j .budget) js) n in
-    let near : max e (j .start) - j .start ≤ j .flex = ltb-false _ _ (two .0) in
-    (omega (arith, near, l .0 .last), near-within (max e (j .start) + j .budget) js (l .1) (two .1))
+    (omega (arith, n .0, l .0 .last), near-within (max e (j .start) + j .budget) js (l .1) (n .1))

@@ -1,5 +1,5 @@
 -- The lent calls are the desk's own: answer, record and table are those of `openOf` and of `requestOf`. Assumes nothing.
-use Prim.Native.Nat.{ℕ, zero, suc, _+_, _-_, _<_, _≤_, max}
+use Prim.Native.Nat.{ℕ, zero, suc, _+_, _-_, _<_, _≤_}
 use mathlib.Core.Path.{_≡_, refl, sym, _∙_, subst}
 use mathlib.Core.Bool.{Bool, true, false, not}
 use mathlib.Core.List.{List, [], _∷_}
@@ -7,20 +7,21 @@ use native.Mathlib.Omega.{arith}
 use lib.Dec.{leb, ltb, eqb}
 use lib.ListN.{length, take, drop}
 use lib.Seq.{length-take-le}
-use borrow.Author.Tests.{leb-false, ltb-false, eqb-true}
+use borrow.Author.Tests.{leb-false, eqb-true}
 use Rattle.rules.specs.Walk.{pick}
 use Rattle.rules.specs.declared.Explanation.{Explanation}
 use Rattle.rules.specs.declared.Refusal.{Refusal}
-use Rattle.rules.specs.declared.Refusal.the-variants.{Rules, Numbers, Past, Busy, Full, NoPlace, TooFar}
+use Rattle.rules.specs.declared.Refusal.the-variants.{Rules, Numbers, Past, Busy, Full, NoPlace}
 use Rattle.rules.specs.Limits.{places, latest}
 use Rattle.desk.specs.declared.Job.{Job}
-use Rattle.desk.specs.declared.Answer.the-variants.{Opened, Taken, Refused}
+use Rattle.desk.specs.declared.Answer.the-variants.{Opened, Refused}
 use Rattle.desk.specs.Table.{job, xOf, filled, flexes, outcome, rightX, tableOk, deskOk, openOf, ends, Outcome}
 use Rattle.desk.specs.Places.{early, shift}
 use Rattle.desk.specs.Reason.{explanationOf}
-use Rattle.desk.specs.Request.{kept, busy, find, taking, insertAt, tooFar, numbersOk, requestOf, Place, At, Nowhere, dropping}
-use Rattle.rules.proofs.Tests.{and-parts, or-neither}
+use Rattle.desk.specs.Request.{kept, busy, find, taking, numbersOk, requestOf, Place, At, Nowhere, dropping}
+use Rattle.rules.proofs.Tests.{and-parts}
 use Rattle.desk.proofs.Check.{xOf-le, numbers-small, Listed, listed-of, desk-table, desk-right}
+use Rattle.desk.proofs.Afresh.{AllNear}
 use Rattle.desk.proofs.Chain.{Chain, chain-of, chain-kept, right-kept}
 use Rattle.desk.proofs.Spot.{found-spot, spot-near, spot-inside, spot-due}
 use Rattle.desk.proofs.Rules.{not-busy}
@@ -66,12 +67,9 @@ unfolding applied
 keeps-made l s why = (refl, refl, still-table l)
 
 -- a job moved no further than its x starts as late as before
-behind-shift : (e : ℕ) (js : List Job) → tooFar e js ≡ false → behindOf (shift e js) ≡ behindOf js
+behind-shift : (e : ℕ) (js : List Job) → AllNear e js → behindOf (shift e js) ≡ behindOf js
 behind-shift e [] n = refl
-behind-shift e (j ∷ js) n =
-    let two = or-neither (ltb (j .flex) (max e (j .start) - j .start)) (tooFar (max e (j .start) + j .budget) js) n in
-    let near : max e (j .start) - j .start ≤ j .flex = ltb-false _ _ (two .0) in
-    omega (arith, near)
+behind-shift e (j ∷ js) n = omega (arith, n .0)
 
 -- AN OPENING
 
@@ -113,9 +111,6 @@ module _ (k : Desk) (l : List Job) (t c d : ℕ) where
   abbrev ks : List Job
   ks = kept t js
 
-  abbrev far : Outcome
-  far = outcome l n (k .clock) (Refused TooFar)
-
   abbrev e : Searching
   e = fold searchStep (searchingFrom true t c d) js
 
@@ -130,7 +125,7 @@ module _ (k : Desk) (l : List Job) (t c d : ℕ) where
 
   -- what is left where refusals 13 to 15 don't hold
   abbrev left : Bool → Outcome
-  left v = pick v (dropping t ks Busy) (pick (leb places (length ks)) (dropping t ks Full) (taking far t c d ks (find t c d ks)))
+  left v = pick v (dropping t ks Busy) (pick (leb places (length ks)) (dropping t ks Full) (taking t c d ks (find t c d ks)))
 
   -- on a sound table
   module _ (sixty : length l ≡ places) (few : n ≤ places) (chain : Chain 0 js) where
@@ -160,21 +155,20 @@ module _ (k : Desk) (l : List Job) (t c d : ℕ) where
     drop-made why = (refl, rw (so .asks .0, rest-e), rw (rest-e, gone-e) (drop-table t l n sixty chain))
 
     module _ (right : rightX js ≡ true) (hd : d ≤ latest) where
-      take-made : find t c d ks ≡ At (e .place) (e .start) → busy t ks ≡ false → length ks < places → Made l (takeEffect S) (taking far t c d ks (At (e .place) (e .start)))
+      take-made : find t c d ks ≡ At (e .place) (e .start) → busy t ks ≡ false → length ks < places → Made l (takeEffect S) (taking t c d ks (At (e .place) (e .start)))
       unfolding applied
       take-made hf hb hk =
           let same = so .asks in
           let order = not-busy t ks hb chain-ks in
           let right-ks = right-kept t 0 js chain right in
           let spot = found-spot t c d ks order (e .place) (e .start) hf in
-          let near : tooFar (e .start + c) (drop (e .place) ks) ≡ false = spot-near c d t (e .place) ks (e .start) order right-ks spot in
+          let near : AllNear (e .start + c) (drop (e .place) ks) = spot-near c d t (e .place) ks (e .start) order right-ks spot in
           let lows : Lows ks = lows-of 0 ks chain-ks right-ks in
           let inside : e .place ≤ length ks = spot-inside c d t (e .place) ks (e .start) spot in
           let one : sumTo (length ks) 1 ≡ length ks + 1 = omega (arith, hk) in
           let puts : sumTo (length ks - e .place) 1 ≡ suc (length ks - e .place) = omega (arith, hk) in
           let waits : sumTo (e .place) 1 ≡ e .place + 1 = omega (arith, hk, inside) in
-          let behind-e : e .behind ≡ behindOf (shift (e .start + c) (drop (e .place) ks)) = so .behind-is ∙ sym (behind-shift (e .start + c) (drop (e .place) ks) near) in
-          subst (λ (v : Bool). Made l (takeEffect S) (pick v far (outcome (filled (insertAt (e .place) (job (e .start) c d 0) ks)) (length ks + 1) t (Taken (e .place) (e .start))))) (sym near) (
+          let behind-e : e .behind ≡ behindOf (shift (e .start + c) (drop (e .place) ks)) = so .behind-is ∙ sym (behind-shift (e .start + c) (drop (e .place) ks) near) in (
             refl,
             rw (same .0, rest-e, one),
             rw (same .1, same .2, rest-e, gone-e, puts, waits, behind-e)
@@ -193,17 +187,17 @@ module _ (k : Desk) (l : List Job) (t c d : ℕ) where
       abbrev rests : Bool → Bool → Decision
       rests b f = pick b (Drops Busy) (pick f (Drops Full) (pick (searchEnd e) Takes (Drops (NoPlace (explanationBy e)))))
 
-      by-found : (v : Bool) → searchEnd e ≡ v → busy t ks ≡ false → length ks < places → Made l (effectBy (pick v Takes (Drops (NoPlace (explanationBy e)))) S) (taking far t c d ks (find t c d ks))
+      by-found : (v : Bool) → searchEnd e ≡ v → busy t ks ≡ false → length ks < places → Made l (effectBy (pick v Takes (Drops (NoPlace (explanationBy e)))) S) (taking t c d ks (find t c d ks))
       by-found true h hb hk =
           let hf : At (e .place) (e .start) ≡ find t c d ks = rw h at spot-e in
-          subst (λ (p : Place). Made l (takeEffect S) (taking far t c d ks p)) hf (take-made (sym hf) hb hk)
+          subst (λ (p : Place). Made l (takeEffect S) (taking t c d ks p)) hf (take-made (sym hf) hb hk)
       by-found false h hb hk =
           let hf : Nowhere ≡ find t c d ks = rw h at spot-e in
-          subst (λ (p : Place). Made l (dropEffect (NoPlace (explanationBy e)) S) (taking far t c d ks p)) hf
+          subst (λ (p : Place). Made l (dropEffect (NoPlace (explanationBy e)) S) (taking t c d ks p)) hf
           (subst (λ (why : Explanation). Made l (dropEffect (NoPlace (explanationBy e)) S) (dropping t ks (NoPlace why))) (told-e hb (sym hf)) (drop-made (NoPlace (explanationBy e))))
 
       by-full : (v : Bool) → leb places (length ks) ≡ v → busy t ks ≡ false
-          → Made l (effectBy (pick v (Drops Full) (pick (searchEnd e) Takes (Drops (NoPlace (explanationBy e))))) S) (pick v (dropping t ks Full) (taking far t c d ks (find t c d ks)))
+          → Made l (effectBy (pick v (Drops Full) (pick (searchEnd e) Takes (Drops (NoPlace (explanationBy e))))) S) (pick v (dropping t ks Full) (taking t c d ks (find t c d ks)))
       by-full true h hb = drop-made Full
       by-full false h hb = by-found (searchEnd e) refl hb (leb-false places (length ks) h)
 

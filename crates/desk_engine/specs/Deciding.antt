@@ -54,7 +54,7 @@ openEffect s = record {
   fit = fitFrom (places - s .desk .count) most32;
 }
 
--- "13, 14, 15 and 19 change nothing at the desk"
+-- "13, 14, 15 .. change nothing at the desk"
 abbrev pub keepEffect : Refusal → Scan → Effect
 keepEffect why s = record { answer = Refused why; desk = s .desk; drop = 0; shift = stillShift; fit = stillFit }
 

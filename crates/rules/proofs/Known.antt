@@ -7,7 +7,7 @@ use Rattle.rules.specs.Walk.{pick}
 use Rattle.rules.specs.Refusals.{placed, told, toldFinding, toldFilling, Tells}
 use Rattle.rules.specs.declared.Told.{Told}
 use Rattle.rules.specs.declared.Refusal.{Refusal}
-use Rattle.rules.specs.declared.Refusal.the-variants.{Short, Edition, Limits, Offset, Length, Partition, Task, Tick, Asked, Shortfall, Unharmonic, Want, Output, Rules, Numbers, Past, Busy, Full, NoPlace, TooFar, Counts, Granule, Beyond}
+use Rattle.rules.specs.declared.Refusal.the-variants.{Short, Edition, Limits, Offset, Length, Partition, Task, Tick, Asked, Shortfall, Unharmonic, Want, Output, Rules, Numbers, Past, Busy, Full, NoPlace, Counts, Granule, Beyond}
 use Rattle.rules.specs.declared.Explanation.{Explanation}
 use Rattle.rules.specs.declared.Explanation.the-variants.{Nowhere, Roomiest}
 use Rattle.rules.specs.declared.Binding.the-variants.{Own, Listed}
@@ -26,7 +26,7 @@ named n a b c d =
     pick (eqb n 1) Short (pick (eqb n 2) Edition (pick (eqb n 3) Limits (pick (eqb n 4) Offset (pick (eqb n 5) Length
     (pick (eqb n 6) (Partition a) (pick (eqb n 7) (Task a) (pick (eqb n 8) (Tick a) (pick (eqb n 9) (Shortfall a b c d)
     (pick (eqb n 10) Unharmonic (pick (eqb n 11) Want (pick (eqb n 12) Output (pick (eqb n 13) Rules (pick (eqb n 14) Numbers
-    (pick (eqb n 15) Past (pick (eqb n 16) Busy (pick (eqb n 17) Full (pick (eqb n 18) (NoPlace (explaining a b c d)) (pick (eqb n 19) TooFar (pick (eqb n 20) Counts (pick (eqb n 21) Granule (Beyond b)))))))))))))))))))))
+    (pick (eqb n 15) Past (pick (eqb n 16) Busy (pick (eqb n 17) Full (pick (eqb n 18) (NoPlace (explaining a b c d)) (pick (eqb n 20) Counts (pick (eqb n 21) Granule (Beyond b))))))))))))))))))))
 
 told-named : (r : Refusal) → ¬ (told r .number ≡ 8) → r ≡ named (told r .number) (told r .first) (told r .second) (told r .third) (told r .fourth)
 told-named Short h = refl
@@ -50,7 +50,6 @@ told-named Full h = refl
 told-named (NoPlace Nowhere) h = refl
 told-named (NoPlace (Roomiest place room Own)) h = refl
 told-named (NoPlace (Roomiest place room (Listed job))) h = refl
-told-named TooFar h = refl
 told-named Counts h = refl
 told-named Granule h = refl
 told-named (Beyond k) h = refl

@@ -2,7 +2,7 @@
 use Prim.Native.Nat.{ℕ}
 use mathlib.Core.Path.{_≡_}
 use Rattle.rules.specs.declared.Refusal.{Refusal}
-use Rattle.rules.specs.declared.Refusal.the-variants.{Short, Edition, Limits, Offset, Length, Partition, Task, Tick, Asked, Shortfall, Unharmonic, Want, Output, Rules, Numbers, Past, Busy, Full, NoPlace, TooFar, Counts, Granule, Beyond}
+use Rattle.rules.specs.declared.Refusal.the-variants.{Short, Edition, Limits, Offset, Length, Partition, Task, Tick, Asked, Shortfall, Unharmonic, Want, Output, Rules, Numbers, Past, Busy, Full, NoPlace, Counts, Granule, Beyond}
 use Rattle.rules.specs.declared.Binding.{Binding}
 use Rattle.rules.specs.declared.Binding.the-variants.{Own, Listed}
 use Rattle.rules.specs.declared.Explanation.{Explanation}
@@ -73,7 +73,7 @@ told Past = placed 15 0
 told Busy = placed 16 0
 told Full = placed 17 0
 told (NoPlace why) = telling 18 (roomiestPlace why) (roomiestRoom why) (roomiestKind why) (roomiestJob why)
-told TooFar = placed 19 0
+-- 19, "a move would exceed a job's x", is gone: "The number isn't used again."
 -- "a list that disagrees with the plan is 20"
 told Counts = placed 20 0
 -- "g outside 1 to 16 is 21"

@@ -25,7 +25,7 @@ pub enum Explanation {
     },
 }
 
-// Why a call refuses: document 01's table, from 1 to 19, and 20, 21 and 26 of document 02.
+// Why a call refuses: document 01's table, from 1 to 18, and 20, 21 and 26 of document 02, by which 19 is gone.
 pub enum Refusal {
     Short,
     Edition,
@@ -51,7 +51,6 @@ pub enum Refusal {
     Busy,
     Full,
     NoPlace(Explanation),
-    TooFar,
     Counts,
     Granule,
     Beyond(usize),
@@ -155,7 +154,6 @@ pub fn tell(r: Refusal) -> Told
         Refusal::Busy => numbered(16, 0),
         Refusal::Full => numbered(17, 0),
         Refusal::NoPlace(why) => explained(why),
-        Refusal::TooFar => numbered(19, 0),
         Refusal::Counts => numbered(20, 0),
         Refusal::Granule => numbered(21, 0),
         Refusal::Beyond(question) => questioned(26, question),

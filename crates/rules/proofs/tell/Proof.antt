@@ -128,12 +128,6 @@ enum-told-15 c = search needs
 numbered-requires-18 : tie.Need-numbered-requires-18
 numbered-requires-18 c κs = search needs
 
-enum-told-16 : tie.Need-enum-told-16
-enum-told-16 c = search needs
-
-numbered-requires-19 : tie.Need-numbered-requires-19
-numbered-requires-19 c κs = search needs
-
 enum-known-r-7 : tie.Need-enum-known-r-7
 enum-known-r-7 c = search needs
 
@@ -204,10 +198,7 @@ returns-21 : tie.Need-returns-21
 returns-21 c = rw (c .before .enum-told15 .given .1) (c .numbered18 .ensures)
 
 returns-22 : tie.Need-returns-22
-returns-22 c = rw (c .before .enum-told16 .given .1) (c .numbered19 .ensures)
-
-returns-23 : tie.Need-returns-23
-returns-23 c = rw (c .before .before .r7 .given .1) (c .questioned2 .ensures)
+returns-22 c = rw (c .before .before .r7 .given .1) (c .questioned2 .ensures)
 
 pub tell-spec : {M : Type 1} → statement M
 tell-spec =
@@ -255,8 +246,6 @@ tell-spec =
     numbered-requires-17
     enum-told-15
     numbered-requires-18
-    enum-told-16
-    numbered-requires-19
     enum-known-r-7
     questioned-requires-2
     returns
@@ -280,5 +269,4 @@ tell-spec =
     returns-19
     returns-20
     returns-21
-    returns-22
-    returns-23)
+    returns-22)
