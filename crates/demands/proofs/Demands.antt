@@ -7,7 +7,7 @@ use mathlib.Core.List.{List, [], _∷_}
 use native.Mathlib.Omega.{arith}
 use borrow.Author.Tests.{eqb-true, eqb-false, leb-true, not-true}
 use lib.Dec.{leb, ltb, eqb}
-use lib.ListN.{length, take, drop, getD}
+use lib.ListN.{length, take, getD}
 use Rattle.rules.specs.Walk.{pick}
 use Rattle.rules.specs.Limits.{longest}
 use Rattle.rules.specs.Table.{partitions}
@@ -74,7 +74,7 @@ use Rattle.desk.specs.Request.{kept, Place, At, Nowhere, find, insertAt, taking
 use Rattle.desk.specs.Call.{deskOf, Leaves, said}
 use Rattle.desk.specs.Places.{early, startAt}
 use Rattle.desk.specs.Reason.{explanationOf}
-use Rattle.desk.specs.Theorems.{Fits, NoLower, Ready}
+use Rattle.desk.specs.Theorems.{Fits, MovesWithin, NoLower, Ready}
 use Rattle.desk.proofs.Ready.{Comes, at-13, at-14, at-15, at-16, at-17, through, comes}
 use Rattle.desk.proofs.Proved as desk
 use Rattle.desk_lent.proofs.Proved as lent
@@ -322,12 +322,12 @@ module _ (k k′ : Desk) (l l′ : List Job) (time c d : ℕ) (t : Told) (p : Te
       go (Taken i s) f = desk.proved .taken-start (k .clock) (k .count) l time c d i s f
       go (Refused r) f = absurd (not-0 r (rw (desk-is asked k′ l′ t p, f) at e))
 
-  near-told : t .number ≡ 0 → desk.MovesWithin left (t .first) l′
-  near-told e = rw (p .1 .2) (go (asked .answer) refl)
+  near-told : t .number ≡ 0 → MovesWithin left (t .first) l′
+  near-told e = rw (desk-is asked k′ l′ t p, p .1 .2) (go (asked .answer) refl)
     where
-      go : (a : Answer) → asked .answer ≡ a → desk.MovesWithin left (t .first) (asked .jobs)
+      go : (a : Answer) → asked .answer ≡ a → MovesWithin left (said a .first) (asked .jobs)
       go Opened f = absurd (not-opened f)
-      go (Taken i s) f = ?
+      go (Taken i s) f = desk.proved .never-too-far (k .clock) (k .count) l time c d i s f
       go (Refused r) f = absurd (not-0 r (rw (desk-is asked k′ l′ t p, f) at e))
 
   busy-told : t .number ≡ 16
