@@ -110,7 +110,7 @@ enum {
     MERKAZOBI_BUSY = 16,      /* busy: ask again when the running job ends */
     MERKAZOBI_FULL = 17,      /* 64 jobs left after dropping */
     MERKAZOBI_NO_PLACE = 18,  /* no place keeps every deadline; the roomiest place, its room, what binds it, that job */
-    MERKAZOBI_TOO_FAR = 19,   /* a move would exceed a job's x: proved never to happen */
+    /* 19 was a move beyond a job's x. No call ever answered it, and the number isn't used again. */
     MERKAZOBI_COUNTS = 20,    /* the running counts disagree with the plan */
     MERKAZOBI_GRANULE = 21,   /* the granule is not from 1 to 16 */
     MERKAZOBI_STRETCH = 26    /* a tick outside the plan, a start not below the frame, or a stretch longer than it;
@@ -311,8 +311,8 @@ merkazobi_answer merkazobi_open(merkazobi_desk *desk, merkazobi_job *jobs, size_
    from 0, after dropping; second: the start, t for place 0, else the end of the job before. Both hold until the next
    call, which may move the job back in turn, never past its deadline.
 
-   Refusals 13 to 19, of which 13 is for what an opening refuses, for a clock above 1,000,000 and for an x that is not
-   as worked out. "13, 14, 15 and 19 change nothing at the desk. 16, 17, 18 set the clock to t and drop finished jobs ..
+   Refusals 13 to 18, of which 13 is for what an opening refuses, for a clock above 1,000,000 and for an x that is not
+   as worked out. "13, 14, 15 .. change nothing at the desk. 16, 17, 18 set the clock to t and drop finished jobs ..
    A job taken in sets the clock too." A request that 13 to 17 don't refuse is taken "exactly when some place in the
    order, started at t or later, with earlier jobs unmoved and later ones only delayed, keeps every deadline"; else it
    is 18.

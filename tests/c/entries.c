@@ -709,7 +709,7 @@ static void requests_at_the_last_place(void)
     ends("in an empty table, time to spare", request(7, 5, 20), (merkazobi_answer){0, 0, 7, 0, 0, 0});
 }
 
-/* "13, 14, 15 and 19 change nothing at the desk." */
+/* "13, 14, 15 .. change nothing at the desk." */
 static void requests_that_change_nothing(void)
 {
     begin_desk(9, d1, 3);
