@@ -307,9 +307,9 @@ merkazobi_answer merkazobi_open(merkazobi_desk *desk, merkazobi_job *jobs, size_
 
 /* A request at time t of budget c and deadline d, in ticks of the desk's own partition; places is 64. The job is put at
    the lowest place with room: before a listed job, which is moved back with those behind it as far as they are forced,
-   or behind the last one that starts by d, in front of all where none does, also into an empty table. first: the place
-   from 0, after dropping; second: the start, t for place 0, else the end of the job before. Both hold until the next
-   call, which may move the job back in turn, never past its deadline.
+   none by more than its x, or behind the last one that starts by d, in front of all where none does, also into an empty
+   table. first: the place from 0, after dropping; second: the start, t for place 0, else the end of the job before. Both
+   hold until the next call, which may move the job back in turn, never past its deadline.
 
    Refusals 13 to 18, of which 13 is for what an opening refuses, for a clock above 1,000,000 and for an x that is not
    as worked out. "13, 14, 15 .. change nothing at the desk. 16, 17, 18 set the clock to t and drop finished jobs ..
