@@ -1,5 +1,5 @@
-//! "The desk" of document 01, with asks 1 and 7 of document 02: place l is tried too, and 18 says
-//! what room there is.
+//! "The desk" of document 01, with asks 1, 7 and 8 of document 02: place l is tried too, 18 says
+//! what room there is, and "Refusal 19 goes."
 
 use crate::answer::Answer;
 use crate::explain;
@@ -55,7 +55,7 @@ pub fn open(desk: &mut Desk, jobs: &mut [Job]) -> Answer {
     Answer::good([0; 4])
 }
 
-/// A request at time t of budget c and deadline d: 13 to 19.
+/// A request at time t of budget c and deadline d: 13 to 18.
 pub fn request(desk: &mut Desk, jobs: &mut [Job], t: u32, c: u32, d: u32) -> Answer {
     let Some(table) = opened(desk, jobs) else {
         return Answer::refused(13);
@@ -80,9 +80,7 @@ pub fn request(desk: &mut Desk, jobs: &mut [Job], t: u32, c: u32, d: u32) -> Ans
         }
     };
     let start = earliest(&left, place, t);
-    let Some(table) = taken_in(&left, place, [start, c, d]) else {
-        return Answer::refused(19);
-    };
+    let table = taken_in(&left, place, [start, c, d]);
     put_back(desk, jobs, &table, t);
     Answer::good([place as u64, start as u64, 0, 0])
 }
@@ -186,17 +184,13 @@ pub(crate) fn room(job: &Listed, s: i64, d: i64) -> i64 {
 }
 
 /// "Later jobs move only as far as the job before forces them, each x falling by its own move;
-/// earlier x are worked out again from there towards the front." None: "a move would exceed a
-/// job's x".
-fn taken_in(left: &[Listed], place: usize, [a, c, d]: [i64; 3]) -> Option<Vec<Listed>> {
+/// earlier x are worked out again from there towards the front."
+fn taken_in(left: &[Listed], place: usize, [a, c, d]: [i64; 3]) -> Vec<Listed> {
     let mut table = left.to_vec();
     table.insert(place, Listed { a, c, d, x: 0 });
     let mut end = a + c;
     for job in &mut table[place + 1..] {
         let moved = (end - job.a).max(0);
-        if moved > job.x {
-            return None;
-        }
         job.a += moved;
         job.x -= moved;
         end = job.end();
@@ -204,7 +198,7 @@ fn taken_in(left: &[Listed], place: usize, [a, c, d]: [i64; 3]) -> Option<Vec<Li
     for earlier in (0..=place).rev() {
         table[earlier].x = flexibility(&table, earlier);
     }
-    Some(table)
+    table
 }
 
 #[cfg(test)]

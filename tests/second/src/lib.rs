@@ -1,4 +1,4 @@
-//! The rules of document 01 once more, with asks 1, 2 and 4 to 7 of document 02, the curve of least
+//! The rules of document 01 once more, with asks 1, 2 and 4 to 8 of document 02, the curve of least
 //! service, the share table and the page as text, by plain counting and trying, to compare the
 //! library and the programs against.
 

@@ -1,5 +1,5 @@
-//! The desk's worked examples, with D6 as ask 1 of document 02 has it, and the ends of the gap that
-//! it is about. What 18 says of the room is told in `explained`.
+//! The desk's worked examples, with D6 as ask 1 of document 02 has it, the ends of the gap that it is
+//! about, and moves of all x. What 18 says of the room is told in `explained`.
 
 use crate::answer::Answer;
 use crate::desk::{open, request, Desk, Job};
@@ -100,6 +100,28 @@ fn d6_a_tick_longer() {
         }
     );
     assert_eq!(jobs, only(&[[30, 2, 40, 8]]));
+}
+
+/// "a place with enough room never leads to a move beyond a job's flexibility": nine ticks from 8 on
+/// move two jobs by all of their x, which is up to their deadlines, and none behind those.
+#[test]
+fn moves_of_all_x() {
+    let listed = [[10, 3, 20, 7], [15, 4, 24, 5], [40, 2, 50, 8]];
+    let asked = |c: u32, d: u32| {
+        let (mut desk, mut jobs) = (Desk { clock: 8, count: 3 }, only(&listed));
+        (request(&mut desk, &mut jobs, 8, c, d), jobs)
+    };
+    for d in [17, 18, 28, 29, 60] {
+        let moved = only(&[[8, 9, d, 0], [17, 3, 20, 0], [20, 4, 24, 0], listed[2]]);
+        assert_eq!(asked(9, d), (Answer::good([0, 8, 0, 0]), moved));
+    }
+    // A tick more goes to a later place, and is 18 while d is before its end there.
+    let refused = |bound: [u64; 2]| Answer::new(18, [0, 9, bound[0], bound[1]]);
+    for (d, bound) in [(17, [1, 0]), (18, [2, 0]), (28, [2, 0])] {
+        assert_eq!(asked(10, d), (refused(bound), only(&listed)));
+    }
+    let unmoved = only(&[[10, 3, 20, 2], [15, 4, 24, 0], [19, 10, 29, 0], listed[2]]);
+    assert_eq!(asked(10, 29), (Answer::good([2, 19, 0, 0]), unmoved));
 }
 
 /// What a request finds behind all listed jobs: D1's last one ends at 32, and no place before has

@@ -1,5 +1,6 @@
 //! Tables of the desk.
 
+use super::requests::LATEST;
 use crate::desk::{Desk, Job};
 use crate::limits::JOBS;
 use crate::rng::Rng;
@@ -102,6 +103,34 @@ pub fn tight(rng: &mut Rng, count: usize) -> (Desk, Vec<Job>) {
         ..spread(rng)
     };
     table(rng, count, spread)
+}
+
+/// Jobs of which most have until the latest time, so that they can be moved far; one that hasn't
+/// holds those before it.
+pub fn far(rng: &mut Rng, count: usize) -> (Desk, Vec<Job>) {
+    let spread = Spread {
+        from: rng.pick(&[0, 5, 50]),
+        ..spread(rng)
+    };
+    let (desk, mut jobs) = table(rng, count, spread);
+    for job in &mut jobs[..count] {
+        if !rng.one_in(8) {
+            job.d = LATEST;
+        }
+    }
+    (desk, jobs)
+}
+
+/// Tables of all kinds.
+pub fn any(rng: &mut Rng, count: usize) -> (Desk, Vec<Job>) {
+    let spread = spread(rng);
+    match rng.between(0, 5) {
+        0 if count > 0 => chain(rng, count),
+        1 => alike(rng, count),
+        2 => tight(rng, count),
+        3 => far(rng, count),
+        _ => table(rng, count, spread),
+    }
 }
 
 /// A number beside what it was, at the limit, or near the width's end.

@@ -148,15 +148,39 @@ fn once_idle(listed: &[Job], time: u32) -> u32 {
 
 /// A request that just doesn't fit anywhere, or just does, or is far too long.
 pub fn too_long(rng: &mut Rng, clock: u32, listed: &[Job]) -> Request {
+    let (request, rooms) = of_one_tick(rng, clock, listed);
+    let most = rooms.into_iter().max().unwrap_or(0).max(0) as u32;
+    let far = rng.between(1, TIME as usize) as u32;
+    let c = most + rng.pick(&[0, 1, 1, 1, 1, 2, 9, far]);
+    let c = c.clamp(1, LATEST);
+    Request { c, ..request }
+}
+
+/// A request as long as a room that no lower place has, so that the jobs behind that place are moved
+/// as far as they can be, or the request's deadline allows; or a tick shorter or longer.
+pub fn about_a_room(rng: &mut Rng, clock: u32, listed: &[Job]) -> Request {
+    let (request, rooms) = of_one_tick(rng, clock, listed);
+    let room = rng.pick(&rising(&rooms)).max(0) as u32;
+    let beside = rng.pick(&[0, 1, 1, 2]);
+    let c = (room + beside).saturating_sub(1);
+    let c = c.clamp(1, LATEST);
+    Request { c, ..request }
+}
+
+/// Each room that is larger than all before it.
+fn rising(rooms: &[i64]) -> Vec<i64> {
+    let larger = |place: &usize| rooms[..*place].iter().all(|lower| lower < &rooms[*place]);
+    let places = (0..rooms.len()).filter(larger);
+    places.map(|place| rooms[place]).collect()
+}
+
+/// A request when no job is running, by some deadline, and the rooms that it finds.
+fn of_one_tick(rng: &mut Rng, clock: u32, listed: &[Job]) -> (Request, Vec<i64>) {
     let t = idle_time(rng, clock, listed);
     let mut request = Request { t, c: 1, d: 0 };
     let left = request.left(listed);
     request.d = some_deadline(rng, t, left).min(LATEST);
-    let most = request.rooms(left).into_iter().max().unwrap_or(0).max(0) as u32;
-    let far = rng.between(1, TIME as usize) as u32;
-    let c = most + rng.pick(&[0, 1, 1, 1, 1, 2, 9, far]);
-    request.c = c.clamp(1, LATEST);
-    request
+    (request, request.rooms(left))
 }
 
 /// A deadline before t, at t or before all jobs; at the latest start that a job can be moved to, its

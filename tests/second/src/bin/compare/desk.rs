@@ -2,6 +2,7 @@
 //! sequences.
 
 mod explained;
+mod moves;
 
 use second::desk::{self, Desk, Job};
 use second::inputs::jobs;
@@ -19,6 +20,7 @@ pub const TRIALS: &[Named] = &[
     ("desk, sequences", sequences),
     ("desk, nearly full tables", nearly_full_tables),
     ("desk, about place l", about_place_l),
+    ("desk, moves of all x", moves::of_all_x),
     ("desk, from empty to full", from_empty_to_full),
     ("desk, every small request", every_small_request),
     ("desk, 18 by hand", explained::by_hand),
@@ -88,6 +90,28 @@ fn request(trial: &mut Trial, lent: &mut Lent, request: Request) -> Answer {
     answer
 }
 
+/// A request after which the table is lent as it was before.
+fn request_alone(trial: &mut Trial, lent: &Lent, asked: Request) -> Answer {
+    let mut after = lent.clone();
+    let answer = request(trial, &mut after, asked);
+    let mut record = Record::new(lent.listed());
+    follow(trial, &mut record, [lent, &after], asked, answer);
+    answer
+}
+
+/// Watches that no job is moved otherwise than it may be, and the promise.
+fn follow(
+    trial: &Trial,
+    record: &mut Record,
+    [before, after]: [&Lent; 2],
+    asked: Request,
+    answer: Answer,
+) {
+    let followed = record.follow(asked, answer, after.listed());
+    trial.same((asked, before, after, "moved"), followed, true);
+    trial.same((asked, before, &record, "promise"), record.kept(), true);
+}
+
 fn lend_all(call: Call, before: &Lent, after: &Lent) {
     let call = call.writes(1, &[before.desk], &[after.desk]);
     call.writes(before.places, &before.jobs, &after.jobs);
@@ -147,9 +171,8 @@ fn sequence(trial: &mut Trial, mut lent: Lent, requests: usize, draw: Draw, seen
         let answer = request(trial, &mut lent, asked);
         note(seen, &before, asked, answer);
         explained::hold(trial, seen, &before, asked, answer);
-        let followed = record.follow(asked, answer, lent.listed());
-        trial.same((asked, &before, &lent, "moved"), followed, true);
-        trial.same((asked, &before, &record, "promise"), record.kept(), true);
+        follow(trial, &mut record, [&before, &lent], asked, answer);
+        moves::note(seen, [&before, &lent], asked, answer);
         // Nothing ends after the latest time, so there is little more to see.
         if lent.desk.clock == LATEST && trial.rng.one_in(2) {
             return;
@@ -227,7 +250,7 @@ fn every_small_request(trial: &mut Trial) {
         for t in trial.each(0..14) {
             for c in 0..9 {
                 for d in 0..24 {
-                    request(trial, &mut lent.clone(), Request { t, c, d });
+                    request_alone(trial, &lent, Request { t, c, d });
                 }
             }
         }

@@ -31,10 +31,11 @@ impl Record {
     }
 
     /// Follows a request to the jobs that are listed now; nothing started is moved, nothing goes to
-    /// an earlier tick.
+    /// an earlier tick, and nothing is moved farther than its x was: "a place with enough room never
+    /// leads to a move beyond a job's flexibility".
     pub fn follow(&mut self, request: Request, answer: Answer, listed: &[Job]) -> bool {
         let Request { t, c, d } = request;
-        if ![13, 14, 15, 19].contains(&answer.number) {
+        if ![13, 14, 15].contains(&answer.number) {
             let (gone, left) = self.listed.iter().partition(|one| one.job.end() <= t);
             self.dropped.extend::<Vec<Promised>>(gone);
             self.listed = left;
@@ -50,12 +51,9 @@ impl Record {
             && self.listed.iter_mut().zip(listed).all(|(one, now)| {
                 let was = one.job;
                 one.job = *now;
-                let moved = if was.a < t {
-                    now.a != was.a
-                } else {
-                    now.a < was.a
-                };
-                !moved && (now.c, now.d) == (was.c, was.d)
+                let farthest = if was.a < t { 0 } else { was.x };
+                let starts = was.a..=was.a + farthest;
+                starts.contains(&now.a) && (now.c, now.d) == (was.c, was.d)
             })
     }
 

@@ -6,7 +6,7 @@ use second::inputs::requests::{self, Request, LATEST};
 use second::limits::JOBS;
 use second::Answer;
 
-use super::{open, request, sequence, Lent};
+use super::{open, request_alone, sequence, Lent};
 use crate::seen::Seen;
 use crate::trial::Trial;
 
@@ -161,15 +161,8 @@ pub fn about_d(trial: &mut Trial) {
 pub fn nearly_full(trial: &mut Trial) {
     let mut seen = Seen::default();
     for _ in trial.cases(5000) {
-        let rng = &mut trial.rng;
-        let count = rng.pick(&[62, 63, 63, 64]);
-        let spread = jobs::spread(rng);
-        let table = match rng.between(0, 3) {
-            0 => jobs::chain(rng, count),
-            1 => jobs::alike(rng, count),
-            2 => jobs::tight(rng, count),
-            _ => jobs::table(rng, count, spread),
-        };
+        let count = trial.rng.pick(&[62, 63, 63, 64]);
+        let table = jobs::any(&mut trial.rng, count);
         at(trial, table, &mut seen);
     }
     seen.share(trial, &["answered 18"], [3, 1]);
@@ -183,22 +176,15 @@ pub fn nearly_full(trial: &mut Trial) {
 pub fn and_a_tick_more(trial: &mut Trial) {
     let mut seen = Seen::default();
     for _ in trial.cases(15_000) {
-        let rng = &mut trial.rng;
-        let count = rng.pick(&[0, 1, 2, 3, 5, 12, 40]);
-        let spread = jobs::spread(rng);
-        let table = match rng.between(0, 3) {
-            0 if count > 0 => jobs::chain(rng, count),
-            1 => jobs::alike(rng, count),
-            _ => jobs::table(rng, count, spread),
-        };
-        let mut lent = Lent::new(table);
+        let count = trial.rng.pick(&[0, 1, 2, 3, 5, 12, 40]);
+        let mut lent = Lent::new(jobs::any(&mut trial.rng, count));
         // Late tables may pass the latest deadline.
         if open(trial, &mut lent).number != 0 {
             continue;
         }
         for _ in 0..4 {
             let asked = requests::too_long(&mut trial.rng, 0, lent.listed());
-            let answer = request(trial, &mut lent.clone(), asked);
+            let answer = request_alone(trial, &lent, asked);
             hold(trial, &mut seen, &lent, asked, answer);
             if answer.number == 18 {
                 beside(trial, &lent, asked, answer);
@@ -211,7 +197,7 @@ pub fn and_a_tick_more(trial: &mut Trial) {
 
 fn beside(trial: &mut Trial, lent: &Lent, asked: Request, refused: Answer) {
     let room = refused.second as u32;
-    let mut ask = |c: u32| request(trial, &mut lent.clone(), Request { c, ..asked });
+    let mut ask = |c: u32| request_alone(trial, lent, Request { c, ..asked });
     let more = [room + 1, room + 2, LATEST].map(|more| ask(more.min(LATEST)));
     let taken = if room > 0 { Some(ask(room)) } else { None };
     trial.same((lent, asked, "more"), more, [refused; 3]);
@@ -239,7 +225,7 @@ pub fn every_small_table(trial: &mut Trial) {
             for d in 0..14 {
                 for c in [1, 30] {
                     let asked = Request { t, c, d };
-                    let answer = request(trial, &mut lent.clone(), asked);
+                    let answer = request_alone(trial, &lent, asked);
                     hold(trial, &mut seen, &lent, asked, answer);
                 }
             }
@@ -314,7 +300,7 @@ pub fn by_hand(trial: &mut Trial) {
         open(trial, &mut lent);
         for &([t, c, d], values) in told {
             let asked = Request { t, c, d };
-            let answer = request(trial, &mut lent.clone(), asked);
+            let answer = request_alone(trial, &lent, asked);
             trial.same(asked, answer, Answer::new(18, values));
         }
     }
