@@ -21,7 +21,7 @@ Near e (j ∷ js) = e ≤ j .start + j .flex
 -- nor each one that it moves the next
 abbrev pub AllNear : ℕ → List Job → Type 0
 AllNear e [] = Unit {0}
-AllNear e (j ∷ js) = (e ≤ j .start + j .flex) × AllNear (max e (j .start) + j .budget) js
+AllNear e (j ∷ js) = Near e (j ∷ js) × AllNear (max e (j .start) + j .budget) js
 
 -- omega takes at most six case splits, and each `-`, `min` and `max` is one: so the numbers go in small steps
 pub sub-both : (m p q : ℕ) → m - p - q ≡ m - (p + q)
