@@ -127,7 +127,7 @@ pub fn equal_rooms(trial: &mut Trial) {
         let table = jobs::alike(&mut trial.rng, count);
         at(trial, table, &mut seen);
     }
-    seen.share(trial, &[EQUAL_ROOMS], [3, 2]);
+    seen.share(trial, &[EQUAL_ROOMS], [2, 1]);
     seen.share(trial, &[ITSELF, OWN, PLACE_L, EQUALS, NO_ROOM], [1, 2]);
 }
 
@@ -166,7 +166,7 @@ pub fn nearly_full(trial: &mut Trial) {
         at(trial, table, &mut seen);
     }
     seen.share(trial, &["answered 18"], [3, 1]);
-    seen.share(trial, &[LAST], [1, 80]);
+    seen.share(trial, &[LAST], [1, 40]);
     seen.share(trial, &[LATER, ITSELF], [1, 5]);
     seen.share(trial, &["answered 17"], [1, 10]);
 }
@@ -192,8 +192,7 @@ pub fn and_a_tick_more(trial: &mut Trial) {
         }
     }
     seen.share(trial, &[OWN, PLACE_L, ITSELF, LATER], [1, 4]);
-    seen.share(trial, &[EQUALS, NO_ROOM], [1, 10]);
-    seen.share(trial, &[NONE], [1, 20]);
+    seen.share(trial, &[NONE, EQUALS, NO_ROOM], [1, 10]);
 }
 
 fn beside(trial: &mut Trial, lent: &Lent, asked: Request, refused: Answer) {
