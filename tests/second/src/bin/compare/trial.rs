@@ -135,16 +135,14 @@ impl Trial {
         }
     }
 
-    /// More than `few` of them in `many` cases; half as many where time cut the trial short, for what a
-    /// part of the cases comes to is left to chance.
+    /// More than `few` of them in `many` cases.
     pub fn share(&mut self, what: &str, found: u64, [few, many]: [u64; 2]) {
         let cases = self.progress.ran();
         if cases < FEW_CASES {
             self.shares_left_out = true;
             return;
         }
-        let parts = if self.progress.cut() { 2 } else { 1 };
-        if parts * found * many <= few * cases {
+        if found * many <= few * cases {
             self.fail(&format!("{what}: {found} in {cases} cases, too few"));
         }
     }
