@@ -182,7 +182,7 @@ pub fn and_a_tick_more(trial: &mut Trial) {
         if open(trial, &mut lent).number != 0 {
             continue;
         }
-        for _ in 0..4 {
+        for _ in 0..6 {
             let asked = requests::too_long(&mut trial.rng, 0, lent.listed());
             let answer = request_alone(trial, &lent, asked);
             hold(trial, &mut seen, &lent, asked, answer);
