@@ -16,6 +16,6 @@ part_at which c =
     (pick (eqb which 1) (body_at c Tasks) (pick (eqb which 2) (body_at c Runs) (record { offset = 0; end = 0 })))
 
 -- 0 with where the part starts and ends, or the reader's refusal
-abbrev pub toldPart : ℕ → Reading → Told
-toldPart which (Contents e frame np nt nr) = let s = part_at which (Contents e frame np nt nr) in telling 0 s.offset s.end 0 0
-toldPart which (Refused x) = told x
+abbrev pub told_part : ℕ → Reading → Told
+told_part which (Contents e frame np nt nr) = let s = part_at which (Contents e frame np nt nr) in telling 0 s.offset s.end 0 0
+told_part which (Refused x) = told x

@@ -1,13 +1,13 @@
 // The answers as C is told them: a number and five values, made of what each crate answers; and what the desk is asked.
 ghost use Rattle.std.specs.Prelude.{◌≡◌};
-ghost use Rattle.rules.specs.Refusals.{toldFinding, toldFilling, toldHolding};
-ghost use Rattle.task_verdict.specs.Verdict.{toldJudged};
-ghost use Rattle.task_page.specs.Page.{toldPage};
-ghost use Rattle.file_read.specs.Reader.{toldReading};
+ghost use Rattle.rules.specs.Refusals.{told_finding, told_filling, told_holding};
+ghost use Rattle.task_verdict.specs.Verdict.{told_judged};
+ghost use Rattle.task_page.specs.Page.{told_page};
+ghost use Rattle.file_read.specs.Reader.{told_reading};
 ghost use Rattle.file_read.specs.Inner.{Few};
 ghost use Rattle.desk.specs.declared.Ask.TheVariants.{Open, Request};
 ghost use Rattle.desk.specs.Call.{said};
-ghost use Rattle.answers.specs.Parts.{part_at, toldPart};
+ghost use Rattle.answers.specs.Parts.{part_at, told_part};
 
 use desk::{Answer, Ask, Asked};
 use file_read::{Body, Reading, Stretch};
@@ -29,7 +29,7 @@ fn answer(first: usize, second: usize) -> Told
 }
 
 pub fn tell_finding(found: Finding) -> Told
-    ensures { result ≡ toldFinding found }
+    ensures { result ≡ told_finding found }
 {
     match found {
         Finding::Good => answer(0, 0),
@@ -38,7 +38,7 @@ pub fn tell_finding(found: Finding) -> Told
 }
 
 pub fn tell_filling(filled: Filling) -> Told
-    ensures { result ≡ toldFilling filled }
+    ensures { result ≡ told_filling filled }
 {
     match filled {
         Filling::Fills(n) => answer(n, 0),
@@ -47,7 +47,7 @@ pub fn tell_filling(filled: Filling) -> Told
 }
 
 pub fn tell_holding(held: Holding) -> Told
-    ensures { result ≡ toldHolding held }
+    ensures { result ≡ told_holding held }
 {
     match held {
         Holding::Holds(n) => answer(n, 0),
@@ -56,7 +56,7 @@ pub fn tell_holding(held: Holding) -> Told
 }
 
 pub fn tell_judged(judged: Judged) -> Told
-    ensures { result ≡ toldJudged judged }
+    ensures { result ≡ told_judged judged }
 {
     match judged {
         Judged::Pass(t) => answer(t, 0),
@@ -66,7 +66,7 @@ pub fn tell_judged(judged: Judged) -> Told
 }
 
 pub fn tell_page(paged: Paged) -> Told
-    ensures { result ≡ toldPage paged }
+    ensures { result ≡ told_page paged }
 {
     match paged {
         Paged::Pass(t) => answer(t, 0),
@@ -87,7 +87,7 @@ pub fn tell_page(paged: Paged) -> Told
 }
 
 pub fn tell_reading(reading: Reading) -> Told
-    ensures { result ≡ toldReading reading }
+    ensures { result ≡ told_reading reading }
 {
     match reading {
         Reading::Contents {
@@ -128,7 +128,7 @@ fn part_at(which: usize, contents: Reading) -> Stretch
 // Where that part lies in a file that is read, or why the file is refused.
 pub fn tell_part(which: usize, reading: Reading) -> Told
     requires { Few reading }
-    ensures { result ≡ toldPart which reading }
+    ensures { result ≡ told_part which reading }
 {
     match reading {
         Reading::Contents {

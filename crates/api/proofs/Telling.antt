@@ -40,14 +40,14 @@ abbrev pub TellC : {M : Type 1} {𝓤 : Ura M} (𝓛 : Logic 𝓤) (mem : Memory
 TellC 𝓛 mem run = triple_of 𝓛 tell.signature (tell.spec 𝓛 mem run)
 
 module _ {M : Type 1} {𝓤 : Ura M} (𝓛 : Logic 𝓤) (mem : Memory → SProp 𝓤) (run : Routine → Fun 𝓤) where
-  abbrev pub to-tell : Answer → Val → (TellC 𝓛 mem run).Ghost
-  to-tell z w = ((tt, tt, tt, (z, tt), (w ∷ [], tt)), tt)
+  abbrev pub to_tell : Answer → Val → (TellC 𝓛 mem run).Ghost
+  to_tell z w = ((tt, tt, tt, (z, tt), (w ∷ [], tt)), tt)
 
-  pub goes-tell : (z : Answer) (w : Val) → Is N.the_row z (w ∷ []) → ent 𝓤 (sem 𝓛 ftrue) ((TellC 𝓛 mem run).pre (to-tell z w))
-  goes-tell z w is = qed 𝓛 (‵ ftrue ∷ []) ∵ nothing ! $ owned ! N.the_row (Is N.the_row) (EL.makes N.the_type N'.the_plain 𝓛) z _ is $ fjoin ! $ move ! (1 ∷ 0 ∷ []) $ join ! $ frame ! $ done !
+  pub goes_tell : (z : Answer) (w : Val) → Is N.the_row z (w ∷ []) → ent 𝓤 (sem 𝓛 ftrue) ((TellC 𝓛 mem run).pre (to_tell z w))
+  goes_tell z w is = qed 𝓛 (‵ ftrue ∷ []) ∵ nothing ! $ owned ! N.the_row (Is N.the_row) (EL.makes N.the_type N'.the_plain 𝓛) z _ is $ fjoin ! $ move ! (1 ∷ 0 ∷ []) $ join ! $ frame ! $ done !
 
-  pub said-tell : (z : Answer) (r : Told) → ent 𝓤 (ensured 𝓛 tell.ended (tell.clauses 𝓛 mem run) tt (z, tt) tt r) (fact 𝓤 (r ≡ said z))
-  said-tell z r = ex_e 𝓤 _ (λ ws. snd∗ 𝓤 (sem 𝓛 (lasts tell.ended tt (z, tt) ws)) (fact 𝓤 (r ≡ said z)))
+  pub said_tell : (z : Answer) (r : Told) → ent 𝓤 (ensured 𝓛 tell.ended (tell.clauses 𝓛 mem run) tt (z, tt) tt r) (fact 𝓤 (r ≡ said z))
+  said_tell z r = ex_e 𝓤 _ (λ ws. snd∗ 𝓤 (sem 𝓛 (lasts tell.ended tt (z, tt) ws)) (fact 𝓤 (r ≡ said z)))
 
 abbrev pub CallC : {M : Type 1} {𝓤 : Ura M} (𝓛 : Logic 𝓤) (mem : Memory → SProp 𝓤) (run : Routine → Fun 𝓤) → Contract 𝓤
 CallC 𝓛 mem run = triple_of 𝓛 call.signature (call.spec 𝓛 mem run)
@@ -65,10 +65,10 @@ module _ {M : Type 1} {𝓤 : Ura M} (𝓛 : Logic 𝓤) (mem : Memory → SProp
   abbrev sv : Val
   sv = slice_val (b', o') (length ys)
 
-  abbrev pub to-call : (CallC 𝓛 mem run).Ghost
-  to-call = (((κ, (κ', tt)), (q, (q', tt)), tt, (y, (x, (ask, tt))), (vptr b o ∷ [], (sv ∷ [], (w ∷ [], tt)))), tt)
+  abbrev pub to_call : (CallC 𝓛 mem run).Ghost
+  to_call = (((κ, (κ', tt)), (q, (q', tt)), tt, (y, (x, (ask, tt))), (vptr b o ∷ [], (sv ∷ [], (w ∷ [], tt)))), tt)
 
-  pub goes-call : ent 𝓤 (sep 𝓤 (sep 𝓤 (A.lft κ q) (sep 𝓤 (A.lft κ' q') (sem 𝓛 ftrue))) (sep 𝓤 (sem 𝓛 ((MutRef (named 0) κ D.the_row).own_val y (vptr b o ∷ []))) (sem 𝓛 ((MutSlice (named 1) κ' J.the_row).own_val x (sv ∷ []))))) ((CallC 𝓛 mem run).pre to-call)
-  goes-call =
+  pub goes_call : ent 𝓤 (sep 𝓤 (sep 𝓤 (A.lft κ q) (sep 𝓤 (A.lft κ' q') (sem 𝓛 ftrue))) (sep 𝓤 (sem 𝓛 ((MutRef (named 0) κ D.the_row).own_val y (vptr b o ∷ []))) (sem 𝓛 ((MutSlice (named 1) κ' J.the_row).own_val x (sv ∷ []))))) ((CallC 𝓛 mem run).pre to_call)
+  goes_call =
       qed 𝓛 ((‵ (flft κ q) ⊛ ‵ (flft κ' q') ⊛ ‵ ftrue) ∷ ‵ ((MutRef (named 0) κ D.the_row).own_val y (vptr b o ∷ [])) ∷ ‵ ((MutSlice (named 1) κ' J.the_row).own_val x (sv ∷ [])) ∷ []) ∵
       nothing ! $ owned ! K.the_row (Is K.the_row) (EL.makes K.the_type K'.the_plain 𝓛) ask _ is $ fjoin ! $ move ! (3 ∷ 0 ∷ []) $ fjoin ! $ move ! (2 ∷ 0 ∷ []) $ fjoin ! $ move ! (1 ∷ 0 ∷ []) $ join ! $ frame ! $ done !

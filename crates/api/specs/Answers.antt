@@ -3,78 +3,78 @@
 use Rattle.std.specs.Prelude.{ℕ, List}
 use Rattle.rules.specs.Terms.{given, granules}
 use Rattle.rules.specs.declared.Told.{Told}
-use Rattle.rules.specs.Refusals.{toldFinding, toldFilling, toldHolding, Tells}
+use Rattle.rules.specs.Refusals.{told_finding, told_filling, told_holding, Tells}
 use Rattle.theory.specs.Plan.{HeldIs, LeastIs}
 use Rattle.plan_curve.specs.Curve.{DrawsCurve}
 use Rattle.plan_check.specs.Check.{Checks}
 use Rattle.plan_build.specs.Build.{Builds}
 use Rattle.counts.specs.Counts.{FillsCounts, HoldsOne, HoldsMany, Changes}
-use Rattle.task_verdict.specs.Verdict.{Judges, JudgesPlainly, toldJudged}
-use Rattle.task_page.specs.Page.{Pages, toldPage}
-use Rattle.file_read.specs.Reader.{toldReading, Reads}
+use Rattle.task_verdict.specs.Verdict.{Judges, JudgesPlainly, told_judged}
+use Rattle.task_page.specs.Page.{Pages, told_page}
+use Rattle.file_read.specs.Reader.{told_reading, Reads}
 use Rattle.file_write.specs.Writer.{Writes}
 use Rattle.file_listing.specs.Listing.{Lists}
 use Rattle.desk.specs.declared.Job.{Job}
 use Rattle.desk.specs.declared.Desk.{Desk}
 use Rattle.desk.specs.declared.Answer.{Answer}
-use Rattle.desk.specs.Table.{openOf}
-use Rattle.desk.specs.Request.{requestOf}
+use Rattle.desk.specs.Table.{open_of}
+use Rattle.desk.specs.Request.{request_of}
 use Rattle.desk.specs.Call.{Leaves, said}
-use Rattle.answers.specs.Parts.{toldPart}
+use Rattle.answers.specs.Parts.{told_part}
 
 abbrev pub TellsHeld : ℕ → List ℕ → ℕ → ℕ → ℕ → Told → Type 0
-TellsHeld e plan p s n = Tells toldHolding (HeldIs e plan p s n)
+TellsHeld e plan p s n = Tells told_holding (HeldIs e plan p s n)
 
 abbrev pub TellsLeast : ℕ → List ℕ → ℕ → ℕ → Told → Type 0
-TellsLeast e plan p t = Tells toldHolding (LeastIs e plan p t)
+TellsLeast e plan p t = Tells told_holding (LeastIs e plan p t)
 
 abbrev pub TellsCurve : ℕ → List ℕ → ℕ → ℕ → List ℕ → List ℕ → Told → Type 0
-TellsCurve e plan p n list o = Tells toldFilling (DrawsCurve e plan p n list o)
+TellsCurve e plan p n list o = Tells told_filling (DrawsCurve e plan p n list o)
 
 abbrev pub TellsCheck : ℕ → ℕ → List ℕ → List ℕ → Told → Type 0
-TellsCheck e g plan ps = Tells toldFinding (Checks (given e g) plan ps)
+TellsCheck e g plan ps = Tells told_finding (Checks (given e g) plan ps)
 
 abbrev pub TellsBuild : ℕ → List ℕ → List ℕ → List ℕ → Told → Type 0
-TellsBuild g ps out o = Tells toldFilling (Builds (granules g) ps out o)
+TellsBuild g ps out o = Tells told_filling (Builds (granules g) ps out o)
 
 abbrev pub TellsFill : List ℕ → List ℕ → List ℕ → List ℕ → Told → Type 0
-TellsFill plan ps list o = Tells toldFilling (FillsCounts plan ps list o)
+TellsFill plan ps list o = Tells told_filling (FillsCounts plan ps list o)
 
 abbrev pub TellsCounted : List ℕ → List ℕ → List ℕ → ℕ → ℕ → ℕ → Told → Type 0
-TellsCounted plan ps list p s n = Tells toldHolding (HoldsOne plan ps list p s n)
+TellsCounted plan ps list p s n = Tells told_holding (HoldsOne plan ps list p s n)
 
 abbrev pub TellsMany : List ℕ → List ℕ → List ℕ → List ℕ → List ℕ → List ℕ → Told → Type 0
-TellsMany plan ps list qs out o = Tells toldFilling (HoldsMany plan ps list qs out o)
+TellsMany plan ps list qs out o = Tells told_filling (HoldsMany plan ps list qs out o)
 
 -- plan and list, as lent, and plan' and o what they then hold
 abbrev pub TellsChange : List ℕ → List ℕ → List ℕ → ℕ → ℕ → List ℕ → List ℕ → Told → Type 0
-TellsChange plan ps list tick owner plan' o = Tells toldFinding (Changes plan ps list tick owner plan' o)
+TellsChange plan ps list tick owner plan' o = Tells told_finding (Changes plan ps list tick owner plan' o)
 
 abbrev pub TellsVerdict : ℕ → ℕ → List ℕ → List ℕ → List ℕ → ℕ → Told → Type 0
-TellsVerdict e g plan ps ts place = Tells toldJudged (Judges (given e g) plan ps ts place)
+TellsVerdict e g plan ps ts place = Tells told_judged (Judges (given e g) plan ps ts place)
 
 abbrev pub TellsPlain : ℕ → ℕ → List ℕ → List ℕ → List ℕ → ℕ → Told → Type 0
-TellsPlain e g plan ps ts place = Tells toldJudged (JudgesPlainly (given e g) plan ps ts place)
+TellsPlain e g plan ps ts place = Tells told_judged (JudgesPlainly (given e g) plan ps ts place)
 
 -- the list of rows, as lent, and o what it then holds
 abbrev pub TellsPage : ℕ → ℕ → List ℕ → List ℕ → List ℕ → ℕ → List ℕ → List ℕ → Told → Type 0
-TellsPage e g plan ps ts place list o = Tells toldPage (Pages (given e g) plan ps ts place list o)
+TellsPage e g plan ps ts place list o = Tells told_page (Pages (given e g) plan ps ts place list o)
 
 abbrev pub TellsRead : List ℕ → Told → Type 0
-TellsRead b = Tells toldReading (Reads b)
+TellsRead b = Tells told_reading (Reads b)
 
 abbrev pub TellsSection : List ℕ → ℕ → Told → Type 0
-TellsSection b which = Tells (toldPart which) (Reads b)
+TellsSection b which = Tells (told_part which) (Reads b)
 
 abbrev pub TellsWrite : ℕ → ℕ → List ℕ → List ℕ → List ℕ → List ℕ → List ℕ → Told → Type 0
-TellsWrite e frame ps ts rs out o = Tells toldFilling (Writes e frame ps ts rs out o)
+TellsWrite e frame ps ts rs out o = Tells told_filling (Writes e frame ps ts rs out o)
 
 abbrev pub TellsList : List ℕ → List ℕ → List ℕ → Told → Type 0
-TellsList b out o = Tells toldFilling (Lists b out o)
+TellsList b out o = Tells told_filling (Lists b out o)
 
 -- the record k and the table l, as lent, and k' and l' what they then hold
 abbrev pub TellsOpen : Desk → List Job → Desk → List Job → Told → Type 0
-TellsOpen k l k' l' = Tells said (λ (a : Answer). Leaves (openOf k.clock k.count l) a k' l')
+TellsOpen k l k' l' = Tells said (λ (a : Answer). Leaves (open_of k.clock k.count l) a k' l')
 
 abbrev pub TellsRequest : Desk → List Job → ℕ → ℕ → ℕ → Desk → List Job → Told → Type 0
-TellsRequest k l t c d k' l' = Tells said (λ (a : Answer). Leaves (requestOf k.clock k.count l t c d) a k' l')
+TellsRequest k l t c d k' l' = Tells said (λ (a : Answer). Leaves (request_of k.clock k.count l t c d) a k' l')

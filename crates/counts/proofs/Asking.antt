@@ -9,52 +9,52 @@ use lib.Dec.{leb, eqb}
 use lib.ListN.{length}
 use borrow.Author.Tests.{eq-eqb, eqb-true, le-leb, leb-true, lt-leb, ne_eqb}
 use Rattle.rules.specs.Walk.{pick, fails}
-use Rattle.rules.specs.Limits.{questionWidth}
+use Rattle.rules.specs.Limits.{question_width}
 use Rattle.rules.specs.Table.{partitions}
 use Rattle.rules.specs.declared.Refusal.{Refusal}
 use Rattle.rules.specs.declared.Refusal.TheVariants.{Limits, Output, Asked, Beyond}
 use Rattle.rules.specs.declared.Finding.{Finding}
 use Rattle.rules.specs.declared.Finding.TheVariants.{Good, Refused}
 use Rattle.rules.specs.declared.Filling.TheVariants as filling
-use Rattle.rules.proofs.Answers.{no-filling}
+use Rattle.rules.proofs.Answers.{no_filling}
 use Rattle.rules.proofs.Tests.{pick_first}
 use Rattle.tables.specs.Tables.{lowest, unless}
 use Rattle.tables.proofs.Chain.{lowest-good}
 use Rattle.rules.specs.declared.Rule.TheVariants.{Own}
 use Rattle.theory.specs.Plan.{held}
 use Rattle.rules.specs.declared.Holding.TheVariants as holding
-use Rattle.counts.specs.Counts.{row_of, rowWidth, needed, longEnough, agreesAt, planJudged, countsJudged, unlessGood, goodName, goodStretch, fillOf, held_of, asked, start, span, questions, namesOne, withinFrame, answerAt, manyOf}
+use Rattle.counts.specs.Counts.{row_of, row_width, needed, long_enough, agrees_at, plan_judged, counts_judged, unless_good, good_name, good_stretch, fill_of, held_of, asked, start, span, questions, names_one, within_frame, answer_at, many_of}
 use Rattle.counts.specs.Inner.{Kept, Answerable}
 use Rattle.counts.specs.Theorems.{Planned, Counted, NamedIn, WithinIn}
-use Rattle.counts.proofs.Passes.{count-row, row-end}
-use Rattle.counts.proofs.Orders.{name-is, stretch-is, tested, planned, sized, Called, called}
+use Rattle.counts.proofs.Passes.{count-row, row_end}
+use Rattle.counts.proofs.Orders.{name_is, stretch_is, tested, planned, sized, Called, called}
 
 -- ---- filling
 
 module _ (plan ps : List ℕ) (room : ℕ) where
-  pub fill-refused : (r : Refusal) → planJudged plan ps ≡ Refused r → filling.Refused r ≡ fillOf plan ps room
-  unfolding fillOf
-  fill-refused r e = rw e
+  pub fill_refused : (r : Refusal) → plan_judged plan ps ≡ Refused r → filling.Refused r ≡ fill_of plan ps room
+  unfolding fill_of
+  fill_refused r e = rw e
 
-  module _ (e : planJudged plan ps ≡ Good) (n : ℕ) (en : n ≡ partitions ps) where
-    pub fill-short : room < n * rowWidth plan → filling.Refused Output ≡ fillOf plan ps room
-    unfolding fillOf
-    fill-short h = rw (e, ← en, lt-leb (n * rowWidth plan) room h)
+  module _ (e : plan_judged plan ps ≡ Good) (n : ℕ) (en : n ≡ partitions ps) where
+    pub fill_short : room < n * row_width plan → filling.Refused Output ≡ fill_of plan ps room
+    unfolding fill_of
+    fill_short h = rw (e, ← en, lt-leb (n * row_width plan) room h)
 
-    pub fill-fits : n * rowWidth plan ≤ room → filling.Fills (n * rowWidth plan) ≡ fillOf plan ps room
-    unfolding fillOf
-    fill-fits h = rw (e, ← en, le-leb (n * rowWidth plan) room h)
+    pub fill_fits : n * row_width plan ≤ room → filling.Fills (n * row_width plan) ≡ fill_of plan ps room
+    unfolding fill_of
+    fill_fits h = rw (e, ← en, le-leb (n * row_width plan) room h)
 
   -- what an answer says
-  pub filled : (n : ℕ) → fillOf plan ps room ≡ filling.Fills n → Planned plan ps × (n ≡ needed plan ps) × (needed plan ps ≤ room)
-  unfolding fillOf
-  filled n e = go (planJudged plan ps) refl e
+  pub filled : (n : ℕ) → fill_of plan ps room ≡ filling.Fills n → Planned plan ps × (n ≡ needed plan ps) × (needed plan ps ≤ room)
+  unfolding fill_of
+  filled n e = go (plan_judged plan ps) refl e
     where
-      go : (f : Finding) → planJudged plan ps ≡ f → unless filling.Refused f (pick (longEnough plan ps room) (filling.Fills (needed plan ps)) (filling.Refused Output)) ≡ filling.Fills n
+      go : (f : Finding) → plan_judged plan ps ≡ f → unless filling.Refused f (pick (long_enough plan ps room) (filling.Fills (needed plan ps)) (filling.Refused Output)) ≡ filling.Fills n
           → Planned plan ps × (n ≡ needed plan ps) × (needed plan ps ≤ room)
-      go (Refused r) h q = absurd (no-filling n r q)
+      go (Refused r) h q = absurd (no_filling n r q)
       go Good h q =
-          let a = pick_first (longEnough plan ps room) _ _ (filling.Fills n) (no-filling n Output) q in
+          let a = pick_first (long_enough plan ps room) _ _ (filling.Fills n) (no_filling n Output) q in
           let m : n ≡ needed plan ps = cc a.1 in
           (planned plan ps h, m, leb-true _ _ a.0)
 
@@ -62,102 +62,102 @@ module _ (plan ps : List ℕ) (room : ℕ) where
 
 -- every partition's numbers are the plan's
 pub kept_row : (plan ps list : List ℕ) (p : ℕ) → Counted plan ps list → 1 ≤ p → p ≤ partitions ps → Kept plan list p
-unfolding agreesAt
+unfolding agrees_at
 kept_row plan ps list p g l m =
-    let fits : p * rowWidth plan ≤ needed plan ps = mul-le-mul_right (rowWidth plan) m in
+    let fits : p * row_width plan ≤ needed plan ps = mul-le-mul_right (row_width plan) m in
     record {
       partition = l;
       long = omega (arith, g.long);
-      counts = λ k h. eqb-true _ _ (g.counts (row_of plan p + k) (omega (arith, row-end (rowWidth plan) p l))) ∙ count-row plan p l k h;
+      counts = λ k h. eqb-true _ _ (g.counts (row_of plan p + k) (omega (arith, row_end (row_width plan) p l))) ∙ count-row plan p l k h;
     }
 
 module _ (plan ps list : List ℕ) (p s n : ℕ) where
   -- what is found of the call
-  abbrev pub oneFound : Finding
-  oneFound = countsJudged plan ps list (unlessGood (goodName (partitions ps) p) (Asked 0)) true (unlessGood (goodStretch (length plan) s n) (Beyond 0))
+  abbrev pub one_found : Finding
+  one_found = counts_judged plan ps list (unless_good (good_name (partitions ps) p) (Asked 0)) true (unless_good (good_stretch (length plan) s n) (Beyond 0))
 
-  pub held-refused : (r : Refusal) → oneFound ≡ Refused r → holding.Refused r ≡ held_of plan ps list p s n
+  pub held-refused : (r : Refusal) → one_found ≡ Refused r → holding.Refused r ≡ held_of plan ps list p s n
   unfolding held_of
   held-refused r e = rw e
 
-  pub held-holds : oneFound ≡ Good → (h : ℕ) → h ≡ held Own plan p n s → holding.Holds h ≡ held_of plan ps list p s n
+  pub held-holds : one_found ≡ Good → (h : ℕ) → h ≡ held Own plan p n s → holding.Holds h ≡ held_of plan ps list p s n
   unfolding held_of
   held-holds e h q = rw (e, q)
 
-  pub one-looks : oneFound ≡ Good → Kept plan list p × (s < length plan) × (n ≤ length plan)
-  one-looks e =
+  pub one_looks : one_found ≡ Good → Kept plan list p × (s < length plan) × (n ≤ length plan)
+  one_looks e =
       let g = called plan ps list _ true _ e in
-      let a = name-is (partitions ps) p (tested _ (Asked 0) g.names) in
-      let b = stretch-is (length plan) s n (tested _ (Beyond 0) g.insides) in
-      (kept_row plan ps list p g.list-is a.0 a.1, b.0, b.1)
+      let a = name_is (partitions ps) p (tested _ (Asked 0) g.names) in
+      let b = stretch_is (length plan) s n (tested _ (Beyond 0) g.insides) in
+      (kept_row plan ps list p g.list_is a.0 a.1, b.0, b.1)
 
 -- ---- many
 
-pub names-as : (parts : ℕ) (qs : List ℕ) (k a : ℕ) (r : Bool) → a ≡ asked qs k → r ≡ goodName parts a → fails (namesOne parts qs) k ≡ not r
-unfolding namesOne fails
-names-as parts qs k a r ea er = rw (← ea, ← er)
+pub names_as : (parts : ℕ) (qs : List ℕ) (k a : ℕ) (r : Bool) → a ≡ asked qs k → r ≡ good_name parts a → fails (names_one parts qs) k ≡ not r
+unfolding names_one fails
+names_as parts qs k a r ea er = rw (← ea, ← er)
 
-pub within-as : (f : ℕ) (qs : List ℕ) (k s n : ℕ) (r : Bool) → s ≡ start qs k → n ≡ span qs k → r ≡ goodStretch f s n → fails (withinFrame f qs) k ≡ not r
-unfolding withinFrame fails
-within-as f qs k s n r es en er = rw (← es, ← en, ← er)
+pub within_as : (f : ℕ) (qs : List ℕ) (k s n : ℕ) (r : Bool) → s ≡ start qs k → n ≡ span qs k → r ≡ good_stretch f s n → fails (within_frame f qs) k ≡ not r
+unfolding within_frame fails
+within_as f qs k s n r es en er = rw (← es, ← en, ← er)
 
-pub answer-as : (plan qs : List ℕ) (k a s n h : ℕ) → a ≡ asked qs k → s ≡ start qs k → n ≡ span qs k → h ≡ held Own plan a n s → h ≡ answerAt plan qs k
-unfolding answerAt
-answer-as plan qs k a s n h ea es en eh = rw (← ea, ← es, ← en) eh
+pub answer_as : (plan qs : List ℕ) (k a s n h : ℕ) → a ≡ asked qs k → s ≡ start qs k → n ≡ span qs k → h ≡ held Own plan a n s → h ≡ answer_at plan qs k
+unfolding answer_at
+answer_as plan qs k a s n h ea es en eh = rw (← ea, ← es, ← en) eh
 
 module _ (plan ps list qs : List ℕ) (room : ℕ) where
   -- what is found of the call: of its questions, n of them
-  abbrev pub manyFound : ℕ → Finding
-  manyFound n = countsJudged plan ps list (lowest Asked (namesOne (partitions ps) qs) (questions qs)) (leb n room) (lowest Beyond (withinFrame (length plan) qs) (questions qs))
+  abbrev pub many_found : ℕ → Finding
+  many_found n = counts_judged plan ps list (lowest Asked (names_one (partitions ps) qs) (questions qs)) (leb n room) (lowest Beyond (within_frame (length plan) qs) (questions qs))
 
-  pub many-whole : ¬ (length qs % questionWidth ≡ 0) → filling.Refused Limits ≡ manyOf plan ps list qs room
-  unfolding manyOf
+  pub many-whole : ¬ (length qs % question_width ≡ 0) → filling.Refused Limits ≡ many_of plan ps list qs room
+  unfolding many_of
   many-whole h = rw (ne_eqb _ _ h)
 
-  module _ (whole : length qs % questionWidth ≡ 0) (n : ℕ) (en : n ≡ questions qs) where
-    pub many-refused : (r : Refusal) → manyFound n ≡ Refused r → filling.Refused r ≡ manyOf plan ps list qs room
-    unfolding manyOf
-    many-refused r e = let e' : manyFound (questions qs) ≡ Refused r = rw en at e in rw (eq-eqb _ _ whole, e')
+  module _ (whole : length qs % question_width ≡ 0) (n : ℕ) (en : n ≡ questions qs) where
+    pub many_refused : (r : Refusal) → many_found n ≡ Refused r → filling.Refused r ≡ many_of plan ps list qs room
+    unfolding many_of
+    many_refused r e = let e' : many_found (questions qs) ≡ Refused r = rw en at e in rw (eq-eqb _ _ whole, e')
 
-    pub many-fills : manyFound n ≡ Good → filling.Fills n ≡ manyOf plan ps list qs room
-    unfolding manyOf
-    many-fills e = let e' : manyFound (questions qs) ≡ Good = rw en at e in rw (eq-eqb _ _ whole, e') (ap filling.Fills en)
+    pub many_fills : many_found n ≡ Good → filling.Fills n ≡ many_of plan ps list qs room
+    unfolding many_of
+    many_fills e = let e' : many_found (questions qs) ≡ Good = rw en at e in rw (eq-eqb _ _ whole, e') (ap filling.Fills en)
 
   -- what an answer says
-  pub many-called : (n : ℕ) → manyOf plan ps list qs room ≡ filling.Fills n
-      → (length qs % questionWidth ≡ 0) × (n ≡ questions qs)
-      × Called plan ps list (lowest Asked (namesOne (partitions ps) qs) (questions qs)) (leb (questions qs) room) (lowest Beyond (withinFrame (length plan) qs) (questions qs))
-  unfolding manyOf
-  many-called n e =
-      let w = pick_first (eqb (length qs % questionWidth) 0) _ _ (filling.Fills n) (no-filling n Limits) e in
-      let g = go (manyFound (questions qs)) refl w.1 in
+  pub many_called : (n : ℕ) → many_of plan ps list qs room ≡ filling.Fills n
+      → (length qs % question_width ≡ 0) × (n ≡ questions qs)
+      × Called plan ps list (lowest Asked (names_one (partitions ps) qs) (questions qs)) (leb (questions qs) room) (lowest Beyond (within_frame (length plan) qs) (questions qs))
+  unfolding many_of
+  many_called n e =
+      let w = pick_first (eqb (length qs % question_width) 0) _ _ (filling.Fills n) (no_filling n Limits) e in
+      let g = go (many_found (questions qs)) refl w.1 in
       (eqb-true _ _ w.0, g.0, g.1)
     where
-      go : (f : Finding) → manyFound (questions qs) ≡ f → unless filling.Refused f (filling.Fills (questions qs)) ≡ filling.Fills n
-          → (n ≡ questions qs) × Called plan ps list (lowest Asked (namesOne (partitions ps) qs) (questions qs)) (leb (questions qs) room) (lowest Beyond (withinFrame (length plan) qs) (questions qs))
-      go (Refused r) h q = absurd (no-filling n r q)
+      go : (f : Finding) → many_found (questions qs) ≡ f → unless filling.Refused f (filling.Fills (questions qs)) ≡ filling.Fills n
+          → (n ≡ questions qs) × Called plan ps list (lowest Asked (names_one (partitions ps) qs) (questions qs)) (leb (questions qs) room) (lowest Beyond (within_frame (length plan) qs) (questions qs))
+      go (Refused r) h q = absurd (no_filling n r q)
       go Good h q = let m : n ≡ questions qs = cc q in (m, called plan ps list _ _ _ h)
 
   -- a question of them
-  pub many-asks : Called plan ps list (lowest Asked (namesOne (partitions ps) qs) (questions qs)) (leb (questions qs) room) (lowest Beyond (withinFrame (length plan) qs) (questions qs))
+  pub many_asks : Called plan ps list (lowest Asked (names_one (partitions ps) qs) (questions qs)) (leb (questions qs) room) (lowest Beyond (within_frame (length plan) qs) (questions qs))
       → (k : ℕ) → k < questions qs → NamedIn ps qs k × WithinIn plan qs k
-  unfolding namesOne withinFrame
-  many-asks g k l = (
-    name-is (partitions ps) (asked qs k) (lowest-good Asked (namesOne (partitions ps) qs) (questions qs) g.names k l),
-    stretch-is (length plan) (start qs k) (span qs k) (lowest-good Beyond (withinFrame (length plan) qs) (questions qs) g.insides k l),
+  unfolding names_one within_frame
+  many_asks g k l = (
+    name_is (partitions ps) (asked qs k) (lowest-good Asked (names_one (partitions ps) qs) (questions qs) g.names k l),
+    stretch_is (length plan) (start qs k) (span qs k) (lowest-good Beyond (within_frame (length plan) qs) (questions qs) g.insides k l),
   )
 
-  pub many-looks : (n : ℕ) → manyOf plan ps list qs room ≡ filling.Fills n → (n ≡ questions qs) × (n ≤ room) × Answerable plan list qs n
-  many-looks n e =
-      let w = many-called n e in
+  pub many_looks : (n : ℕ) → many_of plan ps list qs room ≡ filling.Fills n → (n ≡ questions qs) × (n ≤ room) × Answerable plan list qs n
+  many_looks n e =
+      let w = many_called n e in
       let g = w.2 in (
         w.1,
         rw w.1 (leb-true _ _ g.room),
         rw w.1 (record {
           small = (sized plan ps g.plans).0;
           whole = le_refl (questions qs);
-          kept = λ k l. let a = (many-asks g k l).0 in kept_row plan ps list (asked qs k) g.list-is a.0 a.1;
-          starts = λ k l. (many-asks g k l).1.0;
-          spans = λ k l. (many-asks g k l).1.1;
+          kept = λ k l. let a = (many_asks g k l).0 in kept_row plan ps list (asked qs k) g.list_is a.0 a.1;
+          starts = λ k l. (many_asks g k l).1.0;
+          spans = λ k l. (many_asks g k l).1.1;
         }),
       )

@@ -17,12 +17,12 @@ use Rattle.rules.specs.Table.{partitions}
 use Rattle.rules.specs.declared.Refusal.TheVariants.{Asked, Beyond}
 use Rattle.rules.specs.declared.Finding.TheVariants.{Good}
 use Rattle.rules.proofs.Named.{named-list}
-use Rattle.rules.proofs.Sum.{le-or-lt, only-false}
+use Rattle.rules.proofs.Sum.{le-or-lt, only_false}
 use Rattle.rules.proofs.Tests.{and_none}
 use Rattle.rules.specs.declared.Rule.TheVariants.{Own}
 use Rattle.theory.specs.Plan.{service, held}
 use Rattle.theory.proofs.Plan.{held-zero}
-use Rattle.counts.specs.Counts.{rowWidth, countAt, needed, runningCounts, agreesAt, changeOf}
+use Rattle.counts.specs.Counts.{row_width, count_at, needed, running_counts, agrees_at, change_of}
 use Rattle.counts.specs.Inner.{Recounted}
 use Rattle.counts.specs.Theorems.{Planned, Counted}
 use Rattle.counts.proofs.Passes.{in_row, count_turn}
@@ -39,8 +39,8 @@ module _ (plan : List ℕ) (tick new : ℕ) (inside : tick < length plan) where
   more : (l : List ℕ) (p k : ℕ) → k < length l → held Own l p (suc k) 0 ≡ held Own l p k 0 + only (eqb (get_or l k 0) p) 1
   more l p k h = ap (λ (x : ℕ). held Own l p x 0) (sym (add-one k)) ∙ sym (count_turn l p k (held Own l p k 0) (only (eqb (get_or l k 0) p) 1) h refl refl)
 
-  more-new : (p k : ℕ) → k < length plan → held Own plan' p (suc k) 0 ≡ held Own plan' p k 0 + only (eqb (get_or plan' k 0) p) 1
-  more-new p k h = more plan' p k (omega (arith, length-set plan tick new))
+  more_new : (p k : ℕ) → k < length plan → held Own plan' p (suc k) 0 ≡ held Own plan' p k 0 + only (eqb (get_or plan' k 0) p) 1
+  more_new p k h = more plan' p k (omega (arith, length-set plan tick new))
 
   -- "only the later counts of the old and the new owner", each by one
   pub moved : (p k : ℕ) → k ≤ length plan → held Own plan' p k 0 + only (ltb tick k && eqb old p) 1 ≡ held Own plan p k 0 + only (ltb tick k && eqb new p) 1
@@ -53,48 +53,48 @@ module _ (plan : List ℕ) (tick new : ℕ) (inside : tick < length plan) where
           let ih' : held Own plan' p k 0 + only (false && eqb old p) 1 ≡ held Own plan p k 0 + only (false && eqb new p) 1 = rw (le-ltb tick k (omega arith)) at ih in
           let a : get_or plan' k 0 ≡ new = rw e (get_or-set_same plan tick new 0 inside) in
           let b : get_or plan k 0 ≡ old = rw e in
-          rw (lt-ltb tick (suc k) (omega arith), more-new p k (omega arith), more plan p k (omega arith), a, b) (omega (arith, ih'))
+          rw (lt-ltb tick (suc k) (omega arith), more_new p k (omega arith), more plan p k (omega arith), a, b) (omega (arith, ih'))
       go (inl m) (no e) ih =
           let ih' : held Own plan' p k 0 + only (true && eqb old p) 1 ≡ held Own plan p k 0 + only (true && eqb new p) 1 = rw (lt-ltb tick k (omega arith)) at ih in
-          rw (lt-ltb tick (suc k) (omega arith), more-new p k (omega arith), more plan p k (omega arith), get_or-set_other plan tick k new 0 e) (omega (arith, ih'))
+          rw (lt-ltb tick (suc k) (omega arith), more_new p k (omega arith), more plan p k (omega arith), get_or-set_other plan tick k new 0 e) (omega (arith, ih'))
       go (inr m) (no e) ih =
           let ih' : held Own plan' p k 0 + only (false && eqb old p) 1 ≡ held Own plan p k 0 + only (false && eqb new p) 1 = rw (le-ltb tick k (omega arith)) at ih in
-          rw (le-ltb tick (suc k) (omega arith), more-new p k (omega arith), more plan p k (omega arith), get_or-set_other plan tick k new 0 e) (omega (arith, ih'))
+          rw (le-ltb tick (suc k) (omega arith), more_new p k (omega arith), more plan p k (omega arith), get_or-set_other plan tick k new 0 e) (omega (arith, ih'))
 
   -- a row of neither owner stays
   same_row : (p k : ℕ) → k ≤ length plan → ¬ (old ≡ p) → ¬ (new ≡ p) → held Own plan' p k 0 ≡ held Own plan p k 0
   same_row p k l ho hn =
-      omega (arith, moved p k l, only-false _ 1 (and_none (ltb tick k) (eqb old p) (ne_eqb old p ho)), only-false _ 1 (and_none (ltb tick k) (eqb new p) (ne_eqb new p hn)))
+      omega (arith, moved p k l, only_false _ 1 (and_none (ltb tick k) (eqb old p) (ne_eqb old p ho)), only_false _ 1 (and_none (ltb tick k) (eqb new p) (ne_eqb new p hn)))
 
-  below : (i : ℕ) → i % rowWidth plan ≤ length plan
-  below i = let l : i % rowWidth plan < rowWidth plan = mod-lt i (omega arith) in omega arith
+  below : (i : ℕ) → i % row_width plan ≤ length plan
+  below i = let l : i % row_width plan < row_width plan = mod-lt i (omega arith) in omega arith
 
-  same_count : (i : ℕ) → ¬ (i / rowWidth plan + 1 ≡ old) → ¬ (i / rowWidth plan + 1 ≡ new) → countAt plan' i ≡ countAt plan i
-  unfolding countAt
-  same_count i ho hn = rw (length-set plan tick new) (same_row (i / rowWidth plan + 1) (i % rowWidth plan) (below i) (λ e. ho (sym e)) (λ e. hn (sym e)))
+  same_count : (i : ℕ) → ¬ (i / row_width plan + 1 ≡ old) → ¬ (i / row_width plan + 1 ≡ new) → count_at plan' i ≡ count_at plan i
+  unfolding count_at
+  same_count i ho hn = rw (length-set plan tick new) (same_row (i / row_width plan + 1) (i % row_width plan) (below i) (λ e. ho (sym e)) (λ e. hn (sym e)))
 
   -- both owners' rows counted again: the changed plan's list
   pub recounts : (ps list between after : List ℕ) → Counted plan ps list → old ≤ partitions ps → new ≤ partitions ps
-      → Recounted plan' old list between → Recounted plan' new between after → after ≡ runningCounts plan' ps ++ drop (needed plan ps) list
-  unfolding agreesAt
+      → Recounted plan' old list between → Recounted plan' new between after → after ≡ running_counts plan' ps ++ drop (needed plan ps) list
+  unfolding agrees_at
   recounts ps list between after g lo ln v w =
       let e : needed plan' ps ≡ needed plan ps = rw (length-set plan tick new) in
-      rw e (named-list (countAt plan') (needed plan ps) list after g.long (record {
+      rw e (named-list (count_at plan') (needed plan ps) list after g.long (record {
         as_long = w.as_long ∙ v.as_long;
-        done = λ i h. done i h (ℕ_discrete (i / rowWidth plan' + 1) new) (ℕ_discrete (i / rowWidth plan' + 1) old);
+        done = λ i h. done i h (ℕ_discrete (i / row_width plan' + 1) new) (ℕ_discrete (i / row_width plan' + 1) old);
         rest = λ i h. w.rest i (past i h new ln) ∙ v.rest i (past i h old lo);
       }))
     where
-      wide : rowWidth plan' ≡ rowWidth plan
+      wide : row_width plan' ≡ row_width plan
       wide = rw (length-set plan tick new)
 
-      past : (i : ℕ) → needed plan ps ≤ i → (p : ℕ) → p ≤ partitions ps → ¬ (i / rowWidth plan' + 1 ≡ p)
+      past : (i : ℕ) → needed plan ps ≤ i → (p : ℕ) → p ≤ partitions ps → ¬ (i / row_width plan' + 1 ≡ p)
       past i h p l e =
-          let a : i < p * rowWidth plan = (in_row (rowWidth plan) i p (omega arith) (rw wide at e)).1 in
-          let b : p * rowWidth plan ≤ needed plan ps = mul-le-mul_right (rowWidth plan) l in
+          let a : i < p * row_width plan = (in_row (row_width plan) i p (omega arith) (rw wide at e)).1 in
+          let b : p * row_width plan ≤ needed plan ps = mul-le-mul_right (row_width plan) l in
           absurd (omega arith)
 
-      done : (i : ℕ) → i < needed plan ps → Dec (i / rowWidth plan' + 1 ≡ new) → Dec (i / rowWidth plan' + 1 ≡ old) → get_or after i 0 ≡ countAt plan' i
+      done : (i : ℕ) → i < needed plan ps → Dec (i / row_width plan' + 1 ≡ new) → Dec (i / row_width plan' + 1 ≡ old) → get_or after i 0 ≡ count_at plan' i
       done i h (yes e) d = w.row i e
       done i h (no n) (yes e) = w.rest i n ∙ v.row i e
       done i h (no n) (no o) = w.rest i n ∙ v.rest i o ∙ eqb-true _ _ (g.counts i h) ∙ sym (same_count i (rw wide at o) (rw wide at n))
@@ -103,31 +103,31 @@ module _ (plan : List ℕ) (tick new : ℕ) (inside : tick < length plan) where
 pub owner-row : (plan before after : List ℕ) (q p : ℕ) → q ≡ p → Recounted plan q before after → Recounted plan p before after
 owner-row plan before after q p e r = rw (← e) r
 
-pub owner-fits : (w q p n : ℕ) → q ≡ p → p * w ≤ n → q * w ≤ n
-owner-fits w q p n e l = rw e l
+pub owner_fits : (w q p n : ℕ) → q ≡ p → p * w ≤ n → q * w ≤ n
+owner_fits w q p n e l = rw e l
 
 -- ---- what an accepted call says
 
 pub record Changeable (plan ps list : List ℕ) (tick new : ℕ) : Type 0 where
   pub plans : Planned plan ps
-  pub list-is : Counted plan ps list
-  pub new-owner : new ≤ partitions ps
-  pub old-owner : get_or plan tick 0 ≤ partitions ps
+  pub list_is : Counted plan ps list
+  pub new_owner : new ≤ partitions ps
+  pub old_owner : get_or plan tick 0 ≤ partitions ps
   pub inside : tick < length plan
 
-pub changeable : (plan ps list : List ℕ) (tick new : ℕ) → changeOf plan ps list tick new ≡ Good → Changeable plan ps list tick new
-unfolding changeOf
+pub changeable : (plan ps list : List ℕ) (tick new : ℕ) → change_of plan ps list tick new ≡ Good → Changeable plan ps list tick new
+unfolding change_of
 changeable plan ps list tick new e =
     let g = called plan ps list _ true _ e in
     let t : tick < length plan = ltb-true _ _ (tested _ (Beyond 0) g.insides) in
     record {
       plans = g.plans;
-      list-is = g.list-is;
-      new-owner = leb-true _ _ (tested _ (Asked 0) g.names);
-      old-owner = leb-true _ _ (g.plans.ticks tick t);
+      list_is = g.list_is;
+      new_owner = leb-true _ _ (tested _ (Asked 0) g.names);
+      old_owner = leb-true _ _ (g.plans.ticks tick t);
       inside = t;
     }
 
 -- an owner's numbers stand within the list
-pub row-long : (plan ps list : List ℕ) (p : ℕ) → Counted plan ps list → p ≤ partitions ps → p * rowWidth plan ≤ length list
-row-long plan ps list p g l = let a : p * rowWidth plan ≤ needed plan ps = mul-le-mul_right (rowWidth plan) l in omega (arith, g.long)
+pub row-long : (plan ps list : List ℕ) (p : ℕ) → Counted plan ps list → p ≤ partitions ps → p * row_width plan ≤ length list
+row-long plan ps list p g l = let a : p * row_width plan ≤ needed plan ps = mul-le-mul_right (row_width plan) l in omega (arith, g.long)

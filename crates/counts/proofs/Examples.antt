@@ -4,15 +4,15 @@ use mathlib.Core.Path.{◌≡◌, refl}
 use mathlib.Core.List.{List, [], ◌∷◌, ◌++◌}
 use lib.ListN.{set}
 use Rattle.rules.specs.Walk.{only, first, fails, sum, count, listed}
-use Rattle.rules.specs.Table.{goodShare}
+use Rattle.rules.specs.Table.{good_share}
 use Rattle.rules.specs.declared.Refusal.TheVariants.{Output, Asked, Counts, Beyond}
 use Rattle.rules.specs.declared.Finding.TheVariants as finding
 use Rattle.rules.specs.declared.Filling.TheVariants as filling
-use Rattle.rules.specs.Terms.{goodEdition, goodGranule}
-use Rattle.tables.specs.Tables.{countedIn, withinLimits, inEdition, tables_of}
+use Rattle.rules.specs.Terms.{good_edition, good_granule}
+use Rattle.tables.specs.Tables.{counted_in, within_limits, in_edition, tables_of}
 use Rattle.theory.specs.Plan.{owner, service, owned}
 use Rattle.rules.specs.declared.Holding.TheVariants.{Holds, Refused}
-use Rattle.counts.specs.Counts.{countAt, runningCounts, agreesAt, planJudged, listJudged, countsJudged, goodName, goodStretch, fillOf, held_of, namesOne, withinFrame, manyOf, changeOf}
+use Rattle.counts.specs.Counts.{count_at, running_counts, agrees_at, plan_judged, list_judged, counts_judged, good_name, good_stretch, fill_of, held_of, names_one, within_frame, many_of, change_of}
 
 -- two partitions, in a frame of four ticks
 abbrev parts : List ℕ
@@ -28,50 +28,50 @@ counts = 0 ∷ 1 ∷ 1 ∷ 1 ∷ 2 ∷ 0 ∷ 0 ∷ 1 ∷ 1 ∷ 1 ∷ []
 abbrev spoilt : List ℕ
 spoilt = 0 ∷ 1 ∷ 1 ∷ 1 ∷ 2 ∷ 0 ∷ 0 ∷ 1 ∷ 1 ∷ 2 ∷ []
 
-is-list : runningCounts plan parts ≡ counts
-unfolding only sum count listed service owner owned countAt
-is-list = refl
+is_list : running_counts plan parts ≡ counts
+unfolding only sum count listed service owner owned count_at
+is_list = refl
 
-fits : fillOf plan parts 10 ≡ filling.Fills 10
-unfolding first fails goodShare countedIn withinLimits goodGranule goodEdition inEdition tables_of planJudged fillOf
+fits : fill_of plan parts 10 ≡ filling.Fills 10
+unfolding first fails good_share counted_in within_limits good_granule good_edition in_edition tables_of plan_judged fill_of
 fits = refl
 
-short : fillOf plan parts 9 ≡ filling.Refused Output
-unfolding first fails goodShare countedIn withinLimits goodGranule goodEdition inEdition tables_of planJudged fillOf
+short : fill_of plan parts 9 ≡ filling.Refused Output
+unfolding first fails good_share counted_in within_limits good_granule good_edition in_edition tables_of plan_judged fill_of
 short = refl
 
 -- ticks 3, 0 and 1
 across : held_of plan parts counts 1 3 3 ≡ Holds 2
-unfolding only first fails sum count service owner owned goodShare countedIn withinLimits goodGranule goodEdition inEdition tables_of countAt agreesAt planJudged listJudged countsJudged goodName goodStretch held_of
+unfolding only first fails sum count service owner owned good_share counted_in within_limits good_granule good_edition in_edition tables_of count_at agrees_at plan_judged list_judged counts_judged good_name good_stretch held_of
 across = refl
 
 whole : held_of plan parts (counts ++ (7 ∷ [])) 2 3 4 ≡ Holds 1
-unfolding only first fails sum count service owner owned goodShare countedIn withinLimits goodGranule goodEdition inEdition tables_of countAt agreesAt planJudged listJudged countsJudged goodName goodStretch held_of
+unfolding only first fails sum count service owner owned good_share counted_in within_limits good_granule good_edition in_edition tables_of count_at agrees_at plan_judged list_judged counts_judged good_name good_stretch held_of
 whole = refl
 
 -- 20 before 26, and 8 with place 0 before both
 disagrees : held_of plan parts spoilt 1 4 5 ≡ Refused Counts
-unfolding only first fails sum count service owner owned goodShare countedIn withinLimits goodGranule goodEdition inEdition tables_of countAt agreesAt planJudged listJudged countsJudged goodName goodStretch held_of
+unfolding only first fails sum count service owner owned good_share counted_in within_limits good_granule good_edition in_edition tables_of count_at agrees_at plan_judged list_judged counts_judged good_name good_stretch held_of
 disagrees = refl
 
 outside : held_of plan parts counts 1 4 0 ≡ Refused (Beyond 0)
-unfolding only first fails sum count service owner owned goodShare countedIn withinLimits goodGranule goodEdition inEdition tables_of countAt agreesAt planJudged listJudged countsJudged goodName goodStretch held_of
+unfolding only first fails sum count service owner owned good_share counted_in within_limits good_granule good_edition in_edition tables_of count_at agrees_at plan_judged list_judged counts_judged good_name good_stretch held_of
 outside = refl
 
 unnamed : held_of plan parts spoilt 0 4 5 ≡ Refused (Asked 0)
-unfolding only first fails sum count service owner owned goodShare countedIn withinLimits goodGranule goodEdition inEdition tables_of countAt agreesAt planJudged listJudged countsJudged goodName goodStretch held_of
+unfolding only first fails sum count service owner owned good_share counted_in within_limits good_granule good_edition in_edition tables_of count_at agrees_at plan_judged list_judged counts_judged good_name good_stretch held_of
 unnamed = refl
 
 -- of many the lowest question, by its place from 1
-lowest-one : manyOf plan parts counts (1 ∷ 0 ∷ 4 ∷ 2 ∷ 0 ∷ 5 ∷ 1 ∷ 4 ∷ 0 ∷ []) 3 ≡ filling.Refused (Beyond 2)
-unfolding only first fails sum count service owner owned goodShare countedIn withinLimits goodGranule goodEdition inEdition tables_of countAt agreesAt planJudged listJudged countsJudged goodName goodStretch namesOne withinFrame manyOf
+lowest-one : many_of plan parts counts (1 ∷ 0 ∷ 4 ∷ 2 ∷ 0 ∷ 5 ∷ 1 ∷ 4 ∷ 0 ∷ []) 3 ≡ filling.Refused (Beyond 2)
+unfolding only first fails sum count service owner owned good_share counted_in within_limits good_granule good_edition in_edition tables_of count_at agrees_at plan_judged list_judged counts_judged good_name good_stretch names_one within_frame many_of
 lowest-one = refl
 
 -- a new owner 0 is good; the changed plan's list
-idle : changeOf plan parts counts 3 0 ≡ finding.Good
-unfolding only first fails sum count service owner owned goodShare countedIn withinLimits goodGranule goodEdition inEdition tables_of countAt agreesAt planJudged listJudged countsJudged changeOf
+idle : change_of plan parts counts 3 0 ≡ finding.Good
+unfolding only first fails sum count service owner owned good_share counted_in within_limits good_granule good_edition in_edition tables_of count_at agrees_at plan_judged list_judged counts_judged change_of
 idle = refl
 
-changed : runningCounts (set plan 2 2) parts ≡ 0 ∷ 1 ∷ 1 ∷ 1 ∷ 2 ∷ 0 ∷ 0 ∷ 1 ∷ 2 ∷ 2 ∷ []
-unfolding only sum count listed service owner owned countAt
+changed : running_counts (set plan 2 2) parts ≡ 0 ∷ 1 ∷ 1 ∷ 1 ∷ 2 ∷ 0 ∷ 0 ∷ 1 ∷ 2 ∷ 2 ∷ []
+unfolding only sum count listed service owner owned count_at
 changed = refl

@@ -7,8 +7,8 @@ use native.Mathlib.Omega.{arith}
 use lib.ListN.{length, get_or}
 use Rattle.rules.specs.declared.Rule.TheVariants.{Own}
 use Rattle.theory.specs.Plan.{service, held}
-use Rattle.theory.proofs.Plan.{held-around}
-use Rattle.theory.proofs.Need.{owned-split}
+use Rattle.theory.proofs.Plan.{held_around}
+use Rattle.theory.proofs.Need.{owned_split}
 use Rattle.counts.specs.Counts.{row_of}
 use Rattle.counts.specs.Inner.{Kept}
 
@@ -19,7 +19,7 @@ look_at plan list p k row v kept l er ev = ev ∙ rw er (kept.counts k l)
 module _ (plan : List ℕ) (p s n : ℕ) where
   -- before the stretch and in it
   pub within : held Own plan p (s + n) 0 ≡ held Own plan p s 0 + held Own plan p n s
-  within = let z : 0 + s ≡ s = omega arith in owned-split (service Own plan) p 0 s n ∙ rw z
+  within = let z : 0 + s ≡ s = omega arith in owned_split (service Own plan) p 0 s n ∙ rw z
 
   -- across the frame's end: the rest of the frame, and the ticks from the next one's start
   pub across : s ≤ length plan → length plan ≤ s + n → held Own plan p n s + held Own plan p s 0 ≡ held Own plan p (length plan) 0 + held Own plan p (s + n - length plan) 0
@@ -28,8 +28,8 @@ module _ (plan : List ℕ) (p s n : ℕ) where
       behind : (r : ℕ) → s + n ≡ length plan + r → held Own plan p (s + n) 0 ≡ held Own plan p (length plan) 0 + held Own plan p r 0
       behind r e =
           let z : 0 + length plan ≡ length plan = omega arith in
-          let w : held Own plan p r (length plan) ≡ held Own plan p r 0 = sym (held-around Own plan p r (length plan)) ∙ ap (λ (x : ℕ). held Own plan p r x) (mod_self (length plan)) in
-          rw e (owned-split (service Own plan) p 0 (length plan) r ∙ rw (z, w))
+          let w : held Own plan p r (length plan) ≡ held Own plan p r 0 = sym (held_around Own plan p r (length plan)) ∙ ap (λ (x : ℕ). held Own plan p r x) (mod_self (length plan)) in
+          rw e (owned_split (service Own plan) p 0 (length plan) r ∙ rw (z, w))
 
 -- counts grow towards the frame's end
 pub upto : (plan : List ℕ) (p s : ℕ) → s ≤ length plan → held Own plan p s 0 ≤ held Own plan p (length plan) 0

@@ -9,99 +9,99 @@ use lib.Dec.{leb, eqb}
 use lib.ListN.{length, get_or, drop, get_or-append}
 use borrow.Author.Tests.{leb-true, leb-false, eqb-true, eqb-false}
 use Rattle.rules.specs.Walk.{pick, listed}
-use Rattle.rules.specs.Limits.{questionWidth}
+use Rattle.rules.specs.Limits.{question_width}
 use Rattle.rules.specs.Table.{partitions}
-use Rattle.rules.specs.Filling.{leftBy}
+use Rattle.rules.specs.Filling.{left_by}
 use Rattle.rules.specs.declared.Refusal.TheVariants.{Limits, Asked, Beyond}
 use Rattle.rules.specs.declared.Finding.{Finding}
 use Rattle.rules.specs.declared.Finding.TheVariants.{Good}
 use Rattle.rules.specs.declared.Filling.{Filling}
 use Rattle.rules.specs.declared.Filling.TheVariants as filling
-use Rattle.rules.proofs.Named.{listed-length, listed_at, new-tail}
+use Rattle.rules.proofs.Named.{listed-length, listed_at, new_tail}
 use Rattle.tables.specs.Tables.{lowest, unless}
-use Rattle.tables.proofs.Chain.{lowest-good, lowest-at}
+use Rattle.tables.proofs.Chain.{lowest-good, lowest_at}
 use Rattle.rules.specs.declared.Rule.TheVariants.{Own}
 use Rattle.theory.specs.Plan.{held}
-use Rattle.counts.specs.Counts.{countsJudged, asked, start, span, questions, namesOne, withinFrame, answerAt, manyOf}
-use Rattle.counts.specs.Theorems.{NamedIn, WithinIn, All, ManyBy, many-questions, many-plan, many-name, many-length, many-counts, many-stretch, many-done, ManyAnswers, ManyEach, ManyKeeps, ManyOne}
-use Rattle.counts.proofs.Orders.{name-is, is_name, stretch-is, is-stretch, Judging, at-plan, at_name, at_length, at-counts, at-stretch, at_none, judging}
-use Rattle.counts.proofs.Asking.{many-called, many-asks, many-looks}
+use Rattle.counts.specs.Counts.{counts_judged, asked, start, span, questions, names_one, within_frame, answer_at, many_of}
+use Rattle.counts.specs.Theorems.{NamedIn, WithinIn, All, ManyBy, many-questions, many_plan, many-name, many-length, many-counts, many-stretch, many-done, ManyAnswers, ManyEach, ManyKeeps, ManyOne}
+use Rattle.counts.proofs.Orders.{name_is, is_name, stretch_is, is_stretch, Judging, at_plan, at_name, at_length, at-counts, at_stretch, at_none, judging}
+use Rattle.counts.proofs.Asking.{many_called, many_asks, many_looks}
 use Rattle.counts.proofs.Answers.{is_held}
 
 module _ (plan ps list qs : List ℕ) (room : ℕ) where
   abbrev names : Finding
-  names = lowest Asked (namesOne (partitions ps) qs) (questions qs)
+  names = lowest Asked (names_one (partitions ps) qs) (questions qs)
 
   abbrev insides : Finding
-  insides = lowest Beyond (withinFrame (length plan) qs) (questions qs)
+  insides = lowest Beyond (within_frame (length plan) qs) (questions qs)
 
-  named : (k : ℕ) → namesOne (partitions ps) qs k ≡ true → NamedIn ps qs k
-  unfolding namesOne
-  named k e = name-is (partitions ps) (asked qs k) e
+  named : (k : ℕ) → names_one (partitions ps) qs k ≡ true → NamedIn ps qs k
+  unfolding names_one
+  named k e = name_is (partitions ps) (asked qs k) e
 
-  unnamed : (k : ℕ) → namesOne (partitions ps) qs k ≡ false → ¬ NamedIn ps qs k
-  unfolding namesOne
+  unnamed : (k : ℕ) → names_one (partitions ps) qs k ≡ false → ¬ NamedIn ps qs k
+  unfolding names_one
   unnamed k e h = true≢false (sym (is_name (partitions ps) (asked qs k) h.0 h.1) ∙ e)
 
   all_named : names ≡ Good → All (NamedIn ps qs) (questions qs)
-  all_named e k l = named k (lowest-good Asked (namesOne (partitions ps) qs) (questions qs) e k l)
+  all_named e k l = named k (lowest-good Asked (names_one (partitions ps) qs) (questions qs) e k l)
 
-  within : (k : ℕ) → withinFrame (length plan) qs k ≡ true → WithinIn plan qs k
-  unfolding withinFrame
-  within k e = stretch-is (length plan) (start qs k) (span qs k) e
+  within : (k : ℕ) → within_frame (length plan) qs k ≡ true → WithinIn plan qs k
+  unfolding within_frame
+  within k e = stretch_is (length plan) (start qs k) (span qs k) e
 
-  outside : (k : ℕ) → withinFrame (length plan) qs k ≡ false → ¬ WithinIn plan qs k
-  unfolding withinFrame
-  outside k e h = true≢false (sym (is-stretch (length plan) (start qs k) (span qs k) h.0 h.1) ∙ e)
+  outside : (k : ℕ) → within_frame (length plan) qs k ≡ false → ¬ WithinIn plan qs k
+  unfolding within_frame
+  outside k e h = true≢false (sym (is_stretch (length plan) (start qs k) (span qs k) h.0 h.1) ∙ e)
 
-  many_by : ManyBy plan ps list qs room (manyOf plan ps list qs room)
-  unfolding manyOf
-  many_by = whole (eqb (length qs % questionWidth) 0) refl
+  many_by : ManyBy plan ps list qs room (many_of plan ps list qs room)
+  unfolding many_of
+  many_by = whole (eqb (length qs % question_width) 0) refl
     where
-      go : length qs % questionWidth ≡ 0 → (f : Finding) → Judging plan ps list names (leb (questions qs) room) insides f
+      go : length qs % question_width ≡ 0 → (f : Finding) → Judging plan ps list names (leb (questions qs) room) insides f
           → ManyBy plan ps list qs room (unless filling.Refused f (filling.Fills (questions qs)))
-      go w f (at-plan r e) = many-plan w r e
+      go w f (at_plan r e) = many_plan w r e
       go w f (at_name g r e) =
-          let a = lowest-at Asked (namesOne (partitions ps) qs) (questions qs) r e in
+          let a = lowest_at Asked (names_one (partitions ps) qs) (questions qs) r e in
           rw a.1 (many-name w g a.0 a.2 (unnamed a.0 a.3) (λ j l. named j (a.4 j l)))
       go w f (at_length g e (inl l)) = many-length w g (all_named e) (inl l)
       go w f (at_length g e (inr h)) = many-length w g (all_named e) (inr (leb-false _ _ h))
       go w f (at-counts g e l m c) = many-counts w g (all_named e) l (leb-true _ _ m) c
-      go w f (at-stretch g e c m r h) =
-          let a = lowest-at Beyond (withinFrame (length plan) qs) (questions qs) r h in
+      go w f (at_stretch g e c m r h) =
+          let a = lowest_at Beyond (within_frame (length plan) qs) (questions qs) r h in
           rw a.1 (many-stretch w g (all_named e) c (leb-true _ _ m) a.0 a.2 (outside a.0 a.3) (λ j l. within j (a.4 j l)))
-      go w f (at_none g e c m h) = many-done w g (all_named e) c (leb-true _ _ m) (λ k l. within k (lowest-good Beyond (withinFrame (length plan) qs) (questions qs) h k l))
+      go w f (at_none g e c m h) = many-done w g (all_named e) c (leb-true _ _ m) (λ k l. within k (lowest-good Beyond (within_frame (length plan) qs) (questions qs) h k l))
 
-      whole : (b : Bool) → eqb (length qs % questionWidth) 0 ≡ b
-          → ManyBy plan ps list qs room (pick b (unless filling.Refused (countsJudged plan ps list names (leb (questions qs) room) insides) (filling.Fills (questions qs))) (filling.Refused Limits))
+      whole : (b : Bool) → eqb (length qs % question_width) 0 ≡ b
+          → ManyBy plan ps list qs room (pick b (unless filling.Refused (counts_judged plan ps list names (leb (questions qs) room) insides) (filling.Fills (questions qs))) (filling.Refused Limits))
       whole true e = go (eqb-true _ _ e) _ (judging plan ps list names (leb (questions qs) room) insides)
       whole false e = many-questions (eqb-false _ _ e)
 
-pub many-answers : ManyAnswers
-many-answers plan ps list qs room = many_by plan ps list qs room
+pub many_answers : ManyAnswers
+many_answers plan ps list qs room = many_by plan ps list qs room
 
-pub many-each : ManyEach
-unfolding answerAt
-many-each plan ps list qs out o n h k l =
-    let w = many-called plan ps list qs (length out) n (sym h.0) in
+pub many_each : ManyEach
+unfolding answer_at
+many_each plan ps list qs out o n h k l =
+    let w = many_called plan ps list qs (length out) n (sym h.0) in
     let m : k < questions qs = rw w.1 at l in
-    let a = many-asks plan ps list qs (length out) w.2 k m in
-    let answers = listed (answerAt plan qs) (questions qs) in
+    let a = many_asks plan ps list qs (length out) w.2 k m in
+    let answers = listed (answer_at plan qs) (questions qs) in
     let e : get_or o k 0 ≡ held Own plan (asked qs k) (span qs k) (start qs k) =
-    ap (λ (x : List ℕ). get_or x k 0) h.1 ∙ get_or-append answers (drop n out) 0 k (omega (arith, listed-length (answerAt plan qs) (questions qs))) ∙ listed_at (answerAt plan qs) (questions qs) k m in
-    rw e (is_held plan ps list (asked qs k) (start qs k) (span qs k) w.2.plans w.2.list-is a.0 a.1)
+    ap (λ (x : List ℕ). get_or x k 0) h.1 ∙ get_or-append answers (drop n out) 0 k (omega (arith, listed-length (answer_at plan qs) (questions qs))) ∙ listed_at (answer_at plan qs) (questions qs) k m in
+    rw e (is_held plan ps list (asked qs k) (start qs k) (span qs k) w.2.plans w.2.list_is a.0 a.1)
 
-pub many-keeps : ManyKeeps
-many-keeps plan ps list qs out o r h = go r h.0 h.1
+pub many_keeps : ManyKeeps
+many_keeps plan ps list qs out o r h = go r h.0 h.1
   where
-    go : (r : Filling) → r ≡ manyOf plan ps list qs (length out) → o ≡ leftBy r (listed (answerAt plan qs) (questions qs)) out
+    go : (r : Filling) → r ≡ many_of plan ps list qs (length out) → o ≡ left_by r (listed (answer_at plan qs) (questions qs)) out
         → (length o ≡ length out) × ((i : ℕ) → questions qs ≤ i → get_or o i 0 ≡ get_or out i 0)
     go (filling.Refused x) e f = (ap length f, λ i l. ap (λ (q : List ℕ). get_or q i 0) f)
     go (filling.Fills n) e f =
-        let a = many-looks plan ps list qs (length out) n (sym e) in
-        new-tail (listed (answerAt plan qs) (questions qs)) out o (questions qs) (rw a.0 at f) (listed-length (answerAt plan qs) (questions qs)) (rw (← a.0) a.1)
+        let a = many_looks plan ps list qs (length out) n (sym e) in
+        new_tail (listed (answer_at plan qs) (questions qs)) out o (questions qs) (rw a.0 at f) (listed-length (answer_at plan qs) (questions qs)) (rw (← a.0) a.1)
 
-pub many-one : ManyOne
-many-one plan ps list qs out o o' r r' a b =
+pub many_one : ManyOne
+many_one plan ps list qs out o o' r r' a b =
     let e : r ≡ r' = a.0 ∙ sym b.0 in
-    (e, a.1 ∙ ap (λ (x : Filling). leftBy x (listed (answerAt plan qs) (questions qs)) out) e ∙ sym b.1)
+    (e, a.1 ∙ ap (λ (x : Filling). left_by x (listed (answer_at plan qs) (questions qs)) out) e ∙ sym b.1)

@@ -1,8 +1,8 @@
 -- What the answers mean. Assumes nothing.
 use Rattle.std.specs.Prelude.{ℕ, ◌+◌, ◌*◌, ◌%◌, ◌≤◌, ◌<◌, ◌≡◌, ◌↔◌, ◌⊎◌, List, [], ◌++◌, length, get_or, set, drop}
 use Rattle.rules.specs.Walk.{Every}
-use Rattle.rules.specs.Limits.{questionWidth}
-use Rattle.rules.specs.Table.{partitions, goodTick}
+use Rattle.rules.specs.Limits.{question_width}
+use Rattle.rules.specs.Table.{partitions, good_tick}
 use Rattle.rules.specs.Refusals.{told}
 use Rattle.rules.specs.declared.Refusal.{Refusal}
 use Rattle.rules.specs.declared.Refusal.TheVariants.{Limits, Output, Asked, Counts, Beyond}
@@ -12,12 +12,12 @@ use Rattle.rules.specs.declared.Filling.{Filling}
 use Rattle.rules.specs.declared.Filling.TheVariants as filling
 use Rattle.rules.specs.Terms.{usual, wanted}
 use Rattle.tables.specs.Tables.{unless, GoodTables}
-use Rattle.plan_check.specs.Check.{scanOf, checkOf}
+use Rattle.plan_check.specs.Check.{scan_of, check_of}
 use Rattle.rules.specs.declared.Rule.TheVariants.{Own}
 use Rattle.theory.specs.Plan.{held}
 use Rattle.rules.specs.declared.Holding.{Holding}
 use Rattle.rules.specs.declared.Holding.TheVariants as holding
-use Rattle.counts.specs.Counts.{rowWidth, row_of, needed, runningCounts, agreesAt, planJudged, fillOf, FillsCounts, held_of, HoldsOne, asked, start, span, questions, manyOf, HoldsMany, changeOf, Changes}
+use Rattle.counts.specs.Counts.{row_width, row_of, needed, running_counts, agrees_at, plan_judged, fill_of, FillsCounts, held_of, HoldsOne, asked, start, span, questions, many_of, HoldsMany, change_of, Changes}
 
 -- ---- the list
 
@@ -38,46 +38,46 @@ pub record HasNumber (plan ps : List ℕ) (p k : ℕ) : Type 0 where
 abbrev pub ListIs : Type 0
 ListIs =
     (plan ps : List ℕ)
-    → (length (runningCounts plan ps) ≡ partitions ps * rowWidth plan)
-    × ((p k : ℕ) → HasNumber plan ps p k → get_or (runningCounts plan ps) (number_of plan p k) 0 ≡ held Own plan p k 0)
+    → (length (running_counts plan ps) ≡ partitions ps * row_width plan)
+    × ((p k : ℕ) → HasNumber plan ps p k → get_or (running_counts plan ps) (number_of plan p k) 0 ≡ held Own plan p k 0)
 
 -- a plan by the checker's 3, 6 and 8; it need not serve
 pub record Planned (plan ps : List ℕ) : Type 0 where
   pub tables : GoodTables usual (length plan) ps []
-  pub ticks : Every (goodTick (partitions ps) plan) (length plan)
+  pub ticks : Every (good_tick (partitions ps) plan) (length plan)
 
 -- a list that is the plan's: long enough, and each number the count
 pub record Counted (plan ps list : List ℕ) : Type 0 where
   pub long : needed plan ps ≤ length list
-  pub counts : Every (agreesAt plan list) (needed plan ps)
+  pub counts : Every (agrees_at plan list) (needed plan ps)
 
 -- that is: the plan's list, and any tail
 abbrev pub CountedIs : Type 0
-CountedIs = (plan ps list : List ℕ) → Counted plan ps list ↔ (list ≡ runningCounts plan ps ++ drop (needed plan ps) list)
+CountedIs = (plan ps list : List ℕ) → Counted plan ps list ↔ (list ≡ running_counts plan ps ++ drop (needed plan ps) list)
 
 -- ---- the plan
 
 -- "the checker's 3, 6 and 8": of these nothing tells exactly where the plan is good, and the checker tells them first
 abbrev pub PlanExactly : Type 0
-PlanExactly = (plan ps : List ℕ) → (planJudged plan ps ≡ Good) ↔ Planned plan ps
+PlanExactly = (plan ps : List ℕ) → (plan_judged plan ps ≡ Good) ↔ Planned plan ps
 
 abbrev pub PlanAsChecked : Type 0
-PlanAsChecked = (plan ps : List ℕ) → checkOf usual plan ps ≡ unless Refused (planJudged plan ps) (scanOf Own (wanted usual ps) plan ps)
+PlanAsChecked = (plan ps : List ℕ) → check_of usual plan ps ≡ unless Refused (plan_judged plan ps) (scan_of Own (wanted usual ps) plan ps)
 
 -- a bad record or tick is told with its place from 1, so that 8 with place 0 is never a tick's
 abbrev pub PlanPlaces : Type 0
-PlanPlaces = (plan ps : List ℕ) (r : Refusal) → planJudged plan ps ≡ Refused r → ((told r).number ≡ 3) ⊎ (1 ≤ (told r).first)
+PlanPlaces = (plan ps : List ℕ) (r : Refusal) → plan_judged plan ps ≡ Refused r → ((told r).number ≡ 3) ⊎ (1 ≤ (told r).first)
 
 -- ---- what each call answers, and where: the cases exclude one another, so that each answer is given exactly there
 
 -- filling: "the checker's 3, 6 and 8", then "a list too short is 12"
 pub data FilledBy (plan ps : List ℕ) (room : ℕ) : Filling → Type 0 where
-  fill-plan : (r : Refusal) → planJudged plan ps ≡ Refused r → FilledBy plan ps room (filling.Refused r)
-  fill-length : Planned plan ps → room < needed plan ps → FilledBy plan ps room (filling.Refused Output)
+  fill_plan : (r : Refusal) → plan_judged plan ps ≡ Refused r → FilledBy plan ps room (filling.Refused r)
+  fill_length : Planned plan ps → room < needed plan ps → FilledBy plan ps room (filling.Refused Output)
   fill_done : Planned plan ps → needed plan ps ≤ room → FilledBy plan ps room (filling.Fills (needed plan ps))
 
 abbrev pub FillAnswers : Type 0
-FillAnswers = (plan ps : List ℕ) (room : ℕ) → FilledBy plan ps room (fillOf plan ps room)
+FillAnswers = (plan ps : List ℕ) (room : ℕ) → FilledBy plan ps room (fill_of plan ps room)
 
 -- a stretch from a start in 0 .. F − 1 of a length 0 .. F
 abbrev pub Within : List ℕ → ℕ → ℕ → Type 0
@@ -85,12 +85,12 @@ Within plan s n = (s < length plan) × (n ≤ length plan)
 
 -- held: then 8 with place 0, 12, 20 and 26; else "is answered from it and equals the count by walking"
 pub data HeldBy (plan ps list : List ℕ) (p s n : ℕ) : Holding → Type 0 where
-  held-plan : (r : Refusal) → planJudged plan ps ≡ Refused r → HeldBy plan ps list p s n (holding.Refused r)
-  held-name : Planned plan ps → ¬ Named ps p → HeldBy plan ps list p s n (holding.Refused (Asked 0))
+  held_plan : (r : Refusal) → plan_judged plan ps ≡ Refused r → HeldBy plan ps list p s n (holding.Refused r)
+  held_name : Planned plan ps → ¬ Named ps p → HeldBy plan ps list p s n (holding.Refused (Asked 0))
   held-length : Planned plan ps → Named ps p → length list < needed plan ps → HeldBy plan ps list p s n (holding.Refused Output)
   held-counts :
       Planned plan ps → Named ps p → needed plan ps ≤ length list → ¬ Counted plan ps list → HeldBy plan ps list p s n (holding.Refused Counts)
-  held-stretch : Planned plan ps → Named ps p → Counted plan ps list → ¬ Within plan s n → HeldBy plan ps list p s n (holding.Refused (Beyond 0))
+  held_stretch : Planned plan ps → Named ps p → Counted plan ps list → ¬ Within plan s n → HeldBy plan ps list p s n (holding.Refused (Beyond 0))
   held-done :
       Planned plan ps → Named ps p → Counted plan ps list → Within plan s n → HeldBy plan ps list p s n (holding.Holds (held Own plan p n s))
 
@@ -110,11 +110,11 @@ All P n = (k : ℕ) → k < n → P k
 
 -- a list of whole questions
 abbrev pub Whole : List ℕ → Type 0
-Whole qs = length qs % questionWidth ≡ 0
+Whole qs = length qs % question_width ≡ 0
 
 pub data ManyBy (plan ps list qs : List ℕ) (room : ℕ) : Filling → Type 0 where
   many-questions : ¬ Whole qs → ManyBy plan ps list qs room (filling.Refused Limits)
-  many-plan : Whole qs → (r : Refusal) → planJudged plan ps ≡ Refused r → ManyBy plan ps list qs room (filling.Refused r)
+  many_plan : Whole qs → (r : Refusal) → plan_judged plan ps ≡ Refused r → ManyBy plan ps list qs room (filling.Refused r)
   many-name :
       Whole qs → Planned plan ps → (k : ℕ) → k < questions qs → ¬ NamedIn ps qs k → All (NamedIn ps qs) k
       → ManyBy plan ps list qs room (filling.Refused (Asked (k + 1)))
@@ -132,7 +132,7 @@ pub data ManyBy (plan ps list qs : List ℕ) (room : ℕ) : Filling → Type 0 w
       → All (WithinIn plan qs) (questions qs) → ManyBy plan ps list qs room (filling.Fills (questions qs))
 
 abbrev pub ManyAnswers : Type 0
-ManyAnswers = (plan ps list qs : List ℕ) (room : ℕ) → ManyBy plan ps list qs room (manyOf plan ps list qs room)
+ManyAnswers = (plan ps list qs : List ℕ) (room : ℕ) → ManyBy plan ps list qs room (many_of plan ps list qs room)
 
 -- each answer is that of the call that asks this alone
 abbrev pub ManyEach : Type 0
@@ -142,17 +142,17 @@ ManyEach =
 
 -- change: "a new owner outside the table .. (owner 0 is good)", "a tick outside the plan"
 pub data ChangedBy (plan ps list : List ℕ) (tick owner : ℕ) : Finding → Type 0 where
-  change-plan : (r : Refusal) → planJudged plan ps ≡ Refused r → ChangedBy plan ps list tick owner (Refused r)
-  change-name : Planned plan ps → partitions ps < owner → ChangedBy plan ps list tick owner (Refused (Asked 0))
-  change-length : Planned plan ps → owner ≤ partitions ps → length list < needed plan ps → ChangedBy plan ps list tick owner (Refused Output)
+  change_plan : (r : Refusal) → plan_judged plan ps ≡ Refused r → ChangedBy plan ps list tick owner (Refused r)
+  change_name : Planned plan ps → partitions ps < owner → ChangedBy plan ps list tick owner (Refused (Asked 0))
+  change_length : Planned plan ps → owner ≤ partitions ps → length list < needed plan ps → ChangedBy plan ps list tick owner (Refused Output)
   change-counts :
       Planned plan ps → owner ≤ partitions ps → needed plan ps ≤ length list → ¬ Counted plan ps list → ChangedBy plan ps list tick owner (Refused Counts)
   change-stretch :
       Planned plan ps → owner ≤ partitions ps → Counted plan ps list → length plan ≤ tick → ChangedBy plan ps list tick owner (Refused (Beyond 0))
-  change-done : Planned plan ps → owner ≤ partitions ps → Counted plan ps list → tick < length plan → ChangedBy plan ps list tick owner Good
+  change_done : Planned plan ps → owner ≤ partitions ps → Counted plan ps list → tick < length plan → ChangedBy plan ps list tick owner Good
 
 abbrev pub ChangeAnswers : Type 0
-ChangeAnswers = (plan ps list : List ℕ) (tick owner : ℕ) → ChangedBy plan ps list tick owner (changeOf plan ps list tick owner)
+ChangeAnswers = (plan ps list : List ℕ) (tick owner : ℕ) → ChangedBy plan ps list tick owner (change_of plan ps list tick owner)
 
 -- ---- what filling and asking leave
 
@@ -181,8 +181,8 @@ ChangeCounted =
 pub record OnlyMoves (plan ps list plan' o : List ℕ) (tick owner : ℕ) : Type 0 where
   pub as_long : length plan' ≡ length plan
   pub given : get_or plan' tick 0 ≡ owner
-  pub other-ticks : (t : ℕ) → ¬ (t ≡ tick) → get_or plan' t 0 ≡ get_or plan t 0
-  pub list-as-long : length o ≡ length list
+  pub other_ticks : (t : ℕ) → ¬ (t ≡ tick) → get_or plan' t 0 ≡ get_or plan t 0
+  pub list_as_long : length o ≡ length list
   pub earlier : (p k : ℕ) → HasNumber plan ps p k → k ≤ tick → get_or o (number_of plan p k) 0 ≡ get_or list (number_of plan p k) 0
   pub of_others :
       (p k : ℕ) → HasNumber plan ps p k → ¬ (p ≡ get_or plan tick 0) → ¬ (p ≡ owner) → get_or o (number_of plan p k) 0 ≡ get_or list (number_of plan p k) 0
@@ -232,24 +232,24 @@ ChangeOne =
     → Changes plan ps list tick owner plan₂ o₂ r' → (r ≡ r') × (plan₁ ≡ plan₂) × (o₁ ≡ o₂)
 
 pub record Proved : Type 0 where
-  pub list-is : ListIs
+  pub list_is : ListIs
   pub counted_is : CountedIs
-  pub plan-exactly : PlanExactly
-  pub plan-as-checked : PlanAsChecked
-  pub plan-places : PlanPlaces
-  pub fill-answers : FillAnswers
-  pub held-answers : HeldAnswers
-  pub many-answers : ManyAnswers
-  pub many-each : ManyEach
-  pub change-answers : ChangeAnswers
-  pub fill-counted : FillCounted
-  pub fill-keeps : FillKeeps
-  pub many-keeps : ManyKeeps
-  pub change-counted : ChangeCounted
-  pub change-moves : ChangeMoves
-  pub change-same : ChangeSame
-  pub fill-change-held : FillChangeHeld
+  pub plan_exactly : PlanExactly
+  pub plan_as_checked : PlanAsChecked
+  pub plan_places : PlanPlaces
+  pub fill_answers : FillAnswers
+  pub held_answers : HeldAnswers
+  pub many_answers : ManyAnswers
+  pub many_each : ManyEach
+  pub change_answers : ChangeAnswers
+  pub fill_counted : FillCounted
+  pub fill_keeps : FillKeeps
+  pub many_keeps : ManyKeeps
+  pub change_counted : ChangeCounted
+  pub change_moves : ChangeMoves
+  pub change_same : ChangeSame
+  pub fill_change_held : FillChangeHeld
   pub fill_one : FillOne
   pub held_one : CountsHeldOne
-  pub many-one : ManyOne
-  pub change-one : ChangeOne
+  pub many_one : ManyOne
+  pub change_one : ChangeOne

@@ -6,8 +6,8 @@ ghost use Rattle.rules.specs.Limits.{longest};
 ghost use Rattle.rules.specs.Inner.{AsNamed};
 ghost use Rattle.rules.specs.declared.Rule.TheVariants.{Own};
 ghost use Rattle.theory.specs.Plan.{held};
-ghost use Rattle.counts.specs.Counts.{rowWidth, countAt, agreesAt};
-ghost use Rattle.counts.specs.Inner.{differsAt, Recounted, Kept};
+ghost use Rattle.counts.specs.Counts.{row_width, count_at, agrees_at};
+ghost use Rattle.counts.specs.Inner.{differs_at, Recounted, Kept};
 
 use rules::numbers::{one_if, wide};
 
@@ -21,7 +21,7 @@ fn row_at(f: usize, p: usize) -> usize
 
 // p's numbers, counted from the plan; none are kept for idle.
 pub fn fill_row(plan: &[u16], list: &mut [u16], p: usize)
-    requires { (length plan.now ≤ longest) × (p * rowWidth plan.now ≤ length list.old) }
+    requires { (length plan.now ≤ longest) × (p * row_width plan.now ≤ length list.old) }
     ensures { Recounted plan.now p list.old list.new }
 {
     if p == 0 {
@@ -41,8 +41,8 @@ pub fn fill_row(plan: &[u16], list: &mut [u16], p: usize)
 
 // Every partition's.
 pub fn fill_rows(plan: &[u16], list: &mut [u16], parts: usize)
-    requires { (length plan.now ≤ longest) × (parts * rowWidth plan.now ≤ length list.old) }
-    ensures { AsNamed (countAt plan.now) (parts * rowWidth plan.now)
+    requires { (length plan.now ≤ longest) × (parts * row_width plan.now ≤ length list.old) }
+    ensures { AsNamed (count_at plan.now) (parts * row_width plan.now)
         list.old list.new }
 {
     let mut p = 0;
@@ -54,8 +54,8 @@ pub fn fill_rows(plan: &[u16], list: &mut [u16], parts: usize)
 
 // Whether one of p's numbers isn't the plan's.
 fn row_differs(plan: &[u16], list: &[u16], p: usize) -> bool
-    requires { (0 < p) × (p * rowWidth plan.now ≤ length list.now) }
-    ensures { result ≡ some (differsAt plan.now list.now p) (rowWidth plan.now) }
+    requires { (0 < p) × (p * row_width plan.now ≤ length list.now) }
+    ensures { result ≡ some (differs_at plan.now list.now p) (row_width plan.now) }
 {
     let f = plan.len();
     let row = row_at(f, p);
@@ -73,9 +73,9 @@ fn row_differs(plan: &[u16], list: &[u16], p: usize) -> bool
 
 // Whether one of any partition's.
 pub fn differs(plan: &[u16], list: &[u16], parts: usize) -> bool
-    requires { parts * rowWidth plan.now ≤ length list.now }
-    ensures { result ≡ some (fails (agreesAt plan.now list.now))
-        (parts * rowWidth plan.now) }
+    requires { parts * row_width plan.now ≤ length list.now }
+    ensures { result ≡ some (fails (agrees_at plan.now list.now))
+        (parts * row_width plan.now) }
 {
     let mut p = 0;
     while p < parts {

@@ -6,7 +6,7 @@ use Rattle.rules.specs.Terms.{usual, wanted}
 use Rattle.rules.specs.Refusals.{placed, telling}
 use Rattle.rules.specs.declared.Told.{Told}
 use Rattle.output.specs.Text.{bytes}
-use Rattle.theory.specs.Harmonic.{frame, allWanted}
+use Rattle.theory.specs.Harmonic.{frame, all_wanted}
 use Rattle.desk.specs.declared.Job.{Job}
 use Rattle.desk.specs.declared.Desk.{Desk}
 use Rattle.desk.specs.Table.{job, filled}
@@ -69,13 +69,13 @@ listing =
 
 pub record Document01 : Type 0 where
   -- "q = 1, 3, 1; plan 1 2 2 2 1 3 0 0"
-  pub p1-wants : WantsIs 1 4 1 4 1 × WantsIs 1 8 3 8 3 × WantsIs 1 8 1 100 1
+  pub p1_wants : WantsIs 1 4 1 4 1 × WantsIs 1 8 3 8 3 × WantsIs 1 8 1 100 1
   pub p1 : TellsBuild 1 (three 1 100) eight plan1 (placed 0 8)
-  pub p1-serves : TellsCheck 1 1 plan1 (three 1 100) (placed 0 0)
+  pub p1_serves : TellsCheck 1 1 plan1 (three 1 100) (placed 0 0)
   -- "Third share 3/8: plan 1 2 2 2 1 3 3 3, full."
   pub p2 : TellsBuild 1 (three 3 8) eight plan2 (placed 0 8)
   -- "Third share 1/2: 2 + 3 + 4 = 9 > 8, refusal 11."
-  pub p3 : (allWanted (wanted usual (three 1 2)) (three 1 2) (frame (three 1 2)) ≡ 9) × TellsBuild 1 (three 1 2) eight eight (placed 11 0)
+  pub p3 : (all_wanted (wanted usual (three 1 2)) (three 1 2) (frame (three 1 2)) ≡ 9) × TellsBuild 1 (three 1 2) eight eight (placed 11 0)
   -- "Cycles 4 and 6: refusal 10."
   pub p4 : TellsBuild 1 (4 ∷ 1 ∷ 2 ∷ 6 ∷ 1 ∷ 2 ∷ []) eight eight (placed 10 0)
   -- "One partition, cycle 4, share 1/2, plan 1 1 0 0 0 0 1 1: refusal 9 at start 1, which holds 1 and wants 2."
@@ -86,8 +86,8 @@ pub record Document01 : Type 0 where
   pub v1 : TellsVerdict 1 1 plan1 (three 1 100) (two 14) 1 (placed 0 8)
   pub v2 : TellsVerdict 1 1 plan1 (three 1 100) (two 13) 2 (placed 0 0) × TellsVerdict 1 1 plan1 (three 1 100) (two 14) 2 (placed 0 14)
   -- by the plain engine: least(7) is 2, a tick before the first task's point
-  pub v1-plain : TellsPlain 1 1 plan1 (three 1 100) (two 14) 1 (placed 0 7)
-  pub v2-plain : TellsPlain 1 1 plan1 (three 1 100) (two 13) 2 (placed 0 0) × TellsPlain 1 1 plan1 (three 1 100) (two 14) 2 (placed 0 14)
+  pub v1_plain : TellsPlain 1 1 plan1 (three 1 100) (two 14) 1 (placed 0 7)
+  pub v2_plain : TellsPlain 1 1 plan1 (three 1 100) (two 13) 2 (placed 0 0) × TellsPlain 1 1 plan1 (three 1 100) (two 14) 2 (placed 0 14)
   -- "Opened with (10, 3, 20), (15, 5, 24), (30, 2, 40), x is 6, 4, 8."
   pub d1 : TellsOpen (desk 77 3) lent (desk 0 3) opened (placed 0 0)
   -- "t 8, C 6, d 16: start 8. Starts become 8, 14, 17, 30, x 2, 2, 2, 8."
@@ -96,11 +96,11 @@ pub record Document01 : Type 0 where
   pub d3 : TellsRequest (desk 0 3) opened 8 8 40 (desk 8 4) (filled (job 8 8 40 0 ∷ job 16 3 20 0 ∷ job 19 5 24 0 ∷ job 30 2 40 8 ∷ [])) (telling 0 0 8 0 0)
   -- "C 9, d 40: rooms 8, 6, 18, start 20, new x 9."
   pub d4 : TellsRequest (desk 0 3) opened 8 9 40 (desk 8 4) (filled (job 10 3 20 6 ∷ job 15 5 24 4 ∷ job 20 9 40 9 ∷ job 30 2 40 8 ∷ [])) (telling 0 2 20 0 0)
-  pub d4-rooms : (room 8 40 (job 10 3 20 6) ≡ 8) × (room 13 40 (job 15 5 24 4) ≡ 6) × (room 20 40 (job 30 2 40 8) ≡ 18)
+  pub d4_rooms : (room 8 40 (job 10 3 20 6) ≡ 8) × (room 13 40 (job 15 5 24 4) ≡ 6) × (room 20 40 (job 30 2 40 8) ≡ 18)
   -- "From D1, t 12: busy."
   pub d5 : TellsRequest (desk 0 3) opened 12 1 40 (desk 12 3) opened (placed 16 0)
   -- "From D1, t 25, C 4, d 29"; document 02, ask 1: "D6 starts at 25."
   pub d6 : TellsRequest (desk 0 3) opened 25 4 29 (desk 25 2) (filled (job 25 4 29 0 ∷ job 30 2 40 8 ∷ [])) (telling 0 0 25 0 0)
   -- the whole example's contents, and "Its listing"; document 02, ask 4: "W1's last line becomes `task 1 partition 1 pass 4 tick 3`"
-  pub w1-read : TellsRead file (contained 1 4 2 1 2)
+  pub w1_read : TellsRead file (contained 1 4 2 1 2)
   pub w1 : TellsList file page listing (placed 0 107)

@@ -10,7 +10,7 @@ use contract.Lifetimes.{Lfts}
 use denote.Triple.Entry.{Args, Res}
 use denote.Triple.Clauses.{Ended, Clauses, AtExit}
 use Rattle.std.specs.Prelude.{◌≤◌}
-use Rattle.rules.specs.Limits.{longestWhy}
+use Rattle.rules.specs.Limits.{longest_why}
 use Rattle.rules.specs.Table.{WantsIs}
 use Rattle.theory.specs.Plan.{HeldIs, LeastIs}
 use Rattle.plan_curve.specs.Curve.{DrawsCurve}
@@ -22,9 +22,9 @@ use Rattle.task_page.specs.Page.{Pages}
 use Rattle.file_read.specs.Reader.{Reads, HandsBack}
 use Rattle.file_write.specs.Writer.{Writes}
 use Rattle.output.specs.Put.{Put}
-use Rattle.file_runs.specs.Ticks.{ticksPut, runsPut}
+use Rattle.file_runs.specs.Ticks.{ticks_put, runs_put}
 use Rattle.file_listing.specs.Listing.{Lists}
-use Rattle.why_page.specs.Why.{whyOf}
+use Rattle.why_page.specs.Why.{why_of}
 use Rattle.share_text.specs.Table.{ReadsText}
 use Rattle.share_plan.specs.Answer.{Plans}
 use Rattle.desk.specs.Call.{call_of, Leaves}
@@ -81,66 +81,66 @@ module _ {M : Type 1} {𝓤 : Ura M} (𝓛 : Logic 𝓤) (mem : Memory → SProp
 
   pub record Entries : Type 1 where
     -- the C surface
-    pub of-c-wants : Ensures c-wants.ended (c-wants.clauses 𝓛 mem run) (λ κs a r e. WantsIs a.0 a.1.0 a.1.1.0 a.1.1.1.0 r)
-    pub of-c-held : Ensures c-held.ended (c-held.clauses 𝓛 mem run) (λ κs a r e. TellsHeld a.0 a.1.0.now a.1.1.0 a.1.1.1.0 a.1.1.1.1.0 r)
-    pub of-c-least : Ensures c-least.ended (c-least.clauses 𝓛 mem run) (λ κs a r e. TellsLeast a.0 a.1.0.now a.1.1.0 a.1.1.1.0 r)
-    pub of-c-curve : Ensures c-curve.ended (c-curve.clauses 𝓛 mem run)
+    pub of_c_wants : Ensures c-wants.ended (c-wants.clauses 𝓛 mem run) (λ κs a r e. WantsIs a.0 a.1.0 a.1.1.0 a.1.1.1.0 r)
+    pub of_c_held : Ensures c-held.ended (c-held.clauses 𝓛 mem run) (λ κs a r e. TellsHeld a.0 a.1.0.now a.1.1.0 a.1.1.1.0 a.1.1.1.1.0 r)
+    pub of_c_least : Ensures c-least.ended (c-least.clauses 𝓛 mem run) (λ κs a r e. TellsLeast a.0 a.1.0.now a.1.1.0 a.1.1.1.0 r)
+    pub of_c_curve : Ensures c-curve.ended (c-curve.clauses 𝓛 mem run)
         (λ κs a r e. TellsCurve a.0 a.1.0.now a.1.1.0 a.1.1.1.0 a.1.1.1.1.0.now e.1.1.1.1.0.now r)
-    pub of-c-check : Ensures c-check.ended (c-check.clauses 𝓛 mem run) (λ κs a r e. TellsCheck a.0 a.1.0 a.1.1.0.now a.1.1.1.0.now r)
-    pub of-c-build : Ensures c-build.ended (c-build.clauses 𝓛 mem run) (λ κs a r e. TellsBuild a.0 a.1.0.now a.1.1.0.now e.1.1.0.now r)
-    pub of-c-fill : Ensures c-fill.ended (c-fill.clauses 𝓛 mem run) (λ κs a r e. TellsFill a.0.now a.1.0.now a.1.1.0.now e.1.1.0.now r)
-    pub of-c-counts-held : Ensures c-counts-held.ended (c-counts-held.clauses 𝓛 mem run)
+    pub of_c_check : Ensures c-check.ended (c-check.clauses 𝓛 mem run) (λ κs a r e. TellsCheck a.0 a.1.0 a.1.1.0.now a.1.1.1.0.now r)
+    pub of_c_build : Ensures c-build.ended (c-build.clauses 𝓛 mem run) (λ κs a r e. TellsBuild a.0 a.1.0.now a.1.1.0.now e.1.1.0.now r)
+    pub of_c_fill : Ensures c-fill.ended (c-fill.clauses 𝓛 mem run) (λ κs a r e. TellsFill a.0.now a.1.0.now a.1.1.0.now e.1.1.0.now r)
+    pub of_c_counts_held : Ensures c-counts-held.ended (c-counts-held.clauses 𝓛 mem run)
         (λ κs a r e. TellsCounted a.0.now a.1.0.now a.1.1.0.now a.1.1.1.0 a.1.1.1.1.0 a.1.1.1.1.1.0 r)
-    pub of-c-many : Ensures c-many.ended (c-many.clauses 𝓛 mem run)
+    pub of_c_many : Ensures c-many.ended (c-many.clauses 𝓛 mem run)
         (λ κs a r e. TellsMany a.0.now a.1.0.now a.1.1.0.now a.1.1.1.0.now a.1.1.1.1.0.now e.1.1.1.1.0.now r)
-    pub of-c-change : Ensures c-change.ended (c-change.clauses 𝓛 mem run)
+    pub of_c_change : Ensures c-change.ended (c-change.clauses 𝓛 mem run)
         (λ κs a r e. TellsChange a.0.now a.1.0.now a.1.1.0.now a.1.1.1.0 a.1.1.1.1.0 e.0.now e.1.1.0.now r)
-    pub of-c-verdict : Ensures c-verdict.ended (c-verdict.clauses 𝓛 mem run)
+    pub of_c_verdict : Ensures c-verdict.ended (c-verdict.clauses 𝓛 mem run)
         (λ κs a r e. TellsVerdict a.0 a.1.0 a.1.1.0.now a.1.1.1.0.now a.1.1.1.1.0.now a.1.1.1.1.1.0 r)
-    pub of-c-plain : Ensures c-plain.ended (c-plain.clauses 𝓛 mem run)
+    pub of_c_plain : Ensures c-plain.ended (c-plain.clauses 𝓛 mem run)
         (λ κs a r e. TellsPlain a.0 a.1.0 a.1.1.0.now a.1.1.1.0.now a.1.1.1.1.0.now a.1.1.1.1.1.0 r)
-    pub of-c-page : Ensures c-page.ended (c-page.clauses 𝓛 mem run)
+    pub of_c_page : Ensures c-page.ended (c-page.clauses 𝓛 mem run)
         (λ κs a r e.
         TellsPage a.0 a.1.0 a.1.1.0.now a.1.1.1.0.now a.1.1.1.1.0.now a.1.1.1.1.1.0 a.1.1.1.1.1.1.0.now
         e.1.1.1.1.1.1.0.now r)
-    pub of-c-read : Ensures c_read.ended (c_read.clauses 𝓛 mem run) (λ κs a r e. TellsRead a.0.now r)
-    pub of-c-section : Ensures c-section.ended (c-section.clauses 𝓛 mem run) (λ κs a r e. TellsSection a.0.now a.1.0 r)
-    pub of-c-write : Ensures c-write.ended (c-write.clauses 𝓛 mem run)
+    pub of_c_read : Ensures c_read.ended (c_read.clauses 𝓛 mem run) (λ κs a r e. TellsRead a.0.now r)
+    pub of_c_section : Ensures c-section.ended (c-section.clauses 𝓛 mem run) (λ κs a r e. TellsSection a.0.now a.1.0 r)
+    pub of_c_write : Ensures c-write.ended (c-write.clauses 𝓛 mem run)
         (λ κs a r e. TellsWrite a.0 a.1.0 a.1.1.0.now a.1.1.1.0.now a.1.1.1.1.0.now a.1.1.1.1.1.0.now e.1.1.1.1.1.0.now r)
-    pub of-c-list : Ensures c-list.ended (c-list.clauses 𝓛 mem run) (λ κs a r e. TellsList a.0.now a.1.0.now e.1.0.now r)
-    pub of-c-open : Ensures c-open.ended (c-open.clauses 𝓛 mem run) (λ κs a r e. TellsOpen a.0.now a.1.0.now e.0.now e.1.0.now r)
-    pub of-c-request : Ensures c-request.ended (c-request.clauses 𝓛 mem run)
+    pub of_c_list : Ensures c-list.ended (c-list.clauses 𝓛 mem run) (λ κs a r e. TellsList a.0.now a.1.0.now e.1.0.now r)
+    pub of_c_open : Ensures c-open.ended (c-open.clauses 𝓛 mem run) (λ κs a r e. TellsOpen a.0.now a.1.0.now e.0.now e.1.0.now r)
+    pub of_c_request : Ensures c-request.ended (c-request.clauses 𝓛 mem run)
         (λ κs a r e. TellsRequest a.0.now a.1.0.now a.1.1.0 a.1.1.1.0 a.1.1.1.1.0 e.0.now e.1.0.now r)
     -- the entries of the crates
-    pub of-wants : Ensures wants.ended (wants.clauses 𝓛 mem run) (λ κs a r e. WantsIs a.0 a.1.0 a.1.1.0 a.1.1.1.0 r)
-    pub of-held : Ensures held.ended (held.clauses 𝓛 mem run) (λ κs a r e. HeldIs a.0 a.1.0.now a.1.1.0 a.1.1.1.0 a.1.1.1.1.0 r)
-    pub of-least : Ensures least.ended (least.clauses 𝓛 mem run) (λ κs a r e. LeastIs a.0 a.1.0.now a.1.1.0 a.1.1.1.0 r)
-    pub of-curve : Ensures curve.ended (curve.clauses 𝓛 mem run)
+    pub of_wants : Ensures wants.ended (wants.clauses 𝓛 mem run) (λ κs a r e. WantsIs a.0 a.1.0 a.1.1.0 a.1.1.1.0 r)
+    pub of_held : Ensures held.ended (held.clauses 𝓛 mem run) (λ κs a r e. HeldIs a.0 a.1.0.now a.1.1.0 a.1.1.1.0 a.1.1.1.1.0 r)
+    pub of_least : Ensures least.ended (least.clauses 𝓛 mem run) (λ κs a r e. LeastIs a.0 a.1.0.now a.1.1.0 a.1.1.1.0 r)
+    pub of_curve : Ensures curve.ended (curve.clauses 𝓛 mem run)
         (λ κs a r e. DrawsCurve a.0 a.1.0.now a.1.1.0 a.1.1.1.0 a.1.1.1.1.0.now e.1.1.1.1.0.now r)
-    pub of-check : Ensures check.ended (check.clauses 𝓛 mem run) (λ κs a r e. Checks a.0 a.1.0.now a.1.1.0.now r)
-    pub of-build : Ensures build.ended (build.clauses 𝓛 mem run) (λ κs a r e. Builds a.0 a.1.0.now a.1.1.0.now e.1.1.0.now r)
-    pub of-fill : Ensures fill.ended (fill.clauses 𝓛 mem run) (λ κs a r e. FillsCounts a.0.now a.1.0.now a.1.1.0.now e.1.1.0.now r)
-    pub of-counts-held : Ensures counts-held.ended (counts-held.clauses 𝓛 mem run)
+    pub of_check : Ensures check.ended (check.clauses 𝓛 mem run) (λ κs a r e. Checks a.0 a.1.0.now a.1.1.0.now r)
+    pub of_build : Ensures build.ended (build.clauses 𝓛 mem run) (λ κs a r e. Builds a.0 a.1.0.now a.1.1.0.now e.1.1.0.now r)
+    pub of_fill : Ensures fill.ended (fill.clauses 𝓛 mem run) (λ κs a r e. FillsCounts a.0.now a.1.0.now a.1.1.0.now e.1.1.0.now r)
+    pub of_counts_held : Ensures counts-held.ended (counts-held.clauses 𝓛 mem run)
         (λ κs a r e. HoldsOne a.0.now a.1.0.now a.1.1.0.now a.1.1.1.0 a.1.1.1.1.0 a.1.1.1.1.1.0 r)
-    pub of-many : Ensures many.ended (many.clauses 𝓛 mem run)
+    pub of_many : Ensures many.ended (many.clauses 𝓛 mem run)
         (λ κs a r e. HoldsMany a.0.now a.1.0.now a.1.1.0.now a.1.1.1.0.now a.1.1.1.1.0.now e.1.1.1.1.0.now r)
-    pub of-change : Ensures change.ended (change.clauses 𝓛 mem run)
+    pub of_change : Ensures change.ended (change.clauses 𝓛 mem run)
         (λ κs a r e. Changes a.0.now a.1.0.now a.1.1.0.now a.1.1.1.0 a.1.1.1.1.0 e.0.now e.1.1.0.now r)
-    pub of-verdict : Ensures verdict.ended (verdict.clauses 𝓛 mem run) (λ κs a r e. Judges a.0 a.1.0.now a.1.1.0.now a.1.1.1.0.now a.1.1.1.1.0 r)
+    pub of_verdict : Ensures verdict.ended (verdict.clauses 𝓛 mem run) (λ κs a r e. Judges a.0 a.1.0.now a.1.1.0.now a.1.1.1.0.now a.1.1.1.1.0 r)
     pub of_plain : Ensures plain.ended (plain.clauses 𝓛 mem run) (λ κs a r e. JudgesPlainly a.0 a.1.0.now a.1.1.0.now a.1.1.1.0.now a.1.1.1.1.0 r)
-    pub of-page : Ensures page.ended (page.clauses 𝓛 mem run)
+    pub of_page : Ensures page.ended (page.clauses 𝓛 mem run)
         (λ κs a r e. Pages a.0 a.1.0.now a.1.1.0.now a.1.1.1.0.now a.1.1.1.1.0 a.1.1.1.1.1.0.now e.1.1.1.1.1.0.now r)
-    pub of-read : Ensures read.ended (read.clauses 𝓛 mem run) (λ κs a r e. Reads a.0.now r)
-    pub of-section : Ensures section.ended (section.clauses 𝓛 mem run) (λ κs a r e. HandsBack a.0.now a.1.0 r.now)
-    pub of-write : Ensures write.ended (write.clauses 𝓛 mem run)
+    pub of_read : Ensures read.ended (read.clauses 𝓛 mem run) (λ κs a r e. Reads a.0.now r)
+    pub of_section : Ensures section.ended (section.clauses 𝓛 mem run) (λ κs a r e. HandsBack a.0.now a.1.0 r.now)
+    pub of_write : Ensures write.ended (write.clauses 𝓛 mem run)
         (λ κs a r e. Writes a.0 a.1.0 a.1.1.0.now a.1.1.1.0.now a.1.1.1.1.0.now a.1.1.1.1.1.0.now e.1.1.1.1.1.0.now r)
-    pub of-ticks : Ensures ticks-of.ended (ticks-of.clauses 𝓛 mem run) (λ κs a r e. Put a.1.0.now 0 (ticksPut a.0.now) r e.1.0.now)
-    pub of-runs : Ensures runs_of.ended (runs_of.clauses 𝓛 mem run) (λ κs a r e. Put a.1.0.now 0 (runsPut a.0.now) r e.1.0.now)
-    pub of-listing : Ensures listing.ended (listing.clauses 𝓛 mem run) (λ κs a r e. Lists a.0.now a.1.0.now e.1.0.now r)
-    pub of-why : Ensures why.ended (why.clauses 𝓛 mem run)
-        (λ κs a r e. Put a.1.1.0.now 0 (whyOf a.0.now a.1.0) r e.1.1.0.now × (r ≤ longestWhy))
-    pub of-share-table : Ensures read-text.ended (read-text.clauses 𝓛 mem run)
+    pub of_ticks : Ensures ticks-of.ended (ticks-of.clauses 𝓛 mem run) (λ κs a r e. Put a.1.0.now 0 (ticks_put a.0.now) r e.1.0.now)
+    pub of_runs : Ensures runs_of.ended (runs_of.clauses 𝓛 mem run) (λ κs a r e. Put a.1.0.now 0 (runs_put a.0.now) r e.1.0.now)
+    pub of_listing : Ensures listing.ended (listing.clauses 𝓛 mem run) (λ κs a r e. Lists a.0.now a.1.0.now e.1.0.now r)
+    pub of_why : Ensures why.ended (why.clauses 𝓛 mem run)
+        (λ κs a r e. Put a.1.1.0.now 0 (why_of a.0.now a.1.0) r e.1.1.0.now × (r ≤ longest_why))
+    pub of_share_table : Ensures read-text.ended (read-text.clauses 𝓛 mem run)
         (λ κs a r e. ReadsText a.0.now a.1.0.now a.1.1.0.now e.1.0.now e.1.1.0.now r)
-    pub of-planner : Ensures plan.ended (plan.clauses 𝓛 mem run) (λ κs a r e. Plans a.0 a.1.0.now a.1.1.0.now e.1.1.0.now r)
-    pub of-desk : Ensures call.ended (call.clauses 𝓛 mem run)
+    pub of_planner : Ensures plan.ended (plan.clauses 𝓛 mem run) (λ κs a r e. Plans a.0 a.1.0.now a.1.1.0.now e.1.1.0.now r)
+    pub of_desk : Ensures call.ended (call.clauses 𝓛 mem run)
         (λ κs a r e. Leaves (call_of a.0.now.clock a.0.now.count a.1.0.now a.1.1.0) r e.0.now e.1.0.now)

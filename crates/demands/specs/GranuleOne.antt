@@ -9,58 +9,58 @@ use Rattle.rules.specs.declared.Refusal.TheVariants.{Limits}
 use Rattle.rules.specs.declared.Finding.{Finding}
 use Rattle.rules.specs.declared.Finding.TheVariants as found
 use Rattle.rules.specs.declared.Filling.TheVariants as filling
-use Rattle.tables.specs.Tables.{withinLimits, unless, recordsJudged, tables_of}
+use Rattle.tables.specs.Tables.{within_limits, unless, records_judged, tables_of}
 use Rattle.rules.specs.declared.Rule.{Rule}
 use Rattle.rules.specs.declared.Rule.TheVariants.{Own}
 use Rattle.theory.specs.Plan.{least}
 use Rattle.theory.specs.Theorems.{WantsWhole}
-use Rattle.theory.specs.Harmonic.{frame, harmonicPlan}
-use Rattle.plan_check.specs.Check.{planCheckOf, checkOf}
-use Rattle.plan_build.specs.Build.{laid_of, buildOf}
+use Rattle.theory.specs.Harmonic.{frame, harmonic_plan}
+use Rattle.plan_check.specs.Check.{plan_check_of, check_of}
+use Rattle.plan_build.specs.Build.{laid_of, build_of}
 use Rattle.task_verdict.specs.declared.Judged.TheVariants as judged
-use Rattle.task_verdict.specs.Verdict.{place_of, passAt, verdictBy}
+use Rattle.task_verdict.specs.Verdict.{place_of, pass_at, verdict_by}
 use Rattle.rules.specs.declared.Filling.{Filling}
-use Rattle.file_write.specs.Writer.{fileOf, writeOf}
-use Rattle.file_runs.specs.Ticks.{runsOf}
-use Rattle.file_lines.specs.Lines.{partitionLine}
-use Rattle.file_page.specs.Page.{partLine}
+use Rattle.file_write.specs.Writer.{file_of, write_of}
+use Rattle.file_runs.specs.Ticks.{runs_of}
+use Rattle.file_lines.specs.Lines.{partition_line}
+use Rattle.file_page.specs.Page.{part_line}
 use Rattle.share_line.specs.declared.Row.TheVariants.{Granule}
-use Rattle.share_text.specs.Table.{row_at, granuleOf}
-use Rattle.share_plan.specs.Answer.{planRuns, writePlanOf, planFile}
+use Rattle.share_text.specs.Table.{row_at, granule_of}
+use Rattle.share_plan.specs.Answer.{plan_runs, write_plan_of, plan_file}
 
 -- "A partition with cycle m wants q = num·m/den, rounded up to a whole number."
-abbrev pub wholeTicks : List ℕ → ℕ → ℕ
-wholeTicks ps k = round_up (num ps k * cycle ps k) (den ps k)
+abbrev pub whole_ticks : List ℕ → ℕ → ℕ
+whole_ticks ps k = round_up (num ps k * cycle ps k) (den ps k)
 
 -- "lowest number first, then lowest place": 3, 6, 7
 abbrev pub tables01 : ℕ → List ℕ → List ℕ → Finding
-tables01 frame ps ts = pick (withinLimits frame (length ps) (length ts)) (recordsJudged frame ps ts) (found.Refused Limits)
+tables01 frame ps ts = pick (within_limits frame (length ps) (length ts)) (records_judged frame ps ts) (found.Refused Limits)
 
 -- what the writer answers of a built plan, and the builder's refusal
 abbrev pub written01 : Filling → List ℕ → List ℕ → ℕ → Filling
-written01 (filling.Fills h) ps ts room = writeOf 1 h ps ts (planRuns usual ps) room
+written01 (filling.Fills h) ps ts room = write_of 1 h ps ts (plan_runs usual ps) room
 written01 (filling.Refused r) ps ts room = filling.Refused r
 
 pub record GranuleOne : Type 0 where
-  pub of-wants : WantsWhole
+  pub of_wants : WantsWhole
   -- of reader, writer, counts and listing too
-  pub of-tables : (frame : ℕ) (ps ts : List ℕ) → tables_of usual frame ps ts ≡ tables01 frame ps ts
+  pub of_tables : (frame : ℕ) (ps ts : List ℕ) → tables_of usual frame ps ts ≡ tables01 frame ps ts
   -- "the checker 3, 6, 8, 9"
-  pub of-check : (plan ps : List ℕ) → checkOf usual plan ps ≡ unless found.Refused (tables01 (length plan) ps []) (planCheckOf Own (wholeTicks ps) plan ps)
+  pub of_check : (plan ps : List ℕ) → check_of usual plan ps ≡ unless found.Refused (tables01 (length plan) ps []) (plan_check_of Own (whole_ticks ps) plan ps)
   -- "the builder 3, 6, 10, 11, 12", and the plan that it writes
-  pub of-build : (ps : List ℕ) (room : ℕ) → buildOf usual ps room ≡ unless filling.Refused (tables01 longest ps []) (laid_of (wholeTicks ps) ps room)
-  pub of-plan : (ps : List ℕ) → harmonicPlan (wanted usual ps) ps ≡ harmonicPlan (wholeTicks ps) ps
+  pub of_build : (ps : List ℕ) (room : ℕ) → build_of usual ps room ≡ unless filling.Refused (tables01 longest ps []) (laid_of (whole_ticks ps) ps room)
+  pub of_plan : (ps : List ℕ) → harmonic_plan (wanted usual ps) ps ≡ harmonic_plan (whole_ticks ps) ps
   -- "the verdict 3, 6, 7, 8, 9", by either engine
-  pub of-verdicts :
+  pub of_verdicts :
       (engine : Rule → List ℕ → List ℕ → ℕ → ℕ) (plan ps ts : List ℕ) (place : ℕ)
-      → verdictBy engine usual plan ps ts place
-      ≡ unless judged.Refused (unless found.Refused (tables01 (length plan) ps ts) (place_of Own (wholeTicks ps) plan ps ts place))
-      (passAt (deadline ts (place - 1)) (engine Own plan ts (place - 1)))
+      → verdict_by engine usual plan ps ts place
+      ≡ unless judged.Refused (unless found.Refused (tables01 (length plan) ps ts) (place_of Own (whole_ticks ps) plan ps ts place))
+      (pass_at (deadline ts (place - 1)) (engine Own plan ts (place - 1)))
   -- the planner: a text that gives no granule has granule 1, and its tables are judged, built and written the same: no plan that is built is refused with 9
-  pub of-text : (t : List ℕ) → ((k g : ℕ) → ¬ (row_at t k ≡ Granule g)) → granuleOf t ≡ 1
-  pub of-planner :
-      (ps ts : List ℕ) (room : ℕ) → writePlanOf usual ps ts room ≡ unless filling.Refused (tables01 longest ps ts) (written01 (buildOf usual ps longest) ps ts room)
-  pub of-file : (ps ts : List ℕ) → planFile usual ps ts ≡ fileOf 1 (frame ps) ps ts (runsOf (harmonicPlan (wholeTicks ps) ps))
+  pub of_text : (t : List ℕ) → ((k g : ℕ) → ¬ (row_at t k ≡ Granule g)) → granule_of t ≡ 1
+  pub of_planner :
+      (ps ts : List ℕ) (room : ℕ) → write_plan_of usual ps ts room ≡ unless filling.Refused (tables01 longest ps ts) (written01 (build_of usual ps longest) ps ts room)
+  pub of_file : (ps ts : List ℕ) → plan_file usual ps ts ≡ file_of 1 (frame ps) ps ts (runs_of (harmonic_plan (whole_ticks ps) ps))
   -- "partition 1 wants 2 in 4 least 2"
   pub of-lines :
-      (plan ps : List ℕ) (k : ℕ) → partLine Own plan ps k ≡ partitionLine (k + 1) (wholeTicks ps k) (cycle ps k) (least Own plan (k + 1) (cycle ps k))
+      (plan ps : List ℕ) (k : ℕ) → part_line Own plan ps k ≡ partition_line (k + 1) (whole_ticks ps k) (cycle ps k) (least Own plan (k + 1) (cycle ps k))

@@ -11,10 +11,10 @@ use Rattle.rules.specs.Walk.{pick}
 use Rattle.rules.specs.declared.Refusal.TheVariants.{Busy, Full, NoPlace}
 use Rattle.desk.specs.declared.Job.{Job}
 use Rattle.desk.specs.Table.{filled, ends, Outcome}
-use Rattle.desk.specs.Request.{kept, busy, dropping, requestOf}
+use Rattle.desk.specs.Request.{kept, busy, dropping, request_of}
 use Rattle.desk.specs.Theorems.{Refuses, Running, BusyEnds}
-use Rattle.desk.proofs.Chain.{Chain, chain-low, kept_from}
-use Rattle.desk.proofs.Rules.{SoundAfter, good_of, good-kept, running, full, nowhere, Ending, same, dropped, taken, ending, request-sound, sound-unless}
+use Rattle.desk.proofs.Chain.{Chain, chain_low, kept_from}
+use Rattle.desk.proofs.Rules.{SoundAfter, good_of, good-kept, running, full, nowhere, Ending, same, dropped, taken, ending, request_sound, sound-unless}
 use Rattle.desk.proofs.Promise.{take-filled}
 
 -- the first job left has not ended
@@ -34,31 +34,31 @@ free u j js h g = rw (le-leb (ends j) u h, kept_from u js g) (next js g) where
   next [] g = refl
   next (k ∷ ks) g = le-ltb _ _ g.0
 
-is-busy : (clock n : ℕ) (l : List Job) (t c d : ℕ) (o : Outcome) → Ending clock n l t c d o → Refuses o 16
+is_busy : (clock n : ℕ) (l : List Job) (t c d : ℕ) (o : Outcome) → Ending clock n l t c d o → Refuses o 16
     → (busy t (kept t (take n l)) ≡ true) × (o ≡ dropping t (kept t (take n l)) Busy)
-is-busy clock n l t c d o (same r h) e = absurd (omega arith)
-is-busy clock n l t c d o (dropped Busy (running b) late small) e = (b, refl)
-is-busy clock n l t c d o (dropped Full full late small) e = absurd (omega arith)
-is-busy clock n l t c d o (dropped (NoPlace _) (nowhere why is g f) late small) e = absurd (omega arith)
-is-busy clock n l t c d o (taken i s late small some due few g spot) e = absurd (omega arith)
+is_busy clock n l t c d o (same r h) e = absurd (omega arith)
+is_busy clock n l t c d o (dropped Busy (running b) late small) e = (b, refl)
+is_busy clock n l t c d o (dropped Full full late small) e = absurd (omega arith)
+is_busy clock n l t c d o (dropped (NoPlace _) (nowhere why is g f) late small) e = absurd (omega arith)
+is_busy clock n l t c d o (taken i s late small some due few g spot) e = absurd (omega arith)
 
-running-of : (t : ℕ) (l js : List Job) → kept t l ≡ js → busy t js ≡ true → Chain 0 js → SoundAfter (dropping t js Busy) → Running t (dropping t js Busy)
-running-of t l [] e b g s = absurd (true≢false (sym b))
-running-of t l (j ∷ js) e b g s =
+running_of : (t : ℕ) (l js : List Job) → kept t l ≡ js → busy t js ≡ true → Chain 0 js → SoundAfter (dropping t js Busy) → Running t (dropping t js Busy)
+running_of t l [] e b g s = absurd (true≢false (sym b))
+running_of t l (j ∷ js) e b g s =
     let n = length (j ∷ js) in
     record {
       begun = ltb-true _ _ b;
       unended = first-left t l j js e;
       free-then = λ u c d at f.
-          let again = (is-busy t n (filled (j ∷ js)) u c d _ (ending t n (filled (j ∷ js)) u c d s) f).0 in
+          let again = (is_busy t n (filled (j ∷ js)) u c d _ (ending t n (filled (j ∷ js)) u c d s) f).0 in
           let here = subst (λ (ks : List Job). busy u (kept u ks) ≡ true) (take-filled (j ∷ js) n refl) again in
-          true≢false (sym here ∙ free u j js (omega arith) (chain-low (ends j) u js (omega arith) g.2));
+          true≢false (sym here ∙ free u j js (omega arith) (chain_low (ends j) u js (omega arith) g.2));
     }
 
-pub busy-ends : BusyEnds
-busy-ends clock n l t c d e =
+pub busy_ends : BusyEnds
+busy_ends clock n l t c d e =
     let sound = sound-unless clock n l t c d (λ f. absurd (omega arith)) in
     let all = ending clock n l t c d sound in
-    let w = is-busy clock n l t c d (requestOf clock n l t c d) all e in
-    let after : SoundAfter (dropping t (kept t (take n l)) Busy) = subst SoundAfter w.1 (request-sound clock n l t c d sound) in
-    rw w.1 (running-of t (take n l) (kept t (take n l)) refl w.0 (good-kept t n (take n l) (good_of clock n l sound)).order after)
+    let w = is_busy clock n l t c d (request_of clock n l t c d) all e in
+    let after : SoundAfter (dropping t (kept t (take n l)) Busy) = subst SoundAfter w.1 (request_sound clock n l t c d sound) in
+    rw w.1 (running_of t (take n l) (kept t (take n l)) refl w.0 (good-kept t n (take n l) (good_of clock n l sound)).order after)

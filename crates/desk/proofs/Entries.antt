@@ -11,16 +11,16 @@ use Rattle.desk.specs.declared.Job.{Job}
 use Rattle.rules.specs.Walk.{pick}
 use Rattle.desk.specs.Table.{job, flexes, ends}
 use Rattle.desk.specs.Places.{shift}
-use Rattle.desk.specs.Request.{kept, insertAt}
-use Rattle.desk.specs.Story.{Entry, entry, noEntry, finish, ended, unended, standing, entries, Promise}
+use Rattle.desk.specs.Request.{kept, insert_at}
+use Rattle.desk.specs.Story.{Entry, entry, no_entry, finish, ended, unended, standing, entries, Promise}
 use Rattle.desk.proofs.Chain.{Chain}
 
 -- the same job at another start
 abbrev pub starting : Entry → ℕ → Entry
 starting r s = entry r.since r.budget r.deadline s
 
-abbrev pub withEntry : ℕ → Entry → List Entry → List Entry
-withEntry i r rs = take i rs ++ (r ∷ drop i rs)
+abbrev pub with_entry : ℕ → Entry → List Entry → List Entry
+with_entry i r rs = take i rs ++ (r ∷ drop i rs)
 
 -- the entries gs are those of the jobs js, one for one
 pub record Matching (g : Entry) (j : Job) : Type 0 where
@@ -53,18 +53,18 @@ line-entries e [] [] g f = tt
 line-entries e [] (j ∷ js) g f = absurd f
 line-entries e (k ∷ gs) [] g f = absurd f
 line-entries e (k ∷ gs) (j ∷ js) g f = (
-  record { low = g.0; since = f.0.since; due = omega (arith, f.0.budget, f.0.due, g.1.in-time) },
+  record { low = g.0; since = f.0.since; due = omega (arith, f.0.budget, f.0.due, g.1.in_time) },
   rw f.0.budget (line-entries (ends j) gs js g.2 f.1),
 )
 
 same_end : (t : ℕ) (g : Entry) (j : Job) → Matching g j → leb (ends j) t ≡ leb (j.start + g.budget) t
 same_end t g j f = ap (λ (n : ℕ). leb (j.start + n) t) (sym f.budget)
 
-pub follow-kept : (t : ℕ) (gs : List Entry) (js : List Job) → Follow gs js → Follow (unended t (entries gs js)) (kept t js)
-follow-kept t [] [] f = tt
-follow-kept t [] (j ∷ js) f = absurd f
-follow-kept t (g ∷ gs) [] f = absurd f
-follow-kept t (g ∷ gs) (j ∷ js) f = rw (same_end t g j f.0) (cases (leb (j.start + g.budget) t) (follow-kept t gs js f.1)) where
+pub follow_kept : (t : ℕ) (gs : List Entry) (js : List Job) → Follow gs js → Follow (unended t (entries gs js)) (kept t js)
+follow_kept t [] [] f = tt
+follow_kept t [] (j ∷ js) f = absurd f
+follow_kept t (g ∷ gs) [] f = absurd f
+follow_kept t (g ∷ gs) (j ∷ js) f = rw (same_end t g j f.0) (cases (leb (j.start + g.budget) t) (follow_kept t gs js f.1)) where
   cases : (b : Bool) → Follow (unended t (entries gs js)) (kept t js)
       → Follow (pick b (unended t (entries gs js)) (starting g j.start ∷ unended t (entries gs js))) (pick b (kept t js) (j ∷ kept t js))
   cases true r = r
@@ -106,67 +106,67 @@ ended_by t (r ∷ rs) = cases (leb (finish r) t) refl (ended_by t rs) where
   cases true h w = (leb-true (finish r) t h, w)
   cases false h w = w
 
-pub by-later : (t u : ℕ) (rs : List Entry) → t ≤ u → AllBy t rs → AllBy u rs
-by-later t u [] h g = tt
-by-later t u (r ∷ rs) h g = (omega (arith, g.0), by-later t u rs h g.1)
+pub by_later : (t u : ℕ) (rs : List Entry) → t ≤ u → AllBy t rs → AllBy u rs
+by_later t u [] h g = tt
+by_later t u (r ∷ rs) h g = (omega (arith, g.0), by_later t u rs h g.1)
 
-pub by-join : (t : ℕ) (rs ss : List Entry) → AllBy t rs → AllBy t ss → AllBy t (rs ++ ss)
-by-join t [] ss g h = h
-by-join t (r ∷ rs) ss g h = (g.0, by-join t rs ss g.1 h)
+pub by_join : (t : ℕ) (rs ss : List Entry) → AllBy t rs → AllBy t ss → AllBy t (rs ++ ss)
+by_join t [] ss g h = h
+by_join t (r ∷ rs) ss g h = (g.0, by_join t rs ss g.1 h)
 
 line_low : (e f : ℕ) (rs : List Entry) → f ≤ e → Line e rs → Line f rs
 line_low e f [] h g = tt
 line_low e f (r ∷ rs) h g = (record { low = omega (arith, g.0.low); since = g.0.since; due = g.0.due }, g.1)
 
 -- in place of what follows entries that end by t, entries from t on
-pub line-join : (e t : ℕ) (rs ss zs : List Entry) → e ≤ t → Line e (rs ++ ss) → AllBy t rs → Line t zs → Line e (rs ++ zs)
-line-join e t [] ss zs h g b z = line_low t e zs h z
-line-join e t (r ∷ rs) ss zs h g b z = (g.0, line-join (finish r) t rs ss zs b.0 g.1 b.1 z)
+pub line_join : (e t : ℕ) (rs ss zs : List Entry) → e ≤ t → Line e (rs ++ ss) → AllBy t rs → Line t zs → Line e (rs ++ zs)
+line_join e t [] ss zs h g b z = line_low t e zs h z
+line_join e t (r ∷ rs) ss zs h g b z = (g.0, line_join (finish r) t rs ss zs b.0 g.1 b.1 z)
 
-pub follow-shift : (e : ℕ) (gs : List Entry) (js : List Job) → Follow gs js → Follow gs (shift e js)
-follow-shift e [] [] f = tt
-follow-shift e [] (j ∷ js) f = absurd f
-follow-shift e (g ∷ gs) [] f = absurd f
-follow-shift e (g ∷ gs) (j ∷ js) f = (
+pub follow_shift : (e : ℕ) (gs : List Entry) (js : List Job) → Follow gs js → Follow gs (shift e js)
+follow_shift e [] [] f = tt
+follow_shift e [] (j ∷ js) f = absurd f
+follow_shift e (g ∷ gs) [] f = absurd f
+follow_shift e (g ∷ gs) (j ∷ js) f = (
   record { since = omega (arith, f.0.since); budget = f.0.budget; due = f.0.due },
-  follow-shift (max e j.start + j.budget) gs js f.1,
+  follow_shift (max e j.start + j.budget) gs js f.1,
 )
 
-pub follow-insert : (i : ℕ) (g : Entry) (gs : List Entry) (js : List Job) (s : ℕ) → g.since ≤ s → Follow gs js
-    → Follow (withEntry i g gs) (insertAt i (job s g.budget g.deadline 0) js)
-follow-insert zero g gs js s h f = (record { since = h; budget = refl; due = refl }, follow-shift (s + g.budget) gs js f)
-follow-insert (suc i) g [] [] s h f = (record { since = h; budget = refl; due = refl }, tt)
-follow-insert (suc i) g [] (j ∷ js) s h f = absurd f
-follow-insert (suc i) g (k ∷ gs) [] s h f = absurd f
-follow-insert (suc i) g (k ∷ gs) (j ∷ js) s h f =
-    (record { since = f.0.since; budget = f.0.budget; due = f.0.due }, follow-insert i g gs js s h f.1)
+pub follow_insert : (i : ℕ) (g : Entry) (gs : List Entry) (js : List Job) (s : ℕ) → g.since ≤ s → Follow gs js
+    → Follow (with_entry i g gs) (insert_at i (job s g.budget g.deadline 0) js)
+follow_insert zero g gs js s h f = (record { since = h; budget = refl; due = refl }, follow_shift (s + g.budget) gs js f)
+follow_insert (suc i) g [] [] s h f = (record { since = h; budget = refl; due = refl }, tt)
+follow_insert (suc i) g [] (j ∷ js) s h f = absurd f
+follow_insert (suc i) g (k ∷ gs) [] s h f = absurd f
+follow_insert (suc i) g (k ∷ gs) (j ∷ js) s h f =
+    (record { since = f.0.since; budget = f.0.budget; due = f.0.due }, follow_insert i g gs js s h f.1)
 
-pub follow-open : (js : List Job) → Follow (standing js) (flexes js)
-follow-open [] = tt
-follow-open (j ∷ js) = (record { since = omega arith; budget = refl; due = refl }, follow-open js)
+pub follow_open : (js : List Job) → Follow (standing js) (flexes js)
+follow_open [] = tt
+follow_open (j ∷ js) = (record { since = omega arith; budget = refl; due = refl }, follow_open js)
 
-pub entries-open : (js : List Job) → entries (standing js) (flexes js) ≡ standing js
-entries-open [] = refl
-entries-open (j ∷ js) = ap (λ (rs : List Entry). entry j.start j.budget j.deadline j.start ∷ rs) (entries-open js)
+pub entries_open : (js : List Job) → entries (standing js) (flexes js) ≡ standing js
+entries_open [] = refl
+entries_open (j ∷ js) = ap (λ (rs : List Entry). entry j.start j.budget j.deadline j.start ∷ rs) (entries_open js)
 
-pub line-held : (e : ℕ) (rs : List Entry) (k : ℕ) → k < length rs → Line e rs → Held e (get_or rs k noEntry)
+pub line-held : (e : ℕ) (rs : List Entry) (k : ℕ) → k < length rs → Line e rs → Held e (get_or rs k no_entry)
 line-held e [] k h g = absurd (omega arith)
 line-held e (r ∷ rs) zero h g = g.0
 line-held e (r ∷ rs) (suc k) h g =
     let w = line-held (finish r) rs k (omega arith) g.1 in
     record { low = omega (arith, w.low, g.0.low); since = w.since; due = w.due }
 
-pub line-apart : (e : ℕ) (rs : List Entry) (i k : ℕ) → i < k → k < length rs → Line e rs → finish (get_or rs i noEntry) ≤ (get_or rs k noEntry).start
+pub line-apart : (e : ℕ) (rs : List Entry) (i k : ℕ) → i < k → k < length rs → Line e rs → finish (get_or rs i no_entry) ≤ (get_or rs k no_entry).start
 line-apart e [] i k h l g = absurd (omega arith)
 line-apart e (r ∷ rs) zero zero h l g = absurd (omega arith)
 line-apart e (r ∷ rs) zero (suc k) h l g = (line-held (finish r) rs k (omega arith) g.1).low
 line-apart e (r ∷ rs) (suc i) zero h l g = absurd (omega arith)
 line-apart e (r ∷ rs) (suc i) (suc k) h l g = line-apart (finish r) rs i k (omega arith) (omega arith) g.1
 
-pub line-promise : (e : ℕ) (rs : List Entry) → Line e rs → Promise rs
-line-promise e rs g =
+pub line_promise : (e : ℕ) (rs : List Entry) → Line e rs → Promise rs
+line_promise e rs g =
     record {
-      not-before = λ k h. (line-held e rs k h g).since;
-      in-time = λ k h. (line-held e rs k h g).due;
+      not_before = λ k h. (line-held e rs k h g).since;
+      in_time = λ k h. (line-held e rs k h g).due;
       apart = λ i k h l. line-apart e rs i k h l g;
     }

@@ -15,67 +15,67 @@ use Rattle.rules.specs.declared.Refusal.TheVariants.{Busy, Full, NoPlace}
 use Rattle.rules.proofs.Tests.{and_parts}
 use Rattle.desk.specs.declared.Job.{Job}
 use Rattle.desk.specs.declared.Answer.TheVariants.{Taken}
-use Rattle.desk.specs.Table.{job, xOf, rightX, ends, Outcome}
+use Rattle.desk.specs.Table.{job, x_of, right_x, ends, Outcome}
 use Rattle.desk.specs.Places.{early, start_at, room}
-use Rattle.desk.specs.Request.{kept, findFrom, insertAt, requestOf, At, Nowhere}
+use Rattle.desk.specs.Request.{kept, find_from, insert_at, request_of, At, Nowhere}
 use Rattle.desk.specs.Call.{said}
-use Rattle.desk.specs.Story.{Entry, entry, noEntry, finish, standing, entries, Promise, Later, Joined}
+use Rattle.desk.specs.Story.{Entry, entry, no_entry, finish, standing, entries, Promise, Later, Joined}
 use Rattle.desk.specs.Theorems.{Refuses, Fits, NoLower, TakenExactly, NoPlaceExactly, TakenStart}
 use Rattle.desk.proofs.Chain.{Chain}
-use Rattle.desk.proofs.Spot.{Spot, early-late, right-tail, spot-start, spot-inside, chain-insert}
+use Rattle.desk.proofs.Spot.{Spot, early-late, right_tail, spot_start, spot_inside, chain_insert}
 use Rattle.desk.proofs.Rules.{good_of, good-kept, fresh, running, full, nowhere, Ending, same, dropped, taken, ending, sound-unless, sound-taken}
-use Rattle.desk.proofs.Entries.{withEntry, Follow, line-entries, follow-insert, follow-open, entries-open, line-promise}
-use Rattle.desk.proofs.Still.{join-here}
+use Rattle.desk.proofs.Entries.{with_entry, Follow, line-entries, follow_insert, follow_open, entries_open, line_promise}
+use Rattle.desk.proofs.Still.{join_here}
 
 -- A PLACE THAT IS FOUND KEEPS EVERY DEADLINE
 
-spot-fits : (t c d i : ℕ) (js : List Job) (s : ℕ) → 1 ≤ c → d ≤ latest → Chain t js → rightX js ≡ true → Spot c d t i js s → Fits t c d js
-spot-fits t c d i js s some low g r spot =
+spot_fits : (t c d i : ℕ) (js : List Job) (s : ℕ) → 1 ≤ c → d ≤ latest → Chain t js → right_x js ≡ true → Spot c d t i js s → Fits t c d js
+spot_fits t c d i js s some low g r spot =
     let mark = entry t c d s in
     let gs = standing js in
-    let us = entries (withEntry i mark gs) (insertAt i (job s c d 0) js) in
-    let from = spot-start c d t i js s g spot in
-    let f : Follow gs js = subst (λ (ks : List Job). Follow gs ks) (fresh js r) (follow-open js) in
-    let is : entries gs js ≡ gs = subst (λ (ks : List Job). entries gs ks ≡ gs) (fresh js r) (entries-open js) in
+    let us = entries (with_entry i mark gs) (insert_at i (job s c d 0) js) in
+    let from = spot_start c d t i js s g spot in
+    let f : Follow gs js = subst (λ (ks : List Job). Follow gs ks) (fresh js r) (follow_open js) in
+    let is : entries gs js ≡ gs = subst (λ (ks : List Job). entries gs ks ≡ gs) (fresh js r) (entries_open js) in
     record {
       place = i;
       start = s;
       arranged = us;
-      joins = subst (λ (rs : List Entry). Joined rs us i mark) is (join-here i mark gs js s from f (spot-inside c d t i js s spot));
-      keeps = line-promise t us (line-entries t (withEntry i mark gs) (insertAt i (job s c d 0) js) (chain-insert c d t i js s some low g r spot) (follow-insert i mark gs js s from f));
+      joins = subst (λ (rs : List Entry). Joined rs us i mark) is (join_here i mark gs js s from f (spot_inside c d t i js s spot));
+      keeps = line_promise t us (line-entries t (with_entry i mark gs) (insert_at i (job s c d 0) js) (chain_insert c d t i js s some low g r spot) (follow_insert i mark gs js s from f));
     }
 
 -- NO START THAT KEEPS THE DEADLINES IS BEYOND A JOB'S X
 
-tail-promise : (u : Entry) (us : List Entry) → Promise (u ∷ us) → Promise us
-tail-promise u us p =
+tail_promise : (u : Entry) (us : List Entry) → Promise (u ∷ us) → Promise us
+tail_promise u us p =
     record {
-      not-before = λ k h. p.not-before (suc k) (omega arith);
-      in-time = λ k h. p.in-time (suc k) (omega arith);
+      not_before = λ k h. p.not_before (suc k) (omega arith);
+      in_time = λ k h. p.in_time (suc k) (omega arith);
       apart = λ i k h l. p.apart (suc i) (suc k) (omega arith) (omega arith);
     }
 
 -- us are the jobs js, one for one, none earlier
 record Delayed (js : List Job) (us : List Entry) : Type 0 where
   same : length us ≡ length (standing js)
-  later : (m : ℕ) → m < length (standing js) → Later (get_or (standing js) m noEntry) (get_or us m noEntry)
+  later : (m : ℕ) → m < length (standing js) → Later (get_or (standing js) m no_entry) (get_or us m no_entry)
 
-tail-delayed : (j : Job) (js : List Job) (u : Entry) (us : List Entry) → Delayed (j ∷ js) (u ∷ us) → Delayed js us
-tail-delayed j js u us w = record { same = omega (arith, w.same); later = λ m h. w.later (suc m) (omega arith) }
+tail_delayed : (j : Job) (js : List Job) (u : Entry) (us : List Entry) → Delayed (j ∷ js) (u ∷ us) → Delayed js us
+tail_delayed j js u us w = record { same = omega (arith, w.same); later = λ m h. w.later (suc m) (omega arith) }
 
-limit : (j : Job) (js : List Job) (u : Entry) (us : List Entry) → rightX (j ∷ js) ≡ true → Delayed (j ∷ js) (u ∷ us) → Promise (u ∷ us)
+limit : (j : Job) (js : List Job) (u : Entry) (us : List Entry) → right_x (j ∷ js) ≡ true → Delayed (j ∷ js) (u ∷ us) → Promise (u ∷ us)
     → u.start ≤ j.start + j.flex
 limit j [] u us r w p =
-    let x : j.flex ≡ j.deadline - j.start - j.budget = eqb-true _ _ (and_parts _ (rightX []) r).0 in
+    let x : j.flex ≡ j.deadline - j.start - j.budget = eqb-true _ _ (and_parts _ (right_x []) r).0 in
     let one = w.later 0 (omega arith) in
-    let due : u.start + j.budget ≤ j.deadline = rw (one.1, one.2) (p.in-time 0 (omega arith)) in
+    let due : u.start + j.budget ≤ j.deadline = rw (one.1, one.2) (p.in_time 0 (omega arith)) in
     omega (arith, one.3)
 limit j (k ∷ ks) u [] r w p = absurd (omega (arith, w.same))
 limit j (k ∷ ks) u (v ∷ vs) r w p =
-    let x : j.flex ≡ xOf j (k ∷ ks) = eqb-true _ _ (and_parts _ (rightX (k ∷ ks)) r).0 in
+    let x : j.flex ≡ x_of j (k ∷ ks) = eqb-true _ _ (and_parts _ (right_x (k ∷ ks)) r).0 in
     let one = w.later 0 (omega arith) in
-    let due : u.start + j.budget ≤ j.deadline = rw (one.1, one.2) (p.in-time 0 (omega arith)) in
-    let next : v.start ≤ k.start + k.flex = limit k ks v vs (right-tail j (k ∷ ks) r) (tail-delayed j (k ∷ ks) u (v ∷ vs) w) (tail-promise u (v ∷ vs) p) in
+    let due : u.start + j.budget ≤ j.deadline = rw (one.1, one.2) (p.in_time 0 (omega arith)) in
+    let next : v.start ≤ k.start + k.flex = limit k ks v vs (right_tail j (k ∷ ks) r) (tail_delayed j (k ∷ ks) u (v ∷ vs) w) (tail_promise u (v ∷ vs) p) in
     let after : u.start + j.budget ≤ v.start = rw one.1 (p.apart 0 1 (omega arith) (omega arith)) in
     omega (arith, one.3)
 
@@ -85,26 +85,26 @@ module _ (b c d s : ℕ) where
   abbrev mark : Entry
   mark = entry b c d s
 
-  not-before : (rs us : List Entry) (p : ℕ) → Joined rs us p mark → Promise us → b ≤ s
-  not-before rs us p w h =
+  not_before : (rs us : List Entry) (p : ℕ) → Joined rs us p mark → Promise us → b ≤ s
+  not_before rs us p w h =
       let small : p < length us = omega (arith, w.inside, w.one_more) in
-      subst (λ (r : Entry). r.since ≤ r.start) w.there (h.not-before p small)
+      subst (λ (r : Entry). r.since ≤ r.start) w.there (h.not_before p small)
 
-  in-time : (rs us : List Entry) (p : ℕ) → Joined rs us p mark → Promise us → s + c ≤ d
-  in-time rs us p w h =
+  in_time : (rs us : List Entry) (p : ℕ) → Joined rs us p mark → Promise us → s + c ≤ d
+  in_time rs us p w h =
       let small : p < length us = omega (arith, w.inside, w.one_more) in
-      subst (λ (r : Entry). finish r ≤ r.deadline) w.there (h.in-time p small)
+      subst (λ (r : Entry). finish r ≤ r.deadline) w.there (h.in_time p small)
 
   -- at the first place the next job need not go beyond its x
-  first-near : (j : Job) (js : List Job) (us : List Entry) → rightX (j ∷ js) ≡ true → Joined (standing (j ∷ js)) us 0 mark → Promise us
+  first_near : (j : Job) (js : List Job) (us : List Entry) → right_x (j ∷ js) ≡ true → Joined (standing (j ∷ js)) us 0 mark → Promise us
       → s + c ≤ j.start + j.flex
-  first-near j js [] r w h = absurd (omega (arith, w.one_more))
-  first-near j js (x ∷ []) r w h = absurd (omega (arith, w.one_more))
-  first-near j js (x ∷ u ∷ us) r w h =
+  first_near j js [] r w h = absurd (omega (arith, w.one_more))
+  first_near j js (x ∷ []) r w h = absurd (omega (arith, w.one_more))
+  first_near j js (x ∷ u ∷ us) r w h =
       let z : x ≡ mark = w.there in
       let after : s + c ≤ u.start = subst (λ (y : Entry). finish y ≤ u.start) z (h.apart 0 1 (omega arith) (omega arith)) in
       let later : Delayed (j ∷ js) (u ∷ us) = record { same = omega (arith, w.one_more); later = λ m g. w.later m (omega arith) g } in
-      omega (arith, limit j js u us r later (tail-promise x (u ∷ us) h))
+      omega (arith, limit j js u us r later (tail_promise x (u ∷ us) h))
 
   -- behind the first job it is the same of the others
   record Behind (j : Job) (js : List Job) (p : ℕ) : Type 0 where
@@ -119,10 +119,10 @@ module _ (b c d s : ℕ) where
       let same : u ∷ take p us ≡ entry j.start j.budget j.deadline j.start ∷ take p (standing js) = w.before in
       let is : u ≡ entry j.start j.budget j.deadline j.start = cc in
       let small : suc p < length (u ∷ us) = omega (arith, w.inside, w.one_more) in
-      let after : finish u ≤ (get_or us p noEntry).start = h.apart 0 (suc p) (omega arith) small in
+      let after : finish u ≤ (get_or us p no_entry).start = h.apart 0 (suc p) (omega arith) small in
       record {
         rest = us;
-        from = subst (λ (r : Entry). ends j ≤ r.start) w.there (subst (λ (r : Entry). finish r ≤ (get_or us p noEntry).start) is after);
+        from = subst (λ (r : Entry). ends j ≤ r.start) w.there (subst (λ (r : Entry). finish r ≤ (get_or us p no_entry).start) is after);
         joins = record {
           one_more = omega (arith, w.one_more);
           inside = omega (arith, w.inside);
@@ -130,7 +130,7 @@ module _ (b c d s : ℕ) where
           before = cc;
           later = λ m low short. w.later (suc m) (omega arith) (omega arith);
         };
-        keeps = tail-promise u us h;
+        keeps = tail_promise u us h;
       }
 
   has_room : (e : ℕ) (j : Job) → e ≤ j.start → j.start ≤ d → e + c ≤ d → e + c ≤ j.start + j.flex → c ≤ room e d j
@@ -143,41 +143,41 @@ module _ (b c d s : ℕ) where
       let y : ◌≡◌ {A = ℕ} 0 1 = cc in
       omega arith
 
-  complete : (k e : ℕ) (js : List Job) (p : ℕ) (us : List Entry) → Chain e js → rightX js ≡ true → e ≤ s → Joined (standing js) us p mark → Promise us
-      → findFrom k e c d (take (early d js) js) ≡ Nowhere → ⊥
-  complete k e [] p us g r low w h q = not_last k e (omega (arith, in-time [] us p w h)) q
-  complete k e (j ∷ js) p us g r low w h q = by-early (leb j.start d) refl q (λ n v b. complete (k + 1) (ends j) js n b.rest g.2 (right-tail j js r) b.from b.joins b.keeps v) where
+  complete : (k e : ℕ) (js : List Job) (p : ℕ) (us : List Entry) → Chain e js → right_x js ≡ true → e ≤ s → Joined (standing js) us p mark → Promise us
+      → find_from k e c d (take (early d js) js) ≡ Nowhere → ⊥
+  complete k e [] p us g r low w h q = not_last k e (omega (arith, in_time [] us p w h)) q
+  complete k e (j ∷ js) p us g r low w h q = by_early (leb j.start d) refl q (λ n v b. complete (k + 1) (ends j) js n b.rest g.2 (right_tail j js r) b.from b.joins b.keeps v) where
     due : e + c ≤ d
-    due = omega (arith, in-time (standing (j ∷ js)) us p w h)
+    due = omega (arith, in_time (standing (j ∷ js)) us p w h)
 
     Rest : Type 0
-    Rest = findFrom (k + 1) (ends j) c d (take (early d js) js) ≡ Nowhere
+    Rest = find_from (k + 1) (ends j) c d (take (early d js) js) ≡ Nowhere
 
     by_place : (n : ℕ) → Joined (standing (j ∷ js)) us n mark → j.start ≤ d → room e d j < c → Rest → ((n : ℕ) → Rest → Behind j js n → ⊥) → ⊥
     by_place zero v early less z more =
-        let enough : c ≤ room e d j = has_room e j g.0 early due (omega (arith, first-near j js us r v h)) in
+        let enough : c ≤ room e d j = has_room e j g.0 early due (omega (arith, first_near j js us r v h)) in
         omega arith
     by_place (suc n) v early less z more = more n z (behind j js n us v h)
 
-    by-room : (b : Bool) → leb c (room e d j) ≡ b → j.start ≤ d → pick b (At k e) (findFrom (k + 1) (ends j) c d (take (early d js) js)) ≡ Nowhere
+    by_room : (b : Bool) → leb c (room e d j) ≡ b → j.start ≤ d → pick b (At k e) (find_from (k + 1) (ends j) c d (take (early d js) js)) ≡ Nowhere
         → ((n : ℕ) → Rest → Behind j js n → ⊥) → ⊥
-    by-room true u early z more = let y : ◌≡◌ {A = ℕ} 0 1 = cc in omega arith
-    by-room false u early z more = by_place p w early (leb-false c (room e d j) u) z more
+    by_room true u early z more = let y : ◌≡◌ {A = ℕ} 0 1 = cc in omega arith
+    by_room false u early z more = by_place p w early (leb-false c (room e d j) u) z more
 
-    by-early : (b : Bool) → leb j.start d ≡ b → findFrom k e c d (take (pick b (suc (early d js)) (early d js)) (j ∷ js)) ≡ Nowhere
+    by_early : (b : Bool) → leb j.start d ≡ b → find_from k e c d (take (pick b (suc (early d js)) (early d js)) (j ∷ js)) ≡ Nowhere
         → ((n : ℕ) → Rest → Behind j js n → ⊥) → ⊥
-    by-early true u z more = by-room (leb c (room e d j)) refl (leb-true _ _ u) z more
-    by-early false u z more =
+    by_early true u z more = by_room (leb c (room e d j)) refl (leb-true _ _ u) z more
+    by_early false u z more =
         let none = early-late d (ends j) js (omega (arith, leb-false j.start d u)) g.2 in
         not_last k e due (rw none at z)
 
 -- A REQUEST THAT NO LOWER NUMBER REFUSES
 
-spot-at : (c d e p : ℕ) (js : List Job) (s : ℕ) → Spot c d e p js s → s ≡ start_at e js p
-spot-at c d e zero js s h = h.0
-spot-at c d e (suc p) [] s h = absurd h
-spot-at c d e (suc zero) (j ∷ js) s h = h.0
-spot-at c d e (suc (suc p)) (j ∷ js) s h = spot-at c d (ends j) (suc p) js s h
+spot_at : (c d e p : ℕ) (js : List Job) (s : ℕ) → Spot c d e p js s → s ≡ start_at e js p
+spot_at c d e zero js s h = h.0
+spot_at c d e (suc p) [] s h = absurd h
+spot_at c d e (suc zero) (j ∷ js) s h = h.0
+spot_at c d e (suc (suc p)) (j ∷ js) s h = spot_at c d (ends j) (suc p) js s h
 
 module _ (clock n : ℕ) (l : List Job) (t c d : ℕ) where
   abbrev js : List Job
@@ -187,7 +187,7 @@ module _ (clock n : ℕ) (l : List Job) (t c d : ℕ) where
   abbrev Sought : Outcome → Type 0
   Sought o = (((said o.answer).number ≡ 0) × Fits t c d js) ⊎ (((said o.answer).number ≡ 18) × (Fits t c d js → ⊥))
 
-  sought : rightX js ≡ true → (o : Outcome) → NoLower o → Ending clock n l t c d o → Sought o
+  sought : right_x js ≡ true → (o : Outcome) → NoLower o → Ending clock n l t c d o → Sought o
   sought right o nl (same r h) = absurd (nl (told r).number (omega arith) (omega arith) refl)
   sought right o nl (dropped Busy (running b) late small) = absurd (nl 16 (omega arith) (omega arith) refl)
   sought right o nl (dropped Full full late small) = absurd (nl 17 (omega arith) (omega arith) refl)
@@ -195,23 +195,23 @@ module _ (clock n : ℕ) (l : List Job) (t c d : ℕ) where
       inr (
         refl,
         λ f.
-            let from = not-before _ c d f.start _ f.arranged f.place f.joins f.keeps in
+            let from = not_before _ c d f.start _ f.arranged f.place f.joins f.keeps in
             complete _ c d f.start 0 t js f.place f.arranged g right from f.joins f.keeps e,
       )
-  sought right o nl (taken i s late small some due few g spot) = inl (refl, spot-fits t c d i js s some due g right spot)
+  sought right o nl (taken i s late small some due few g spot) = inl (refl, spot_fits t c d i js s some due g right spot)
 
-  sought-of : NoLower (requestOf clock n l t c d) → Sought (requestOf clock n l t c d)
-  sought-of nl =
+  sought_of : NoLower (request_of clock n l t c d) → Sought (request_of clock n l t c d)
+  sought_of nl =
       let sound = sound-unless clock n l t c d (nl 13 (omega arith) (omega arith)) in
-      sought (good-kept t n (take n l) (good_of clock n l sound)).right (requestOf clock n l t c d) nl (ending clock n l t c d sound)
+      sought (good-kept t n (take n l) (good_of clock n l sound)).right (request_of clock n l t c d) nl (ending clock n l t c d sound)
 
-  taken-fits : (o : Outcome) → Sought o → ((said o.answer).number ≡ 0) ↔ Fits t c d js
-  taken-fits o (inl w) = (λ e. w.1, λ f. w.0)
-  taken-fits o (inr w) = (λ e. absurd (omega (arith, w.0)), λ f. absurd (w.1 f))
+  taken_fits : (o : Outcome) → Sought o → ((said o.answer).number ≡ 0) ↔ Fits t c d js
+  taken_fits o (inl w) = (λ e. w.1, λ f. w.0)
+  taken_fits o (inr w) = (λ e. absurd (omega (arith, w.0)), λ f. absurd (w.1 f))
 
-  refused-fits : (o : Outcome) → Sought o → (Refuses o 18 → Fits t c d js → ⊥) × ((Fits t c d js → ⊥) → Refuses o 18)
-  refused-fits o (inl w) = (λ e. absurd (omega (arith, w.0)), λ f. absurd (f w.1))
-  refused-fits o (inr w) = (λ e. w.1, λ f. w.0)
+  refused_fits : (o : Outcome) → Sought o → (Refuses o 18 → Fits t c d js → ⊥) × ((Fits t c d js → ⊥) → Refuses o 18)
+  refused_fits o (inl w) = (λ e. absurd (omega (arith, w.0)), λ f. absurd (f w.1))
+  refused_fits o (inr w) = (λ e. w.1, λ f. w.0)
 
   started : (o : Outcome) (i s : ℕ) → o.answer ≡ Taken i s → Ending clock n l t c d o → s ≡ start_at t js i
   started o i s e (same r h) = absurd (let z : ◌≡◌ {A = ℕ} 0 1 = cc in omega arith)
@@ -219,19 +219,19 @@ module _ (clock n : ℕ) (l : List Job) (t c d : ℕ) where
   started o i s e (taken i₂ s₂ late small some due few g spot) =
       let zi : i₂ ≡ i = cc in
       let zs : s₂ ≡ s = cc in
-      rw (← zi, ← zs) (spot-at c d t i₂ js s₂ spot)
+      rw (← zi, ← zs) (spot_at c d t i₂ js s₂ spot)
 
 pub taken_start : TakenStart
 taken_start clock n l t c d i s e =
-    started clock n l t c d (requestOf clock n l t c d) i s e (ending clock n l t c d (sound-taken clock n l t c d i s e))
+    started clock n l t c d (request_of clock n l t c d) i s e (ending clock n l t c d (sound-taken clock n l t c d i s e))
 
-pub taken-exactly : TakenExactly
-taken-exactly clock n l t c d nl = taken-fits clock n l t c d (requestOf clock n l t c d) (sought-of clock n l t c d nl)
+pub taken_exactly : TakenExactly
+taken_exactly clock n l t c d nl = taken_fits clock n l t c d (request_of clock n l t c d) (sought_of clock n l t c d nl)
 
-pub no-place-exactly : NoPlaceExactly
-no-place-exactly clock n l t c d = (
-  λ e. (none e, (refused-fits clock n l t c d (requestOf clock n l t c d) (sought-of clock n l t c d (none e))).0 e),
-  λ w. (refused-fits clock n l t c d (requestOf clock n l t c d) (sought-of clock n l t c d w.0)).1 w.1,
+pub no_place_exactly : NoPlaceExactly
+no_place_exactly clock n l t c d = (
+  λ e. (none e, (refused_fits clock n l t c d (request_of clock n l t c d) (sought_of clock n l t c d (none e))).0 e),
+  λ w. (refused_fits clock n l t c d (request_of clock n l t c d) (sought_of clock n l t c d w.0)).1 w.1,
 ) where
-  none : Refuses (requestOf clock n l t c d) 18 → NoLower (requestOf clock n l t c d)
+  none : Refuses (request_of clock n l t c d) 18 → NoLower (request_of clock n l t c d)
   none e m h g f = omega arith

@@ -11,24 +11,24 @@ use Rattle.rules.specs.declared.Refusal.{Refusal}
 use Rattle.rules.specs.declared.Refusal.TheVariants.{Rules, Numbers, Past, Busy, Full, NoPlace}
 use Rattle.desk.specs.declared.Job.{Job}
 use Rattle.desk.specs.declared.Answer.TheVariants.{Opened, Taken, Refused}
-use Rattle.desk.specs.Table.{none, filled, outcome, flexes, tableOk, openOf, Outcome}
-use Rattle.desk.specs.Reason.{explanationOf}
-use Rattle.desk.specs.Request.{kept, find, dropping, taking, drops, requestOf, Place, At, Nowhere}
-use Rattle.desk.specs.Story.{Entry, noEntry, entries, Story, begin}
+use Rattle.desk.specs.Table.{none, filled, outcome, flexes, table_ok, open_of, Outcome}
+use Rattle.desk.specs.Reason.{explanation_of}
+use Rattle.desk.specs.Request.{kept, find, dropping, taking, drops, request_of, Place, At, Nowhere}
+use Rattle.desk.specs.Story.{Entry, no_entry, entries, Story, begin}
 use Rattle.desk.specs.Theorems.{OpenLeaves, Refuses, OpenTells, InEveryStory, Matches, Proved}
-use Rattle.desk.proofs.Rules.{Sound, request-sound, request-not-13, opened-table, open_is, open-sound, open-good, open-sound-unless, sound-unless, afresh}
-use Rattle.desk.proofs.Entries.{Follow, entries-open}
+use Rattle.desk.proofs.Rules.{Sound, request_sound, request_not_13, opened_table, open_is, open_sound, open_good, open_sound_unless, sound-unless, afresh}
+use Rattle.desk.proofs.Entries.{Follow, entries_open}
 use Rattle.desk.proofs.Promise.{take-filled, table, Kept, kept-good, kept-many, kept-begin, promise}
-use Rattle.desk.proofs.Exactly.{taken_start, taken-exactly, no-place-exactly}
-use Rattle.desk.proofs.Busy.{busy-ends}
-use Rattle.desk.proofs.Moves.{room-never-too-far, never-too-far}
-use Rattle.desk.proofs.Reason.{no-place-roomiest, no-place-nowhere, no-place-breaks, no-place-room-taken}
-use Rattle.desk.proofs.Ready.{Comes, at-13, at-14, at-15, at-16, at-17, through, comes, lower-exactly}
-use Rattle.desk.proofs.Still.{refused-same, taken-joined, still, all-since-opening, still-ever, length-entries}
+use Rattle.desk.proofs.Exactly.{taken_start, taken_exactly, no_place_exactly}
+use Rattle.desk.proofs.Busy.{busy_ends}
+use Rattle.desk.proofs.Moves.{room_never_too_far, never_too_far}
+use Rattle.desk.proofs.Reason.{no_place_roomiest, no_place_nowhere, no_place_breaks, no_place_room_taken}
+use Rattle.desk.proofs.Ready.{Comes, at_13, at_14, at_15, at_16, at_17, through, comes, lower_exactly}
+use Rattle.desk.proofs.Still.{refused-same, taken-joined, still, all-since_opening, still_ever, length-entries}
 
-open-leaves : OpenLeaves
-unfolding openOf
-open-leaves clock n l r e = cases (tableOk n l) e where
+open_leaves : OpenLeaves
+unfolding open_of
+open_leaves clock n l r e = cases (table_ok n l) e where
   cases : (b : Bool) → (pick b (outcome (filled (flexes (take n l))) n 0 Opened) (outcome l n clock (Refused Rules))).answer ≡ Refused r
       → pick b (outcome (filled (flexes (take n l))) n 0 Opened) (outcome l n clock (Refused Rules)) ≡ outcome l n clock (Refused Rules)
   cases true w = absurd (let z : ◌≡◌ {A = ℕ} 0 1 = cc in omega arith)
@@ -58,35 +58,35 @@ module _ (clock n : ℕ) (l : List Job) (t c d : ℕ) where
         taken = λ i s e. refl;
       }
 
-  right-placed : (p : Place) → Right (taking t c d (kept t (take n l)) p)
-  right-placed Nowhere = drops-all (NoPlace (explanationOf t d (kept t (take n l)))) refl
-  right-placed (At i s) = record { refused = λ r e. absurd (let z : ◌≡◌ {A = ℕ} 0 1 = cc in omega arith); taken = λ k u e. refl }
+  right_placed : (p : Place) → Right (taking t c d (kept t (take n l)) p)
+  right_placed Nowhere = drops-all (NoPlace (explanation_of t d (kept t (take n l)))) refl
+  right_placed (At i s) = record { refused = λ r e. absurd (let z : ◌≡◌ {A = ℕ} 0 1 = cc in omega arith); taken = λ k u e. refl }
 
-  right_by : (o : Outcome) → Comes clock n l t c d o → Right o
-  right_by o (at-13 e) = stays Rules refl
-  right_by o (at-14 e) = stays Numbers refl
-  right_by o (at-15 e) = stays Past refl
-  right_by o (at-16 late small e) = drops-all Busy refl
-  right_by o (at-17 late small e) = drops-all Full refl
-  right_by o (through w) = right-placed (find t c d (kept t (take n l)))
+  right_by_lem : (o : Outcome) → Comes clock n l t c d o → Right o
+  right_by_lem o (at_13 e) = stays Rules refl
+  right_by_lem o (at_14 e) = stays Numbers refl
+  right_by_lem o (at_15 e) = stays Past refl
+  right_by_lem o (at_16 late small e) = drops-all Busy refl
+  right_by_lem o (at_17 late small e) = drops-all Full refl
+  right_by_lem o (through w) = right_placed (find t c d (kept t (take n l)))
 
-  right-request : Right (requestOf clock n l t c d)
-  right-request = right_by (requestOf clock n l t c d) (comes clock n l t c d)
+  right_request : Right (request_of clock n l t c d)
+  right_request = right_by_lem (request_of clock n l t c d) (comes clock n l t c d)
 
-open-tells : OpenTells
-open-tells clock n l e =
-    let ok = opened-table clock n l e in
-    let left : take (openOf clock n l).count (openOf clock n l).jobs ≡ flexes (take n l) =
-    rw (open_is clock n l ok) (take-filled (flexes (take n l)) n (open-good clock n l ok).count) in
-    rw left (entries-open (take n l))
+open_tells : OpenTells
+open_tells clock n l e =
+    let ok = opened_table clock n l e in
+    let left : take (open_of clock n l).count (open_of clock n l).jobs ≡ flexes (take n l) =
+    rw (open_is clock n l ok) (take-filled (flexes (take n l)) n (open_good clock n l ok).count) in
+    rw left (entries_open (take n l))
 
-kept-story : InEveryStory (λ h. Kept h)
-kept-story clock n l e qs = kept-many qs (begin clock n l) (kept-begin clock n l (opened-table clock n l e))
+kept_story : InEveryStory (λ h. Kept h)
+kept_story clock n l e qs = kept-many qs (begin clock n l) (kept-begin clock n l (opened_table clock n l e))
 
 entry_at : (gs : List Entry) (js : List Job) (k : ℕ) → Follow gs js → k < length js
-    → ((get_or (entries gs js) k noEntry).start ≡ (get_or js k none).start)
-    × ((get_or (entries gs js) k noEntry).budget ≡ (get_or js k none).budget)
-    × ((get_or (entries gs js) k noEntry).deadline ≡ (get_or js k none).deadline)
+    → ((get_or (entries gs js) k no_entry).start ≡ (get_or js k none).start)
+    × ((get_or (entries gs js) k no_entry).budget ≡ (get_or js k none).budget)
+    × ((get_or (entries gs js) k no_entry).deadline ≡ (get_or js k none).deadline)
 entry_at [] [] k f h = absurd (omega arith)
 entry_at [] (j ∷ js) k f h = absurd f
 entry_at (g ∷ gs) [] k f h = absurd f
@@ -105,38 +105,38 @@ tells h w =
       deadline = λ k g. (entry_at h.listed (table h) k w.follow (omega (arith, long))).2 ∙ ap (λ (j : Job). j.deadline) (at k g);
     }
 
-not-rules : (clock n : ℕ) (l : List Job) → Sound clock n l → (t c d : ℕ) → Refuses (requestOf clock n l t c d) 13 → ⊥
-not-rules clock n l s t c d = request-not-13 clock n l t c d s
+not-rules : (clock n : ℕ) (l : List Job) → Sound clock n l → (t c d : ℕ) → Refuses (request_of clock n l t c d) 13 → ⊥
+not-rules clock n l s t c d = request_not_13 clock n l t c d s
 
 pub proved : Proved
 proved =
     record {
-      open-leaves = open-leaves;
-      request-leaves = λ clock n l t c d. (right-request clock n l t c d).refused;
-      taken-sets-clock = λ clock n l t c d. (right-request clock n l t c d).taken;
-      open-keeps-rules = λ clock n l e. (open-sound clock n l (opened-table clock n l e)).test;
-      request-keeps-rules = λ clock n l t c d h. (request-sound clock n l t c d (record { test = h })).test;
-      not-rules-after-open = λ clock n l h. not-rules _ _ _ (open-sound-unless clock n l h);
-      not-rules-after-request = λ clock n l t c d h. not-rules _ _ _ (request-sound clock n l t c d (sound-unless clock n l t c d h));
-      open-afresh = λ clock n l h. afresh (openOf clock n l) (open-sound-unless clock n l h);
-      request-afresh = λ clock n l t c d h. afresh (requestOf clock n l t c d) (request-sound clock n l t c d (sound-unless clock n l t c d h));
-      room-never-too-far = room-never-too-far;
-      never-too-far = never-too-far;
-      lower-exactly = lower-exactly;
-      taken-exactly = taken-exactly;
-      no-place-exactly = no-place-exactly;
+      open_leaves = open_leaves;
+      request_leaves = λ clock n l t c d. (right_request clock n l t c d).refused;
+      taken_sets_clock = λ clock n l t c d. (right_request clock n l t c d).taken;
+      open_keeps_rules = λ clock n l e. (open_sound clock n l (opened_table clock n l e)).test;
+      request_keeps_rules = λ clock n l t c d h. (request_sound clock n l t c d (record { test = h })).test;
+      not_rules_after_open = λ clock n l h. not-rules _ _ _ (open_sound_unless clock n l h);
+      not_rules_after_request = λ clock n l t c d h. not-rules _ _ _ (request_sound clock n l t c d (sound-unless clock n l t c d h));
+      open_afresh = λ clock n l h. afresh (open_of clock n l) (open_sound_unless clock n l h);
+      request_afresh = λ clock n l t c d h. afresh (request_of clock n l t c d) (request_sound clock n l t c d (sound-unless clock n l t c d h));
+      room_never_too_far = room_never_too_far;
+      never_too_far = never_too_far;
+      lower_exactly = lower_exactly;
+      taken_exactly = taken_exactly;
+      no_place_exactly = no_place_exactly;
       taken_start = taken_start;
-      no-place-roomiest = no-place-roomiest;
-      no-place-nowhere = no-place-nowhere;
-      no-place-breaks = no-place-breaks;
-      no-place-room-taken = no-place-room-taken;
-      busy-ends = busy-ends;
-      open-tells = open-tells;
-      story-tells = λ clock n l e qs. tells _ (kept-story clock n l e qs);
-      keeps-promise = λ clock n l e qs. promise clock n l (opened-table clock n l e) qs;
-      loses-none = λ clock n l e qs. all-since-opening clock n l (opened-table clock n l e) qs;
-      refused-moves-none = λ clock n l e qs q. refused-same _ q (kept-story clock n l e qs);
-      taken-joins = λ clock n l e qs q. taken-joined _ q (kept-story clock n l e qs);
-      started-stays = λ clock n l e qs q. still _ q (kept-story clock n l e qs);
-      started-stays-ever = λ clock n l e qs more. still-ever more _ (kept-story clock n l e qs);
+      no_place_roomiest = no_place_roomiest;
+      no_place_nowhere = no_place_nowhere;
+      no_place_breaks = no_place_breaks;
+      no_place_room_taken = no_place_room_taken;
+      busy_ends = busy_ends;
+      open_tells = open_tells;
+      story_tells = λ clock n l e qs. tells _ (kept_story clock n l e qs);
+      keeps_promise = λ clock n l e qs. promise clock n l (opened_table clock n l e) qs;
+      loses_none = λ clock n l e qs. all-since_opening clock n l (opened_table clock n l e) qs;
+      refused_moves_none = λ clock n l e qs q. refused-same _ q (kept_story clock n l e qs);
+      taken_joins = λ clock n l e qs q. taken-joined _ q (kept_story clock n l e qs);
+      started_stays = λ clock n l e qs q. still _ q (kept_story clock n l e qs);
+      started_stays_ever = λ clock n l e qs more. still_ever more _ (kept_story clock n l e qs);
     }

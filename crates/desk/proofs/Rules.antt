@@ -17,22 +17,22 @@ use Rattle.desk.specs.declared.Job.{Job}
 use Rattle.desk.specs.declared.Answer.{Answer}
 use Rattle.desk.specs.declared.Answer.TheVariants.{Opened, Taken, Refused}
 use Rattle.rules.specs.Walk.{pick}
-use Rattle.desk.specs.Table.{job, none, filled, xOf, refit, flexes, allZeros, rightX, tableOk, deskOk, outcome, openOf, ends, Outcome}
+use Rattle.desk.specs.Table.{job, none, filled, x_of, refit, flexes, all_zeros, right_x, table_ok, desk_ok, outcome, open_of, ends, Outcome}
 use Rattle.desk.specs.Call.{said}
-use Rattle.desk.specs.Reason.{explanationOf}
-use Rattle.desk.specs.Request.{kept, busy, find, insertAt, dropping, taking, requestOf, Place, At, Nowhere}
+use Rattle.desk.specs.Reason.{explanation_of}
+use Rattle.desk.specs.Request.{kept, busy, find, insert_at, dropping, taking, request_of, Place, At, Nowhere}
 use Rattle.desk.specs.Theorems.{Ready}
 use Rattle.rules.proofs.Tests.{and_parts}
-use Rattle.desk.proofs.Ready.{Comes, at-13, at-14, at-15, at-16, at-17, through, comes}
-use Rattle.desk.proofs.Check.{numbers-small, listed_of, desk-table, desk-right}
+use Rattle.desk.proofs.Ready.{Comes, at_13, at_14, at_15, at_16, at_17, through, comes}
+use Rattle.desk.proofs.Check.{numbers-small, listed_of, desk_table, desk_right}
 use Rattle.desk.proofs.Check.{length-refit}
-use Rattle.desk.proofs.Afresh.{insert-right, refit-right}
-use Rattle.desk.proofs.Chain.{Chain, chain-low, chain-of, chain-ok, chain-kept, right_kept}
-use Rattle.desk.proofs.Spot.{Spot, found-spot, spot-near, chain-insert, length-insert, right-tail}
+use Rattle.desk.proofs.Afresh.{insert_right, refit_right}
+use Rattle.desk.proofs.Chain.{Chain, chain_low, chain_of, chain_ok, chain_kept, right_kept}
+use Rattle.desk.proofs.Spot.{Spot, found_spot, spot_near, chain_insert, length_insert, right_tail}
 
 -- a table, count and clock that pass 13
 pub record Sound (clock n : ℕ) (l : List Job) : Type 0 where
-  pub test : deskOk clock n l ≡ true
+  pub test : desk_ok clock n l ≡ true
 
 abbrev pub SoundAfter : Outcome → Type 0
 SoundAfter o = Sound o.clock o.count o.jobs
@@ -42,19 +42,19 @@ pub record Good (n : ℕ) (js : List Job) : Type 0 where
   pub count : length js ≡ n
   pub few : n ≤ places
   pub order : Chain 0 js
-  pub right : rightX js ≡ true
+  pub right : right_x js ≡ true
 
 pub good_of : (clock n : ℕ) (l : List Job) → Sound clock n l → Good n (take n l)
 good_of clock n l s =
-    let t = listed_of n l (desk-table clock n l s.test) in
+    let t = listed_of n l (desk_table clock n l s.test) in
     record {
       count = length-take-le n l (omega (arith, t.whole, t.few));
       few = t.few;
-      order = chain-of 0 (take n l) t.order;
-      right = desk-right clock n l s.test;
+      order = chain_of 0 (take n l) t.order;
+      right = desk_right clock n l s.test;
     }
 
-none-all : (n : ℕ) → allZeros (replicate n none) ≡ true
+none-all : (n : ℕ) → all_zeros (replicate n none) ≡ true
 none-all zero = refl
 none-all (suc n) = none-all n
 
@@ -65,7 +65,7 @@ sound-filled clock n js h g =
     let whole : length (filled js) ≡ places =
     omega (arith, length-append js (replicate (places - length js) none), length-replicate (places - length js) none, g.count, g.few) in
     record {
-      test = rw (le-leb clock latest h, eq-eqb (length (filled js)) places whole, le-leb n places g.few, front, back, chain-ok 0 js g.order, none-all (places - length js)) g.right;
+      test = rw (le-leb clock latest h, eq-eqb (length (filled js)) places whole, le-leb n places g.few, front, back, chain_ok 0 js g.order, none-all (places - length js)) g.right;
     }
 
 length-kept : (t : ℕ) (js : List Job) → length (kept t js) ≤ length js
@@ -80,19 +80,19 @@ good-kept t n js g =
     record {
       count = refl;
       few = omega (arith, length-kept t js, g.count, g.few);
-      order = chain-kept t 0 js g.order;
+      order = chain_kept t 0 js g.order;
       right = right_kept t 0 js g.order g.right;
     }
 
-pub not-busy : (t : ℕ) (js : List Job) → busy t js ≡ false → Chain 0 js → Chain t js
-not-busy t [] h g = tt
-not-busy t (j ∷ js) h g = (ltb-false _ _ h, g.1, g.2)
+pub not_busy : (t : ℕ) (js : List Job) → busy t js ≡ false → Chain 0 js → Chain t js
+not_busy t [] h g = tt
+not_busy t (j ∷ js) h g = (ltb-false _ _ h, g.1, g.2)
 
 -- why the finished jobs are dropped and no job is taken in
 pub data Why (t c d : ℕ) (js : List Job) : Refusal → Type 0 where
   running : busy t js ≡ true → Why t c d js Busy
   full : Why t c d js Full
-  nowhere : (why : Explanation) → why ≡ explanationOf t d js → Chain t js → find t c d js ≡ Nowhere → Why t c d js (NoPlace why)
+  nowhere : (why : Explanation) → why ≡ explanation_of t d js → Chain t js → find t c d js ≡ Nowhere → Why t c d js (NoPlace why)
 
 -- how a request on a sound table ends
 pub data Ending (clock n : ℕ) (l : List Job) (t c d : ℕ) : Outcome → Type 0 where
@@ -101,128 +101,128 @@ pub data Ending (clock n : ℕ) (l : List Job) (t c d : ℕ) : Outcome → Type 
       → Ending clock n l t c d (dropping t (kept t (take n l)) r)
   taken : (i s : ℕ) → clock ≤ t → t ≤ latest → 1 ≤ c → d ≤ latest → length (kept t (take n l)) < places → Chain t (kept t (take n l))
       → Spot c d t i (kept t (take n l)) s
-      → Ending clock n l t c d (outcome (filled (insertAt i (job s c d 0) (kept t (take n l)))) (length (kept t (take n l)) + 1) t (Taken i s))
+      → Ending clock n l t c d (outcome (filled (insert_at i (job s c d 0) (kept t (take n l)))) (length (kept t (take n l)) + 1) t (Taken i s))
 
 module _ (clock n : ℕ) (l : List Job) (t c d : ℕ) (sound : Sound clock n l) where
   good : Good (length (kept t (take n l))) (kept t (take n l))
   good = good-kept t n (take n l) (good_of clock n l sound)
 
-  ending-placed : Ready clock n l t c d → (p : Place) → find t c d (kept t (take n l)) ≡ p
+  ending_placed : Ready clock n l t c d → (p : Place) → find t c d (kept t (take n l)) ≡ p
       → Ending clock n l t c d (taking t c d (kept t (take n l)) p)
-  ending-placed w Nowhere e =
-      dropped (NoPlace _) (nowhere _ refl (not-busy t (kept t (take n l)) w.not-busy good.order) e) w.not-past (numbers-small t c d w.numbers).2
-  ending-placed w (At i s) e =
-      let order = not-busy t (kept t (take n l)) w.not-busy good.order in
-      let spot = found-spot t c d (kept t (take n l)) order i s e in
+  ending_placed w Nowhere e =
+      dropped (NoPlace _) (nowhere _ refl (not_busy t (kept t (take n l)) w.not_busy good.order) e) w.not_past (numbers-small t c d w.numbers).2
+  ending_placed w (At i s) e =
+      let order = not_busy t (kept t (take n l)) w.not_busy good.order in
+      let spot = found_spot t c d (kept t (take n l)) order i s e in
       let small = numbers-small t c d w.numbers in
-      taken i s w.not-past small.2 small.0 small.1 w.not_full order spot
+      taken i s w.not_past small.2 small.0 small.1 w.not_full order spot
 
-  ending-by : (o : Outcome) → Comes clock n l t c d o → Ending clock n l t c d o
-  ending-by o (at-13 e) = absurd (true≢false (sym sound.test ∙ e))
-  ending-by o (at-14 e) = same Numbers (omega arith, omega arith)
-  ending-by o (at-15 e) = same Past (omega arith, omega arith)
-  ending-by o (at-16 late small e) = dropped Busy (running e) late small
-  ending-by o (at-17 late small e) = dropped Full full late small
-  ending-by o (through w) = ending-placed w (find t c d (kept t (take n l))) refl
+  ending_by : (o : Outcome) → Comes clock n l t c d o → Ending clock n l t c d o
+  ending_by o (at_13 e) = absurd (true≢false (sym sound.test ∙ e))
+  ending_by o (at_14 e) = same Numbers (omega arith, omega arith)
+  ending_by o (at_15 e) = same Past (omega arith, omega arith)
+  ending_by o (at_16 late small e) = dropped Busy (running e) late small
+  ending_by o (at_17 late small e) = dropped Full full late small
+  ending_by o (through w) = ending_placed w (find t c d (kept t (take n l))) refl
 
-  pub ending : Ending clock n l t c d (requestOf clock n l t c d)
-  ending = ending-by (requestOf clock n l t c d) (comes clock n l t c d)
+  pub ending : Ending clock n l t c d (request_of clock n l t c d)
+  ending = ending_by (request_of clock n l t c d) (comes clock n l t c d)
 
-  pub sound-ending : (o : Outcome) → Ending clock n l t c d o → SoundAfter o
-  sound-ending o (same r h) = sound
-  sound-ending o (dropped r h late small) = sound-filled t _ (kept t (take n l)) small (good-kept t n (take n l) (good_of clock n l sound))
-  sound-ending o (taken i s late small some due few g spot) =
+  pub sound_ending : (o : Outcome) → Ending clock n l t c d o → SoundAfter o
+  sound_ending o (same r h) = sound
+  sound_ending o (dropped r h late small) = sound-filled t _ (kept t (take n l)) small (good-kept t n (take n l) (good_of clock n l sound))
+  sound_ending o (taken i s late small some due few g spot) =
       let js = kept t (take n l) in
       let good = good-kept t n (take n l) (good_of clock n l sound) in
-      sound-filled t (length js + 1) (insertAt i (job s c d 0) js) small
+      sound-filled t (length js + 1) (insert_at i (job s c d 0) js) small
       (record {
-        count = length-insert i (job s c d 0) js;
+        count = length_insert i (job s c d 0) js;
         few = omega arith;
-        order = chain-low t 0 (insertAt i (job s c d 0) js) (omega arith) (chain-insert c d t i js s some due g good.right spot);
-        right = insert-right i (job s c d 0) js good.right (spot-near c d t i js s g good.right spot);
+        order = chain_low t 0 (insert_at i (job s c d 0) js) (omega arith) (chain_insert c d t i js s some due g good.right spot);
+        right = insert_right i (job s c d 0) js good.right (spot_near c d t i js s g good.right spot);
       })
 
   -- 1. what a request leaves passes rule 13 again, whatever the answer
-  pub request-sound : SoundAfter (requestOf clock n l t c d)
-  request-sound = sound-ending (requestOf clock n l t c d) ending
+  pub request_sound : SoundAfter (request_of clock n l t c d)
+  request_sound = sound_ending (request_of clock n l t c d) ending
 
   -- 2. and it does not answer 13
-  not-13 : (o : Outcome) → Ending clock n l t c d o → (said o.answer).number ≡ 13 → ⊥
-  not-13 o (same q h) e = omega arith
-  not-13 o (dropped Busy (running b) late small) e = omega arith
-  not-13 o (dropped Full full late small) e = omega arith
-  not-13 o (dropped (NoPlace _) (nowhere why is g f) late small) e = omega arith
-  not-13 o (taken i s late small some due few g spot) e = omega arith
+  not_13 : (o : Outcome) → Ending clock n l t c d o → (said o.answer).number ≡ 13 → ⊥
+  not_13 o (same q h) e = omega arith
+  not_13 o (dropped Busy (running b) late small) e = omega arith
+  not_13 o (dropped Full full late small) e = omega arith
+  not_13 o (dropped (NoPlace _) (nowhere why is g f) late small) e = omega arith
+  not_13 o (taken i s late small some due few g spot) e = omega arith
 
-  pub request-not-13 : (said (requestOf clock n l t c d).answer).number ≡ 13 → ⊥
-  request-not-13 = not-13 (requestOf clock n l t c d) ending
+  pub request_not_13 : (said (request_of clock n l t c d).answer).number ≡ 13 → ⊥
+  request_not_13 = not_13 (request_of clock n l t c d) ending
 
-order-refit : (e : ℕ) (js : List Job) → Chain e js → Chain e (refit js [])
-order-refit e [] g = tt
-order-refit e (j ∷ js) g =
-    (g.0, record { some = g.1.some; in-time = g.1.in-time; low = g.1.low }, order-refit (ends j) js g.2)
+order_refit : (e : ℕ) (js : List Job) → Chain e js → Chain e (refit js [])
+order_refit e [] g = tt
+order_refit e (j ∷ js) g =
+    (g.0, record { some = g.1.some; in_time = g.1.in_time; low = g.1.low }, order_refit (ends j) js g.2)
 
-module _ (clock n : ℕ) (l : List Job) (table : tableOk n l ≡ true) where
-  pub open-good : Good n (flexes (take n l))
-  open-good =
+module _ (clock n : ℕ) (l : List Job) (table : table_ok n l ≡ true) where
+  pub open_good : Good n (flexes (take n l))
+  open_good =
       let w = listed_of n l table in
       record {
         count = omega (arith, length-refit (take n l) [], length-take-le n l (omega (arith, w.whole, w.few)));
         few = w.few;
-        order = order-refit 0 (take n l) (chain-of 0 (take n l) w.order);
-        right = refit-right (take n l) [] refl;
+        order = order_refit 0 (take n l) (chain_of 0 (take n l) w.order);
+        right = refit_right (take n l) [] refl;
       }
 
-  pub open_is : openOf clock n l ≡ outcome (filled (flexes (take n l))) n 0 Opened
-  unfolding openOf
+  pub open_is : open_of clock n l ≡ outcome (filled (flexes (take n l))) n 0 Opened
+  unfolding open_of
   open_is = rw table
 
   -- 1. what opening leaves passes 13
-  pub open-sound : SoundAfter (openOf clock n l)
-  open-sound = rw open_is (sound-filled 0 n (flexes (take n l)) (omega arith) open-good)
+  pub open_sound : SoundAfter (open_of clock n l)
+  open_sound = rw open_is (sound-filled 0 n (flexes (take n l)) (omega arith) open_good)
 
-pub open-refused : (clock n : ℕ) (l : List Job) → tableOk n l ≡ false → openOf clock n l ≡ outcome l n clock (Refused Rules)
-unfolding openOf
-open-refused clock n l z = rw z
+pub open_refused : (clock n : ℕ) (l : List Job) → table_ok n l ≡ false → open_of clock n l ≡ outcome l n clock (Refused Rules)
+unfolding open_of
+open_refused clock n l z = rw z
 
-pub opened-table : (clock n : ℕ) (l : List Job) → (openOf clock n l).answer ≡ Opened → tableOk n l ≡ true
-unfolding openOf
-opened-table clock n l e = cases (tableOk n l) refl e where
-  cases : (b : Bool) → tableOk n l ≡ b → (pick b (outcome (filled (flexes (take n l))) n 0 Opened) (outcome l n clock (Refused Rules))).answer ≡ Opened → tableOk n l ≡ true
+pub opened_table : (clock n : ℕ) (l : List Job) → (open_of clock n l).answer ≡ Opened → table_ok n l ≡ true
+unfolding open_of
+opened_table clock n l e = cases (table_ok n l) refl e where
+  cases : (b : Bool) → table_ok n l ≡ b → (pick b (outcome (filled (flexes (take n l))) n 0 Opened) (outcome l n clock (Refused Rules))).answer ≡ Opened → table_ok n l ≡ true
   cases true z w = z
   cases false z w = absurd (let y : ◌≡◌ {A = ℕ} 0 1 = cc in omega arith)
 
 -- 3. right flexibilities are those worked out from nothing
-with-same : (j : Job) (v : ℕ) → j.flex ≡ v → job j.start j.budget j.deadline v ≡ j
-with-same j v e = λ i. record { start = j.start; budget = j.budget; deadline = j.deadline; flex = sym e i }
+with_same : (j : Job) (v : ℕ) → j.flex ≡ v → job j.start j.budget j.deadline v ≡ j
+with_same j v e = λ i. record { start = j.start; budget = j.budget; deadline = j.deadline; flex = sym e i }
 
-pub fresh : (js : List Job) → rightX js ≡ true → flexes js ≡ js
+pub fresh : (js : List Job) → right_x js ≡ true → flexes js ≡ js
 fresh [] r = refl
 fresh (j ∷ js) r =
-    let x : j.flex ≡ xOf j js = eqb-true _ _ (and_parts _ (rightX js) r).0 in
-    rw (fresh js (right-tail j js r)) (ap (λ (k : Job). k ∷ js) (with-same j (xOf j js) x))
+    let x : j.flex ≡ x_of j js = eqb-true _ _ (and_parts _ (right_x js) r).0 in
+    rw (fresh js (right_tail j js r)) (ap (λ (k : Job). k ∷ js) (with_same j (x_of j js) x))
 
 pub afresh : (o : Outcome) → SoundAfter o → flexes (take o.count o.jobs) ≡ take o.count o.jobs
 afresh o s = fresh (take o.count o.jobs) (good_of o.clock o.count o.jobs s).right
 
-refuse-rules : (clock n : ℕ) (l : List Job) (t c d : ℕ) → deskOk clock n l ≡ false → (requestOf clock n l t c d).answer ≡ Refused Rules
-unfolding requestOf
-refuse-rules clock n l t c d z = rw z
+refuse_rules : (clock n : ℕ) (l : List Job) (t c d : ℕ) → desk_ok clock n l ≡ false → (request_of clock n l t c d).answer ≡ Refused Rules
+unfolding request_of
+refuse_rules clock n l t c d z = rw z
 
 -- a request that is not refused with 13 found the table sound
-pub sound-unless : (clock n : ℕ) (l : List Job) (t c d : ℕ) → ((said (requestOf clock n l t c d).answer).number ≡ 13 → ⊥) → Sound clock n l
-sound-unless clock n l t c d h = cases (deskOk clock n l) refl where
-  cases : (b : Bool) → deskOk clock n l ≡ b → Sound clock n l
+pub sound-unless : (clock n : ℕ) (l : List Job) (t c d : ℕ) → ((said (request_of clock n l t c d).answer).number ≡ 13 → ⊥) → Sound clock n l
+sound-unless clock n l t c d h = cases (desk_ok clock n l) refl where
+  cases : (b : Bool) → desk_ok clock n l ≡ b → Sound clock n l
   cases true z = record { test = z }
-  cases false z = absurd (h (ap (λ (a : Answer). (said a).number) (refuse-rules clock n l t c d z)))
+  cases false z = absurd (h (ap (λ (a : Answer). (said a).number) (refuse_rules clock n l t c d z)))
 
 -- nor is one that is taken
-pub sound-taken : (clock n : ℕ) (l : List Job) (t c d i s : ℕ) → (requestOf clock n l t c d).answer ≡ Taken i s → Sound clock n l
+pub sound-taken : (clock n : ℕ) (l : List Job) (t c d i s : ℕ) → (request_of clock n l t c d).answer ≡ Taken i s → Sound clock n l
 sound-taken clock n l t c d i s e =
     sound-unless clock n l t c d (λ f. let z : 0 ≡ 13 = sym (ap (λ (a : Answer). (said a).number) e) ∙ f in absurd (omega arith))
 
-pub open-sound-unless : (clock n : ℕ) (l : List Job) → ((said (openOf clock n l).answer).number ≡ 13 → ⊥) → SoundAfter (openOf clock n l)
-open-sound-unless clock n l h = cases (tableOk n l) refl where
-  cases : (b : Bool) → tableOk n l ≡ b → SoundAfter (openOf clock n l)
-  cases true z = open-sound clock n l z
-  cases false z = absurd (h (ap (λ (o : Outcome). (said o.answer).number) (open-refused clock n l z)))
+pub open_sound_unless : (clock n : ℕ) (l : List Job) → ((said (open_of clock n l).answer).number ≡ 13 → ⊥) → SoundAfter (open_of clock n l)
+open_sound_unless clock n l h = cases (table_ok n l) refl where
+  cases : (b : Bool) → table_ok n l ≡ b → SoundAfter (open_of clock n l)
+  cases true z = open_sound clock n l z
+  cases false z = absurd (h (ap (λ (o : Outcome). (said o.answer).number) (open_refused clock n l z)))

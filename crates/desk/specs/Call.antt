@@ -8,21 +8,21 @@ use Rattle.desk.specs.declared.Ask.{Ask}
 use Rattle.desk.specs.declared.Ask.TheVariants.{Open, Request}
 use Rattle.desk.specs.declared.Answer.{Answer}
 use Rattle.desk.specs.declared.Answer.TheVariants.{Opened, Taken, Refused}
-use Rattle.desk.specs.Table.{Outcome, openOf}
-use Rattle.desk.specs.Request.{requestOf}
+use Rattle.desk.specs.Table.{Outcome, open_of}
+use Rattle.desk.specs.Request.{request_of}
 
 -- clock and n are the record's, l the table
 abbrev pub call_of : ℕ → ℕ → List Job → Ask → Outcome
-call_of clock n l Open = openOf clock n l
-call_of clock n l (Request q) = requestOf clock n l q.time q.budget q.deadline
+call_of clock n l Open = open_of clock n l
+call_of clock n l (Request q) = request_of clock n l q.time q.budget q.deadline
 
 -- "The caller keeps the desk's clock and job count in one small record"
-abbrev pub deskOf : Outcome → Desk
-deskOf o = record { clock = o.clock; count = o.count }
+abbrev pub desk_of : Outcome → Desk
+desk_of o = record { clock = o.clock; count = o.count }
 
 -- "lent to each call and changed there": answer, record and table at exit are the outcome's
 abbrev pub Leaves : Outcome → Answer → Desk → List Job → Type 0
-Leaves o r k l = (r ≡ o.answer) × (k ≡ deskOf o) × (l ≡ o.jobs)
+Leaves o r k l = (r ≡ o.answer) × (k ≡ desk_of o) × (l ≡ o.jobs)
 
 -- 0 and the values, or the refusal's number
 abbrev pub said : Answer → Told

@@ -18,20 +18,20 @@ unfoldable pub places_of : ℕ → ℕ → List Job → ℕ
 places_of t d js = pick (leb (start_at t js (early d js)) d) (suc (early d js)) (early d js)
 
 -- "the largest room"
-unfoldable pub largestRoom : ℕ → ℕ → List Job → ℕ
-largestRoom t d js = largest (room_at t d js) (places_of t d js)
+unfoldable pub largest_room : ℕ → ℕ → List Job → ℕ
+largest_room t d js = largest (room_at t d js) (places_of t d js)
 
 -- place i has it
-unfoldable pub asRoomy : ℕ → ℕ → List Job → ℕ → Bool
-asRoomy t d js i = leb (largestRoom t d js) (room_at t d js i)
+unfoldable pub as_roomy : ℕ → ℕ → List Job → ℕ → Bool
+as_roomy t d js i = leb (largest_room t d js) (room_at t d js i)
 
 -- "the lowest place with the largest room"
 unfoldable pub roomiest : ℕ → ℕ → List Job → ℕ
-roomiest t d js = first (asRoomy t d js) (places_of t d js)
+roomiest t d js = first (as_roomy t d js) (places_of t d js)
 
 -- where a job of one tick more than the room of place i ends there
-abbrev pub longerEnd : ℕ → ℕ → List Job → ℕ → ℕ
-longerEnd t d js i = start_at t js i + (room_at t d js i + 1)
+abbrev pub longer_end : ℕ → ℕ → List Job → ℕ → ℕ
+longer_end t d js i = start_at t js i + (room_at t d js i + 1)
 
 -- job k of js ends after its deadline
 unfoldable pub late : List Job → ℕ → Bool
@@ -39,12 +39,12 @@ late js k = ltb (deadline (get_or js k none)) (ends (get_or js k none))
 
 -- "whether the request's own deadline or a listed job's binds it; if a listed job, the first one whose deadline a longer move would break. On equals
 -- the request's deadline is named": of a job of one tick more there, with the later jobs moved as it forces them
-unfoldable pub bindingAt : ℕ → ℕ → List Job → ℕ → Binding
-bindingAt t d js i =
-    pick (ltb d (longerEnd t d js i)) Own
-    (Listed (i + first (late (shift (longerEnd t d js i) (drop i js))) (length js - i)))
+unfoldable pub binding_at : ℕ → ℕ → List Job → ℕ → Binding
+binding_at t d js i =
+    pick (ltb d (longer_end t d js i)) Own
+    (Listed (i + first (late (shift (longer_end t d js i) (drop i js))) (length js - i)))
 
 -- "the lowest place with the largest room, that room, and" what "binds it"; "If there is none, as when t is past d, say so."
-unfoldable pub explanationOf : ℕ → ℕ → List Job → Explanation
-explanationOf t d js =
-    pick (leb 1 (places_of t d js)) (Roomiest (roomiest t d js) (largestRoom t d js) (bindingAt t d js (roomiest t d js))) Nowhere
+unfoldable pub explanation_of : ℕ → ℕ → List Job → Explanation
+explanation_of t d js =
+    pick (leb 1 (places_of t d js)) (Roomiest (roomiest t d js) (largest_room t d js) (binding_at t d js (roomiest t d js))) Nowhere

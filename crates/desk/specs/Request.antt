@@ -8,9 +8,9 @@ use Rattle.rules.specs.declared.Refusal.{Refusal}
 use Rattle.rules.specs.declared.Refusal.TheVariants.{Rules, Numbers, Past, Busy, Full, NoPlace}
 use Rattle.desk.specs.declared.Job.{Job}
 use Rattle.desk.specs.declared.Answer.TheVariants.{Taken, Refused}
-use Rattle.desk.specs.Table.{job, start, ends, filled, Outcome, outcome, refit, deskOk}
+use Rattle.desk.specs.Table.{job, start, ends, filled, Outcome, outcome, refit, desk_ok}
 use Rattle.desk.specs.Places.{early, room, shift}
-use Rattle.desk.specs.Reason.{explanationOf}
+use Rattle.desk.specs.Reason.{explanation_of}
 
 -- "First, jobs with a + C ≤ t are dropped and the rest move up."
 abbrev pub kept : ℕ → List Job → List Job
@@ -29,21 +29,21 @@ pub data Place : Type 0 where
 
 -- "The lowest place with R ≥ C is taken, start s", from i on; s is t for place 0, "else the end of the job before".
 -- "place l is tried too, also when the table is empty or no job follows: it is taken when s + C ≤ d"
-abbrev pub findFrom : ℕ → ℕ → ℕ → ℕ → List Job → Place
-findFrom i s c d [] = pick (leb (s + c) d) (At i s) Nowhere
-findFrom i s c d (j ∷ js) = pick (leb c (room s d j)) (At i s) (findFrom (i + 1) (ends j) c d js)
+abbrev pub find_from : ℕ → ℕ → ℕ → ℕ → List Job → Place
+find_from i s c d [] = pick (leb (s + c) d) (At i s) Nowhere
+find_from i s c d (j ∷ js) = pick (leb c (room s d j)) (At i s) (find_from (i + 1) (ends j) c d js)
 
 -- "For places i from 0 to l − 1", and place l behind them
 abbrev pub find : ℕ → ℕ → ℕ → List Job → Place
-find t c d js = findFrom 0 t c d (take (early d js) js)
+find t c d js = find_from 0 t c d (take (early d js) js)
 
 -- the new job at place i: later jobs move, "earlier x are worked out again from there towards the front"
-abbrev pub insertAt : ℕ → Job → List Job → List Job
-insertAt i new js = refit (take i js ++ (new ∷ [])) (shift (ends new) (drop i js))
+abbrev pub insert_at : ℕ → Job → List Job → List Job
+insert_at i new js = refit (take i js ++ (new ∷ [])) (shift (ends new) (drop i js))
 
 -- not "C zero, or C, d or t above 1,000,000"
-abbrev pub numbersOk : ℕ → ℕ → ℕ → Bool
-numbersOk t c d = leb 1 c && (leb c latest && (leb d latest && leb t latest))
+abbrev pub numbers_ok : ℕ → ℕ → ℕ → Bool
+numbers_ok t c d = leb 1 c && (leb c latest && (leb d latest && leb t latest))
 
 -- "16, 17, 18 set the clock to t and drop finished jobs .. nothing else changes."
 abbrev pub dropping : ℕ → List Job → Refusal → Outcome
@@ -51,15 +51,15 @@ dropping t js r = outcome (filled js) (length js) t (Refused r)
 
 -- 18 with its reason, or "A job taken in sets the clock too."
 abbrev pub taking : ℕ → ℕ → ℕ → List Job → Place → Outcome
-taking t c d js Nowhere = dropping t js (NoPlace (explanationOf t d js))
-taking t c d js (At i s) = outcome (filled (insertAt i (job s c d 0) js)) (length js + 1) t (Taken i s)
+taking t c d js Nowhere = dropping t js (NoPlace (explanation_of t d js))
+taking t c d js (At i s) = outcome (filled (insert_at i (job s c d 0) js)) (length js + 1) t (Taken i s)
 
 -- "13, 14, 15 .. change nothing at the desk."
-unfoldable pub requestOf : ℕ → ℕ → List Job → ℕ → ℕ → ℕ → Outcome
-requestOf clock n l t c d =
+unfoldable pub request_of : ℕ → ℕ → List Job → ℕ → ℕ → ℕ → Outcome
+request_of clock n l t c d =
     let js = kept t (take n l) in
-    pick (not (deskOk clock n l)) (outcome l n clock (Refused Rules))
-    (pick (not (numbersOk t c d)) (outcome l n clock (Refused Numbers))
+    pick (not (desk_ok clock n l)) (outcome l n clock (Refused Rules))
+    (pick (not (numbers_ok t c d)) (outcome l n clock (Refused Numbers))
     (pick (ltb t clock) (outcome l n clock (Refused Past))
     (pick (busy t js) (dropping t js Busy)
     (pick (leb places (length js)) (dropping t js Full)

@@ -5,8 +5,8 @@ use Rattle.desk.specs.declared.Job.{Job}
 use Rattle.desk.specs.declared.Asked.{Asked}
 use Rattle.desk.specs.declared.Answer.{Answer}
 use Rattle.desk.specs.declared.Answer.TheVariants.{Opened, Taken, Refused}
-use Rattle.desk.specs.Table.{start, budget, deadline, Outcome, openOf}
-use Rattle.desk.specs.Request.{requestOf}
+use Rattle.desk.specs.Table.{start, budget, deadline, Outcome, open_of}
+use Rattle.desk.specs.Request.{request_of}
 
 -- a job ever listed: its opening start or its request time, its budget, its deadline, and its start
 pub record Entry : Type 0 where
@@ -18,8 +18,8 @@ pub record Entry : Type 0 where
 abbrev pub entry : ℕ → ℕ → ℕ → ℕ → Entry
 entry b c d s = record { since = b; budget = c; deadline = d; start = s }
 
-abbrev pub noEntry : Entry
-noEntry = entry 0 0 0 0
+abbrev pub no_entry : Entry
+no_entry = entry 0 0 0 0
 
 abbrev pub finish : Entry → ℕ
 finish r = r.start + r.budget
@@ -59,22 +59,22 @@ ever h = h.gone ++ live h
 
 -- the story at opening
 abbrev pub begin : ℕ → ℕ → List Job → Story
-begin clock n l = record { desk = openOf clock n l; gone = []; listed = standing (take n l) }
+begin clock n l = record { desk = open_of clock n l; gone = []; listed = standing (take n l) }
 
 -- a job taken in is listed at its place
-abbrev pub withNew : Asked → Answer → List Entry → List Entry
-withNew q Opened rs = rs
-withNew q (Taken i s) rs = take i rs ++ (entry q.time q.budget q.deadline s ∷ drop i rs)
-withNew q (Refused r) rs = rs
+abbrev pub with_new : Asked → Answer → List Entry → List Entry
+with_new q Opened rs = rs
+with_new q (Taken i s) rs = take i rs ++ (entry q.time q.budget q.deadline s ∷ drop i rs)
+with_new q (Refused r) rs = rs
 
 -- a request that leaves o: the jobs that end by the desk's clock, which 13, 14 and 15 leave as it was, are gone
 abbrev pub after : Story → Asked → Outcome → Story
 after h q o =
-    record { desk = o; gone = h.gone ++ ended o.clock (live h); listed = withNew q o.answer (unended o.clock (live h)) }
+    record { desk = o; gone = h.gone ++ ended o.clock (live h); listed = with_new q o.answer (unended o.clock (live h)) }
 
 -- one request, on just what the last call left
 abbrev pub next : Story → Asked → Story
-next h q = after h q (requestOf h.desk.clock h.desk.count h.desk.jobs q.time q.budget q.deadline)
+next h q = after h q (request_of h.desk.clock h.desk.count h.desk.jobs q.time q.budget q.deadline)
 
 abbrev pub many : List Asked → Story → Story
 many [] h = h
@@ -83,9 +83,9 @@ many (q ∷ qs) h = many qs (next h q)
 -- "no job starts before its opening start (a job taken in later: before its request time), no two overlap, each ends by its deadline":
 -- of any two the later in the list starts when the earlier has ended
 pub record Promise (rs : List Entry) : Type 0 where
-  pub not-before : (k : ℕ) → k < length rs → (get_or rs k noEntry).since ≤ (get_or rs k noEntry).start
-  pub in-time : (k : ℕ) → k < length rs → finish (get_or rs k noEntry) ≤ (get_or rs k noEntry).deadline
-  pub apart : (i k : ℕ) → i < k → k < length rs → finish (get_or rs i noEntry) ≤ (get_or rs k noEntry).start
+  pub not_before : (k : ℕ) → k < length rs → (get_or rs k no_entry).since ≤ (get_or rs k no_entry).start
+  pub in_time : (k : ℕ) → k < length rs → finish (get_or rs k no_entry) ≤ (get_or rs k no_entry).deadline
+  pub apart : (i k : ℕ) → i < k → k < length rs → finish (get_or rs i no_entry) ≤ (get_or rs k no_entry).start
 
 -- the same job, not earlier
 abbrev pub Later : Entry → Entry → Type 0
@@ -95,20 +95,20 @@ Later r u = (r.since ≡ u.since) × (r.budget ≡ u.budget) × (r.deadline ≡ 
 pub record Joined (rs us : List Entry) (k : ℕ) (new : Entry) : Type 0 where
   pub one_more : length us ≡ suc (length rs)
   pub inside : k ≤ length rs
-  pub there : get_or us k noEntry ≡ new
+  pub there : get_or us k no_entry ≡ new
   pub before : take k us ≡ take k rs
-  pub later : (m : ℕ) → k ≤ m → m < length rs → Later (get_or rs m noEntry) (get_or us (suc m) noEntry)
+  pub later : (m : ℕ) → k ≤ m → m < length rs → Later (get_or rs m no_entry) (get_or us (suc m) no_entry)
 
 -- the entries that start before t are in us as they were
 abbrev pub Fixed : ℕ → List Entry → List Entry → Type 0
-Fixed t rs us = (k : ℕ) → k < length rs → (get_or rs k noEntry).start < t → get_or us k noEntry ≡ get_or rs k noEntry
+Fixed t rs us = (k : ℕ) → k < length rs → (get_or rs k no_entry).start < t → get_or us k no_entry ≡ get_or rs k no_entry
 
 -- how many of the requests are taken
-abbrev pub countTaken : Answer → ℕ → ℕ
-countTaken Opened n = n
-countTaken (Taken i s) n = suc n
-countTaken (Refused r) n = n
+abbrev pub count_taken : Answer → ℕ → ℕ
+count_taken Opened n = n
+count_taken (Taken i s) n = suc n
+count_taken (Refused r) n = n
 
 abbrev pub takens : List Asked → Story → ℕ
 takens [] h = 0
-takens (q ∷ qs) h = countTaken (next h q).desk.answer (takens qs (next h q))
+takens (q ∷ qs) h = count_taken (next h q).desk.answer (takens qs (next h q))

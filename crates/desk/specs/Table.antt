@@ -44,49 +44,49 @@ abbrev pub outcome : List Job → ℕ → ℕ → Answer → Outcome
 outcome l n clock r = record { jobs = l; count = n; clock = clock; answer = r }
 
 -- "The last x is d − a − C; any other is the smaller of its own d − a − C and (next x) + (next a) − a − C."
-abbrev pub xOf : Job → List Job → ℕ
-xOf j [] = deadline j - start j - budget j
-xOf j (k ∷ ks) = min (deadline j - start j - budget j) (flex k + start k - start j - budget j)
+abbrev pub x_of : Job → List Job → ℕ
+x_of j [] = deadline j - start j - budget j
+x_of j (k ∷ ks) = min (deadline j - start j - budget j) (flex k + start k - start j - budget j)
 
 -- the jobs js in front of ks, those of js "worked out again from there towards the front"
 abbrev pub refit : List Job → List Job → List Job
 refit [] ks = ks
-refit (j ∷ js) ks = job (start j) (budget j) (deadline j) (xOf j (refit js ks)) ∷ refit js ks
+refit (j ∷ js) ks = job (start j) (budget j) (deadline j) (x_of j (refit js ks)) ∷ refit js ks
 
 -- every x worked out afresh
 abbrev pub flexes : List Job → List Job
 flexes js = refit js []
 
 -- each x is the rule's own
-abbrev pub rightX : List Job → Bool
-rightX [] = true
-rightX (j ∷ js) = eqb (flex j) (xOf j js) && rightX js
+abbrev pub right_x : List Job → Bool
+right_x [] = true
+right_x (j ∷ js) = eqb (flex j) (x_of j js) && right_x js
 
 -- "C ≥ 1; each a + C is at most its d", "each d at most 1,000,000"
-abbrev pub jobOk : Job → Bool
-jobOk j = leb 1 (budget j) && (leb (ends j) (deadline j) && leb (deadline j) latest)
+abbrev pub job_ok : Job → Bool
+job_ok j = leb 1 (budget j) && (leb (ends j) (deadline j) && leb (deadline j) latest)
 
 -- "each a + C is .. at most the next a"; e is the end of the job before, 0 in front of all
 abbrev pub ordered : ℕ → List Job → Bool
 ordered e [] = true
-ordered e (j ∷ js) = leb e (start j) && (jobOk j && ordered (ends j) js)
+ordered e (j ∷ js) = leb e (start j) && (job_ok j && ordered (ends j) js)
 
 -- "zeros past the count, at opening too"
 abbrev pub zeros : Job → Bool
 zeros j = eqb (start j) 0 && (eqb (budget j) 0 && (eqb (deadline j) 0 && eqb (flex j) 0))
 
-abbrev pub allZeros : List Job → Bool
-allZeros [] = true
-allZeros (j ∷ js) = zeros j && allZeros js
+abbrev pub all_zeros : List Job → Bool
+all_zeros [] = true
+all_zeros (j ∷ js) = zeros j && all_zeros js
 
 -- "A lent table of other than 64 places is 13", "count at most 64"; any x of a listed job
-abbrev pub tableOk : ℕ → List Job → Bool
-tableOk n l = eqb (length l) places && (leb n places && (ordered 0 (take n l) && allZeros (drop n l)))
+abbrev pub table_ok : ℕ → List Job → Bool
+table_ok n l = eqb (length l) places && (leb n places && (ordered 0 (take n l) && all_zeros (drop n l)))
 
 -- a request's own test: the clock and each x too
-abbrev pub deskOk : ℕ → ℕ → List Job → Bool
-deskOk clock n l = leb clock latest && (tableOk n l && rightX (take n l))
+abbrev pub desk_ok : ℕ → ℕ → List Job → Bool
+desk_ok clock n l = leb clock latest && (table_ok n l && right_x (take n l))
 
 -- "Opening takes any x of a listed job and any clock, works x out and sets the clock to 0."
-unfoldable pub openOf : ℕ → ℕ → List Job → Outcome
-openOf clock n l = pick (tableOk n l) (outcome (filled (flexes (take n l))) n 0 Opened) (outcome l n clock (Refused Rules))
+unfoldable pub open_of : ℕ → ℕ → List Job → Outcome
+open_of clock n l = pick (table_ok n l) (outcome (filled (flexes (take n l))) n 0 Opened) (outcome l n clock (Refused Rules))

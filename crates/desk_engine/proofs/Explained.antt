@@ -14,63 +14,63 @@ use Rattle.rules.specs.Walk.{pick}
 use Rattle.rules.specs.declared.Binding.TheVariants.{Own, Listed}
 use Rattle.rules.specs.declared.Explanation.TheVariants.{Nowhere}
 use Rattle.desk.specs.declared.Job.{Job}
-use Rattle.desk.specs.Table.{start, flex, ends, none, rightX}
+use Rattle.desk.specs.Table.{start, flex, ends, none, right_x}
 use Rattle.desk.specs.Places.{early, start_at, room}
-use Rattle.desk.specs.Reason.{room_at, places_of, bindingAt, explanationOf}
+use Rattle.desk.specs.Reason.{room_at, places_of, binding_at, explanation_of}
 use Rattle.desk.proofs.Chain.{Chain}
-use Rattle.desk.proofs.Late.{beforeTight}
-use Rattle.desk.proofs.Rooms.{early-none, early-at, at_drop, room-early}
-use Rattle.desk.proofs.Reason.{binds-own, binds-listed, told-one, told_none}
+use Rattle.desk.proofs.Late.{before_tight}
+use Rattle.desk.proofs.Rooms.{early-none, early_at, at_drop, room-early}
+use Rattle.desk.proofs.Reason.{binds_own, binds_listed, told_one, told_none}
 use Rattle.desk_records.specs.Folds.{fold}
 use Rattle.desk_records.specs.Sums.{most32}
 use Rattle.desk_reading.specs.declared.best.Best.{Best}
-use Rattle.desk_reading.specs.Best.{noBest, outdone, bestWith, tight, foundJob, nextJob, soughtAt, bindingOf, explained}
+use Rattle.desk_reading.specs.Best.{no_best, outdone, best_with, tight, found_job, next_job, sought_at, binding_of, explained}
 use Rattle.desk_engine.proofs.Counts.{sum_is}
 
 -- what the search keeps of the jobs ks, from place p and time s on, where none of them has room
-abbrev pub bestFrom : ℕ → Best → ℕ → ℕ → List Job → Best
-bestFrom d b p s [] = b
-bestFrom d b p s (j ∷ ks) =
+abbrev pub best_from : ℕ → Best → ℕ → ℕ → List Job → Best
+best_from d b p s [] = b
+best_from d b p s (j ∷ ks) =
     pick (leb (start j) d)
-    (bestFrom d (soughtAt (bestWith b p (room s d j) (ltb (flex j) (d - start j))) j) (p + 1) (ends j) ks)
-    (fold soughtAt (soughtAt b j) ks)
+    (best_from d (sought_at (best_with b p (room s d j) (ltb (flex j) (d - start j))) j) (p + 1) (ends j) ks)
+    (fold sought_at (sought_at b j) ks)
 
-tight-few : (js : List Job) → beforeTight js ≤ length js
+tight-few : (js : List Job) → before_tight js ≤ length js
 tight-few [] = omega arith
 tight-few (j ∷ js) = cases (tight j) (tight-few js) where
-  cases : (b : Bool) → beforeTight js ≤ length js → pick b 0 (suc (beforeTight js)) ≤ suc (length js)
+  cases : (b : Bool) → before_tight js ≤ length js → pick b 0 (suc (before_tight js)) ≤ suc (length js)
   cases true h = omega arith
   cases false h = omega arith
 
 some : (p : ℕ) → (p ≡ 0 → ⊥) → 0 < p
 some p h = omega arith
 
-own-tick : (s d a x : ℕ) → s ≤ a → a ≤ d → d - a ≤ x → d < s + (a - s + min (d - a) x + 1)
-own-tick s d a x h g f = omega arith
+own_tick : (s d a x : ℕ) → s ≤ a → a ≤ d → d - a ≤ x → d < s + (a - s + min (d - a) x + 1)
+own_tick s d a x h g f = omega arith
 
-listed-tick : (s d a x : ℕ) → s ≤ a → a ≤ d → x < d - a → s + (a - s + min (d - a) x + 1) ≤ d
-listed-tick s d a x h g f = omega arith
+listed_tick : (s d a x : ℕ) → s ≤ a → a ≤ d → x < d - a → s + (a - s + min (d - a) x + 1) ≤ d
+listed_tick s d a x h g f = omega arith
 
-module _ (t d : ℕ) (js : List Job) (order : Chain t js) (right : rightX js ≡ true) (few : length js ≤ most32) where
+module _ (t d : ℕ) (js : List Job) (order : Chain t js) (right : right_x js ≡ true) (few : length js ≤ most32) where
   -- what is known of the deadline that binds, with the jobs ks still to be looked at
   record Binds (ks : List Job) (b : Best) : Type 0 where
     own : b.listed ≡ false → d < start_at t js b.place + (b.room + 1)
     before : b.listed ≡ true → b.place < early d js
     due : b.listed ≡ true → start_at t js b.place + (b.room + 1) ≤ d
-    job : b.listed ≡ true → pick b.seeking (b.job + beforeTight ks) b.job ≡ b.place + beforeTight (drop b.place js)
+    job : b.listed ≡ true → pick b.seeking (b.job + before_tight ks) b.job ≡ b.place + before_tight (drop b.place js)
 
   -- b is the roomiest of the first p places, where there are any
   record Known (p : ℕ) (ks : List Job) (b : Best) : Type 0 where
     inside : 0 < p → b.place < p
-    room-is : 0 < p → room_at t d js b.place ≡ b.room
+    room_is : 0 < p → room_at t d js b.place ≡ b.room
     largest : 0 < p → (i : ℕ) → i < p → room_at t d js i ≤ b.room
     lowest : 0 < p → (i : ℕ) → i < b.place → room_at t d js i < b.room
     binds : 0 < p → Binds ks b
 
-  known-none : (ks : List Job) → Known 0 ks noBest
-  known-none ks = record {
+  known_none : (ks : List Job) → Known 0 ks no_best
+  known_none ks = record {
     inside = λ e. absurd (omega arith);
-    room-is = λ e. absurd (omega arith);
+    room_is = λ e. absurd (omega arith);
     largest = λ e. absurd (omega arith);
     lowest = λ e. absurd (omega arith);
     binds = λ e. absurd (omega arith);
@@ -86,43 +86,43 @@ module _ (t d : ℕ) (js : List Job) (order : Chain t js) (right : rightX js ≡
     cases false e f = omega (arith, w.largest (omega arith) i l, ltb-true b.room r f)
 
   -- and where it does not
-  stays-under : (p : ℕ) (b : Best) (r : ℕ) → outdone b p r ≡ false → (0 < p) × (r ≤ b.room)
-  stays-under p b r h = cases (eqb p 0) refl h where
+  stays_under : (p : ℕ) (b : Best) (r : ℕ) → outdone b p r ≡ false → (0 < p) × (r ≤ b.room)
+  stays_under p b r h = cases (eqb p 0) refl h where
     cases : (v : Bool) → eqb p 0 ≡ v → pick v true (ltb b.room r) ≡ false → (0 < p) × (r ≤ b.room)
     cases true e f = absurd (true≢false f)
     cases false e f = (some p (eqb-false p 0 e), ltb-false b.room r f)
 
   -- a place p, its room r and what binds it
   record Tried (p : ℕ) (ks : List Job) (r : ℕ) (listed : Bool) : Type 0 where
-    room-is : room_at t d js p ≡ r
+    room_is : room_at t d js p ≡ r
     own : listed ≡ false → d < start_at t js p + (r + 1)
     before : listed ≡ true → p < early d js
     due : listed ≡ true → start_at t js p + (r + 1) ≤ d
     rest : listed ≡ true → drop p js ≡ ks
 
-  known-with : (p : ℕ) (ks : List Job) (b : Best) (r : ℕ) (listed : Bool) → Known p ks b → Tried p ks r listed → Known (p + 1) ks (bestWith b p r listed)
-  known-with p ks b r listed w v = cases (outdone b p r) refl where
+  known_with : (p : ℕ) (ks : List Job) (b : Best) (r : ℕ) (listed : Bool) → Known p ks b → Tried p ks r listed → Known (p + 1) ks (best_with b p r listed)
+  known_with p ks b r listed w v = cases (outdone b p r) refl where
     upto : (m : ℕ) → ((i : ℕ) → i < p → room_at t d js i ≤ m) → r ≤ m → (i : ℕ) → i < p + 1 → room_at t d js i ≤ m
     upto m below here i l =
         let small : i ≤ p = omega arith in
-        ⊎_elim (λ e. rw e (omega (arith, v.room-is))) (λ (f : i < p). below i f) (eq-or-lt_of_le small)
+        ⊎_elim (λ e. rw e (omega (arith, v.room_is))) (λ (f : i < p). below i f) (eq-or-lt_of_le small)
 
-    job_is : listed ≡ true → pick listed (p + beforeTight ks) p ≡ p + beforeTight (drop p js)
+    job_is : listed ≡ true → pick listed (p + before_tight ks) p ≡ p + before_tight (drop p js)
     job_is e = rw (e, v.rest e)
 
     cases : (o : Bool) → outdone b p r ≡ o → Known (p + 1) ks (pick o (record { place = p; room = r; job = p; listed = listed; seeking = listed }) b)
     cases true h = record {
       inside = λ e. omega arith;
-      room-is = λ e. v.room-is;
+      room_is = λ e. v.room_is;
       largest = λ e. upto r (λ i l. let z = under p ks b r w h i l in omega arith) (omega arith);
       lowest = λ e. under p ks b r w h;
       binds = λ e. record { own = v.own; before = v.before; due = v.due; job = job_is };
     }
     cases false h =
-        let two = stays-under p b r h in
+        let two = stays_under p b r h in
         record {
           inside = λ e. omega (arith, w.inside two.0);
-          room-is = λ e. w.room-is two.0;
+          room_is = λ e. w.room_is two.0;
           largest = λ e. upto b.room (w.largest two.0) two.1;
           lowest = λ e. w.lowest two.0;
           binds = λ e. w.binds two.0;
@@ -132,86 +132,86 @@ module _ (t d : ℕ) (js : List Job) (order : Chain t js) (right : rightX js ≡
 
   -- the same place, with what is known of the job that binds
   known_as : (p : ℕ) (ks js₂ : List Job) (b : Best) (seeking : Bool) (n : ℕ) → Known p ks b
-      → (0 < p → b.listed ≡ true → pick seeking (n + beforeTight js₂) n ≡ b.place + beforeTight (drop b.place js))
+      → (0 < p → b.listed ≡ true → pick seeking (n + before_tight js₂) n ≡ b.place + before_tight (drop b.place js))
       → Known p js₂ (record { place = b.place; room = b.room; job = n; listed = b.listed; seeking = seeking })
   known_as p ks js₂ b seeking n w f = record {
     inside = w.inside;
-    room-is = w.room-is;
+    room_is = w.room_is;
     largest = w.largest;
     lowest = w.lowest;
     binds = λ e. let v = w.binds e in record { own = v.own; before = v.before; due = v.due; job = f e };
   }
 
-  sought-known : (p : ℕ) (j : Job) (ks : List Job) (b : Best) → Known p (j ∷ ks) b → Known p ks (soughtAt b j)
-  sought-known p j ks b w = by-seeking b.seeking refl where
+  sought_known : (p : ℕ) (j : Job) (ks : List Job) (b : Best) → Known p (j ∷ ks) b → Known p ks (sought_at b j)
+  sought_known p j ks b w = by_seeking b.seeking refl where
     -- what is known of it before
     told : (u v : Bool) → b.seeking ≡ u → tight j ≡ v → 0 < p → b.listed ≡ true
-        → pick u (b.job + pick v 0 (suc (beforeTight ks))) b.job ≡ b.place + beforeTight (drop b.place js)
+        → pick u (b.job + pick v 0 (suc (before_tight ks))) b.job ≡ b.place + before_tight (drop b.place js)
     told u v e f h g = rw (e, f) at ((w.binds h).job g)
 
-    small : 0 < p → b.listed ≡ true → b.place + beforeTight (drop b.place js) ≤ length js
+    small : 0 < p → b.listed ≡ true → b.place + before_tight (drop b.place js) ≤ length js
     small h g =
-        let short = (early-at t d b.place js order ((w.binds h).before g)).0 in
+        let short = (early_at t d b.place js order ((w.binds h).before g)).0 in
         omega (arith, tight-few (drop b.place js), length-drop b.place js)
 
-    by-tight : (v : Bool) → tight j ≡ v → b.seeking ≡ true → Known p ks (pick v (foundJob b) (nextJob b))
-    by-tight true f e = known_as p (j ∷ ks) ks b false b.job w (λ h g. let z = told true true e f h g in omega arith)
-    by-tight false f e =
+    by_tight : (v : Bool) → tight j ≡ v → b.seeking ≡ true → Known p ks (pick v (found_job b) (next_job b))
+    by_tight true f e = known_as p (j ∷ ks) ks b false b.job w (λ h g. let z = told true true e f h g in omega arith)
+    by_tight false f e =
         known_as p (j ∷ ks) ks b b.seeking _ w
         (λ h g.
         let z = told true false e f h g in
         let one = sum_is b.job 1 (omega (arith, small h g)) in
         rw (e, one) (omega arith))
 
-    by-seeking : (u : Bool) → b.seeking ≡ u → Known p ks (pick u (pick (tight j) (foundJob b) (nextJob b)) b)
-    by-seeking true e = by-tight (tight j) refl e
-    by-seeking false e = known_as p (j ∷ ks) ks b b.seeking b.job w (λ h g. rw e (told false (tight j) e refl h g))
+    by_seeking : (u : Bool) → b.seeking ≡ u → Known p ks (pick u (pick (tight j) (found_job b) (next_job b)) b)
+    by_seeking true e = by_tight (tight j) refl e
+    by_seeking false e = known_as p (j ∷ ks) ks b b.seeking b.job w (λ h g. rw e (told false (tight j) e refl h g))
 
-  all-sought : (p : ℕ) (ks : List Job) (b : Best) → Known p ks b → Known p [] (fold soughtAt b ks)
+  all_sought : (p : ℕ) (ks : List Job) (b : Best) → Known p ks b → Known p [] (fold sought_at b ks)
   unfolding fold
-  all-sought p [] b w = w
-  all-sought p (j ∷ ks) b w = all-sought p ks (soughtAt b j) (sought-known p j ks b w)
+  all_sought p [] b w = w
+  all_sought p (j ∷ ks) b w = all_sought p ks (sought_at b j) (sought_known p j ks b w)
 
   -- ---- the whole search
 
   known_from : (ks : List Job) (p s : ℕ) (b : Best) → drop p js ≡ ks → start_at t js p ≡ s → early d js ≡ p + early d ks → Chain s ks → Known p ks b
-      → Known (early d js) [] (bestFrom d b p s ks)
+      → Known (early d js) [] (best_from d b p s ks)
   known_from [] p s b e f h g w =
       let z : p ≡ early d js = omega arith in
       subst (λ (q : ℕ). Known q [] b) z w
-  known_from (j ∷ ks) p s b e f h g w = by-early (leb (start j) d) refl (known_from ks (p + 1) (ends j)) where
+  known_from (j ∷ ks) p s b e f h g w = by_early (leb (start j) d) refl (known_from ks (p + 1) (ends j)) where
     listed : Bool
     listed = ltb (flex j) (d - start j)
 
     Rest : Type 0
     Rest = (b₂ : Best) → drop (p + 1) js ≡ ks → start_at t js (p + 1) ≡ ends j → early d js ≡ p + 1 + early d ks → Chain (ends j) ks → Known (p + 1) ks b₂
-        → Known (early d js) [] (bestFrom d b₂ (p + 1) (ends j) ks)
+        → Known (early d js) [] (best_from d b₂ (p + 1) (ends j) ks)
 
-    on : leb (start j) d ≡ true → p < early d js → Rest → Known (early d js) [] (bestFrom d (soughtAt (bestWith b p (room s d j) listed) j) (p + 1) (ends j) ks)
+    on : leb (start j) d ≡ true → p < early d js → Rest → Known (early d js) [] (best_from d (sought_at (best_with b p (room s d j) listed) j) (p + 1) (ends j) ks)
     on low inside more =
-        let here : get_or js p none ∷ drop (suc p) js ≡ j ∷ ks = sym (at_drop p js (early-at t d p js order inside).0) ∙ e in
+        let here : get_or js p none ∷ drop (suc p) js ≡ j ∷ ks = sym (at_drop p js (early_at t d p js order inside).0) ∙ e in
         let is : get_or js p none ≡ j = cc in
         let rest : drop (suc p) js ≡ ks = cc in
         let by : start j ≤ d = leb-true (start j) d low in
-        let room-is : room_at t d js p ≡ room s d j = rw (← f, ← is) (room-early t d js order right p inside) in
+        let room_is : room_at t d js p ≡ room s d j = rw (← f, ← is) (room-early t d js order right p inside) in
         let tried : Tried p (j ∷ ks) (room s d j) listed = record {
-          room-is = room-is;
-          own = λ z. rw f (own-tick s d (start j) (flex j) g.0 by (ltb-false (flex j) (d - start j) z));
+          room_is = room_is;
+          own = λ z. rw f (own_tick s d (start j) (flex j) g.0 by (ltb-false (flex j) (d - start j) z));
           before = λ z. inside;
-          due = λ z. rw f (listed-tick s d (start j) (flex j) g.0 by (ltb-true (flex j) (d - start j) z));
+          due = λ z. rw f (listed_tick s d (start j) (flex j) g.0 by (ltb-true (flex j) (d - start j) z));
           rest = λ z. e;
         } in
         let first : early d js ≡ p + suc (early d ks) = rw low at h in
         let later : early d js ≡ p + 1 + early d ks = omega arith in
         more _ (rw add-one rest) (rw add-one (ap ends is)) later g.2
-        (sought-known (p + 1) j ks (bestWith b p (room s d j) listed) (known-with p (j ∷ ks) b (room s d j) listed w tried))
+        (sought_known (p + 1) j ks (best_with b p (room s d j) listed) (known_with p (j ∷ ks) b (room s d j) listed w tried))
 
-    by-early : (v : Bool) → leb (start j) d ≡ v → Rest
-        → Known (early d js) [] (pick v (bestFrom d (soughtAt (bestWith b p (room s d j) listed) j) (p + 1) (ends j) ks) (fold soughtAt (soughtAt b j) ks))
-    by-early true low more = on low (let z : early d js ≡ p + suc (early d ks) = rw low at h in omega arith) more
-    by-early false high more =
+    by_early : (v : Bool) → leb (start j) d ≡ v → Rest
+        → Known (early d js) [] (pick v (best_from d (sought_at (best_with b p (room s d j) listed) j) (p + 1) (ends j) ks) (fold sought_at (sought_at b j) ks))
+    by_early true low more = on low (let z : early d js ≡ p + suc (early d ks) = rw low at h in omega arith) more
+    by_early false high more =
         let z : p ≡ early d js = omega (arith, h, early-none d s j ks g high) in
-        subst (λ (q : ℕ). Known q [] (fold soughtAt (soughtAt b j) ks)) z (all-sought p ks (soughtAt b j) (sought-known p j ks b w))
+        subst (λ (q : ℕ). Known q [] (fold sought_at (sought_at b j) ks)) z (all_sought p ks (sought_at b j) (sought_known p j ks b w))
 
   -- ---- what is told of it
 
@@ -221,58 +221,58 @@ module _ (t d : ℕ) (js : List Job) (order : Chain t js) (right : rightX js ≡
   abbrev s : ℕ
   s = start_at t js l
 
-  places-with : leb s d ≡ true → places_of t d js ≡ l + 1
+  places_with : leb s d ≡ true → places_of t d js ≡ l + 1
   unfolding places_of
-  places-with h = rw (h, add-one)
+  places_with h = rw (h, add-one)
 
-  places-without : leb s d ≡ false → places_of t d js ≡ l
+  places_without : leb s d ≡ false → places_of t d js ≡ l
   unfolding places_of
-  places-without h = rw h
+  places_without h = rw h
 
-  last-tried : s ≤ d → Tried l [] (d - s) false
+  last_tried : s ≤ d → Tried l [] (d - s) false
   unfolding room_at
-  last-tried by = record {
-    room-is = rw (le-ltb l l (omega arith));
+  last_tried by = record {
+    room_is = rw (le-ltb l l (omega arith));
     own = λ z. omega arith;
     before = λ z. absurd (true≢false (sym z));
     due = λ z. absurd (true≢false (sym z));
     rest = λ z. absurd (true≢false (sym z));
   }
 
-  told-known : (b : Best) → 0 < places_of t d js → Known (places_of t d js) [] b → explained b ≡ explanationOf t d js
-  told-known b h w =
-      told-one t d js b.place b.room (bindingOf b)
-      (record { inside = w.inside h; room-is = w.room-is h; largest = w.largest h; lowest = w.lowest h })
-      (by-listed b.listed refl) where
-        by-seeking : (v : Bool) (n m : ℕ) → pick v (n + 0) n ≡ m → n ≡ m
-        by-seeking true n m e = omega arith
-        by-seeking false n m e = e
+  told_known : (b : Best) → 0 < places_of t d js → Known (places_of t d js) [] b → explained b ≡ explanation_of t d js
+  told_known b h w =
+      told_one t d js b.place b.room (binding_of b)
+      (record { inside = w.inside h; room_is = w.room_is h; largest = w.largest h; lowest = w.lowest h })
+      (by_listed b.listed refl) where
+        by_seeking : (v : Bool) (n m : ℕ) → pick v (n + 0) n ≡ m → n ≡ m
+        by_seeking true n m e = omega arith
+        by_seeking false n m e = e
 
-        by-listed : (v : Bool) → b.listed ≡ v → bindingAt t d js b.place ≡ pick v (Listed b.job) Own
-        by-listed true e =
+        by_listed : (v : Bool) → b.listed ≡ v → binding_at t d js b.place ≡ pick v (Listed b.job) Own
+        by_listed true e =
             let v = w.binds h in
-            let due = rw (← w.room-is h) at (v.due e) in
-            binds-listed t d js order right b.place (v.before e) due ∙ ap (λ (k : ℕ). Listed k) (sym (by-seeking b.seeking b.job _ (v.job e)))
-        by-listed false e =
-            let over = rw (← w.room-is h) at ((w.binds h).own e) in
-            binds-own t d js b.place over
+            let due = rw (← w.room_is h) at (v.due e) in
+            binds_listed t d js order right b.place (v.before e) due ∙ ap (λ (k : ℕ). Listed k) (sym (by_seeking b.seeking b.job _ (v.job e)))
+        by_listed false e =
+            let over = rw (← w.room_is h) at ((w.binds h).own e) in
+            binds_own t d js b.place over
 
   -- with place l, where it starts by d
-  told-last : (b : Best) → Known l [] b
-      → pick (leb s d) (explained (bestWith b l (d - s) false)) (pick (eqb l 0) Nowhere (explained b)) ≡ explanationOf t d js
-  told-last b w = cases (leb s d) refl where
-    by_first : (v : Bool) → eqb l 0 ≡ v → places_of t d js ≡ l → pick v Nowhere (explained b) ≡ explanationOf t d js
+  told_last : (b : Best) → Known l [] b
+      → pick (leb s d) (explained (best_with b l (d - s) false)) (pick (eqb l 0) Nowhere (explained b)) ≡ explanation_of t d js
+  told_last b w = cases (leb s d) refl where
+    by_first : (v : Bool) → eqb l 0 ≡ v → places_of t d js ≡ l → pick v Nowhere (explained b) ≡ explanation_of t d js
     by_first true e z = told_none t d js (omega (arith, z, eqb-true l 0 e))
-    by_first false e z = told-known b (omega (arith, z, some l (eqb-false l 0 e))) (rw z w)
+    by_first false e z = told_known b (omega (arith, z, some l (eqb-false l 0 e))) (rw z w)
 
-    cases : (v : Bool) → leb s d ≡ v → pick v (explained (bestWith b l (d - s) false)) (pick (eqb l 0) Nowhere (explained b)) ≡ explanationOf t d js
+    cases : (v : Bool) → leb s d ≡ v → pick v (explained (best_with b l (d - s) false)) (pick (eqb l 0) Nowhere (explained b)) ≡ explanation_of t d js
     cases true h =
-        let z = places-with h in
-        told-known (bestWith b l (d - s) false) (omega (arith, z)) (rw z (known-with l [] b (d - s) false w (last-tried (leb-true s d h))))
-    cases false h = by_first (eqb l 0) refl (places-without h)
+        let z = places_with h in
+        told_known (best_with b l (d - s) false) (omega (arith, z)) (rw z (known_with l [] b (d - s) false w (last_tried (leb-true s d h))))
+    cases false h = by_first (eqb l 0) refl (places_without h)
 
   -- after the last job
-  pub explained-is : pick (leb s d) (explained (bestWith (bestFrom d noBest 0 t js) l (d - s) false)) (pick (eqb l 0) Nowhere (explained (bestFrom d noBest 0 t js))) ≡ explanationOf t d js
-  explained-is =
+  pub explained_is : pick (leb s d) (explained (best_with (best_from d no_best 0 t js) l (d - s) false)) (pick (eqb l 0) Nowhere (explained (best_from d no_best 0 t js))) ≡ explanation_of t d js
+  explained_is =
       let first : early d js ≡ 0 + early d js = omega arith in
-      told-last (bestFrom d noBest 0 t js) (known_from js 0 t noBest refl refl first order (known-none js))
+      told_last (best_from d no_best 0 t js) (known_from js 0 t no_best refl refl first order (known_none js))

@@ -12,18 +12,18 @@ use Rattle.desk.specs.declared.Job.{Job}
 use Rattle.desk_records.specs.Sums.{most32}
 use Rattle.desk_reading.specs.declared.searching.Searching.{Searching}
 use Rattle.desk.specs.Places.{early, start_at, room}
-use Rattle.desk.specs.Request.{kept, busy, findFrom, find, Place, At, Nowhere}
+use Rattle.desk.specs.Request.{kept, busy, find_from, find, Place, At, Nowhere}
 use Rattle.desk.proofs.Chain.{Chain}
 use Rattle.desk.proofs.Spot.{early-late}
 use Rattle.desk_records.specs.Folds.{fold}
 use Rattle.desk.proofs.Rooms.{start-next, early-none}
 use Rattle.desk_reading.specs.declared.best.Best.{Best}
-use Rattle.desk_reading.specs.Best.{noBest, bestWith, soughtAt}
-use Rattle.desk_reading.specs.Reading.{searchStep}
-use Rattle.desk_engine.proofs.Explained.{bestFrom}
+use Rattle.desk_reading.specs.Best.{no_best, best_with, sought_at}
+use Rattle.desk_reading.specs.Reading.{search_step}
+use Rattle.desk_engine.proofs.Explained.{best_from}
 use Rattle.desk_engine.proofs.Counts.{sum_is}
-use Rattle.desk_engine.proofs.Dropped.{goneBy, gone-none}
-use Rattle.desk_engine.proofs.Fitted.{behindOf}
+use Rattle.desk_engine.proofs.Dropped.{gone_by, gone-none}
+use Rattle.desk_engine.proofs.Fitted.{behind_of}
 use Rattle.desk.specs.Table.{ends}
 
 module _ (t c d : ℕ) where
@@ -59,10 +59,10 @@ module _ (t c d : ℕ) where
   }
 
   -- only the job that binds is still sought
-  off-stays : (g : ℕ) (b f : Bool) (p s h : ℕ) (m : Best) (l : List Job) → fold searchStep (off g b f p s h m) l ≡ off g b f p s h (fold soughtAt m l)
+  off_stays : (g : ℕ) (b f : Bool) (p s h : ℕ) (m : Best) (l : List Job) → fold search_step (off g b f p s h m) l ≡ off g b f p s h (fold sought_at m l)
   unfolding fold
-  off-stays g b f p s h m [] = refl
-  off-stays g b f p s h m (j ∷ l) = off-stays g b f p s h (soughtAt m j) l
+  off_stays g b f p s h m [] = refl
+  off_stays g b f p s h m (j ∷ l) = off_stays g b f p s h (sought_at m j) l
 
   abbrev spot_of : Searching → Place
   spot_of e = pick (e.found || leb (e.start + c) d) (At e.place e.start) Nowhere
@@ -73,172 +73,172 @@ module _ (t c d : ℕ) where
   -- ---- among the jobs left, on from place p and time s
 
   -- busy, of the first job left
-  abbrev busyFrom : ℕ → Bool → List Job → Bool
-  busyFrom p b [] = b
-  busyFrom p b (j ∷ ks) = pick (eqb p 0) (ltb j.start t) b
+  abbrev busy_from : ℕ → Bool → List Job → Bool
+  busy_from p b [] = b
+  busy_from p b (j ∷ ks) = pick (eqb p 0) (ltb j.start t) b
 
-  busy-stays : (p : ℕ) (b : Bool) (ks : List Job) → busyFrom (p + 1) b ks ≡ b
-  busy-stays p b [] = refl
-  busy-stays p b (j ∷ ks) = rw (ne_eqb (p + 1) 0 (omega arith))
+  busy_stays : (p : ℕ) (b : Bool) (ks : List Job) → busy_from (p + 1) b ks ≡ b
+  busy_stays p b [] = refl
+  busy_stays p b (j ∷ ks) = rw (ne_eqb (p + 1) 0 (omega arith))
 
   -- where no place has room: it has come to place l, and keeps the roomiest
   pub record Last (p s : ℕ) (m : Best) (ks : List Job) (e : Searching) : Type 0 where
     pub place_is : e.place ≡ p + early d ks
     pub start_is : e.start ≡ start_at s ks (early d ks)
-    pub best-is : e.best ≡ bestFrom d m p s ks
+    pub best_is : e.best ≡ best_from d m p s ks
 
   record Sought (g : ℕ) (b : Bool) (p s : ℕ) (m : Best) (ks : List Job) (e : Searching) : Type 0 where
     pub asks : Asks e
-    pub gone-is : e.gone ≡ g
-    pub busy-is : e.busy ≡ busyFrom p b ks
-    pub spot_is : spot_of e ≡ findFrom p s c d (take (early d ks) ks)
+    pub gone_is : e.gone ≡ g
+    pub busy_is : e.busy ≡ busy_from p b ks
+    pub spot_is : spot_of e ≡ find_from p s c d (take (early d ks) ks)
     pub from : p ≤ e.place
-    pub behind-is : e.behind ≡ behindOf (drop (e.place - p) ks)
-    pub last : findFrom p s c d (take (early d ks) ks) ≡ Nowhere → Last p s m ks e
+    pub behind_is : e.behind ≡ behind_of (drop (e.place - p) ks)
+    pub last : find_from p s c d (take (early d ks) ks) ≡ Nowhere → Last p s m ks e
 
   -- none of ks ends by t
   abbrev Lasting : List Job → Type 0
   Lasting [] = Unit {0}
   Lasting (j ∷ ks) = (t < ends j) × Lasting ks
 
-  lasting-of : (e : ℕ) (ks : List Job) → t < e → Chain e ks → Lasting ks
-  lasting-of e [] h o = tt
-  lasting-of e (j ∷ ks) h o =
+  lasting_of : (e : ℕ) (ks : List Job) → t < e → Chain e ks → Lasting ks
+  lasting_of e [] h o = tt
+  lasting_of e (j ∷ ks) h o =
       let late : t < ends j = omega (arith, h, o.0) in
-      (late, lasting-of (ends j) ks late o.2)
+      (late, lasting_of (ends j) ks late o.2)
 
   -- the ways on from a job j left
   module _ (g : ℕ) (b : Bool) (p s : ℕ) (m : Best) (j : Job) (last : t < ends j) where
     abbrev b₂ : Bool
     b₂ = pick (eqb p 0) (ltb j.start t) b
 
-    abbrev pastBest : Best
-    pastBest = soughtAt (bestWith m p (room s d j) (ltb j.flex (d - j.start))) j
+    abbrev past_best : Best
+    past_best = sought_at (best_with m p (room s d j) (ltb j.flex (d - j.start))) j
 
-    seek-late : leb j.start d ≡ false → searchStep (on g b p s m) j ≡ off g b₂ false p s (j.flex + j.start) (soughtAt m j)
-    seek-late e = rw (lt-leb (ends j) t last, lt-ltb d j.start (leb-false _ _ e))
+    seek_late : leb j.start d ≡ false → search_step (on g b p s m) j ≡ off g b₂ false p s (j.flex + j.start) (sought_at m j)
+    seek_late e = rw (lt-leb (ends j) t last, lt-ltb d j.start (leb-false _ _ e))
 
-    seek_found : leb j.start d ≡ true → leb c (room s d j) ≡ true → searchStep (on g b p s m) j ≡ off g b₂ true p s (j.flex + j.start) (soughtAt m j)
+    seek_found : leb j.start d ≡ true → leb c (room s d j) ≡ true → search_step (on g b p s m) j ≡ off g b₂ true p s (j.flex + j.start) (sought_at m j)
     seek_found e f = rw (lt-leb (ends j) t last, le-ltb d j.start (leb-true _ _ e), le-ltb (room s d j) c (leb-true c _ f))
 
-    seek-past : leb j.start d ≡ true → leb c (room s d j) ≡ false → p + 1 ≤ most32 → ends j ≤ most32 → searchStep (on g b p s m) j ≡ on g b₂ (p + 1) (ends j) pastBest
-    seek-past e f hp hj = rw (lt-leb (ends j) t last, le-ltb d j.start (leb-true _ _ e), lt-ltb (room s d j) c (leb-false c _ f), sum_is p 1 hp, sum_is j.start j.budget hj)
+    seek_past : leb j.start d ≡ true → leb c (room s d j) ≡ false → p + 1 ≤ most32 → ends j ≤ most32 → search_step (on g b p s m) j ≡ on g b₂ (p + 1) (ends j) past_best
+    seek_past e f hp hj = rw (lt-leb (ends j) t last, le-ltb d j.start (leb-true _ _ e), lt-ltb (room s d j) c (leb-false c _ f), sum_is p 1 hp, sum_is j.start j.budget hj)
 
-  none-off : (p : ℕ) → p - p ≡ 0
-  none-off p = omega arith
+  none_off : (p : ℕ) → p - p ≡ 0
+  none_off p = omega arith
 
-  one-off : (p q : ℕ) → p + 1 ≤ q → q - p ≡ suc (q - (p + 1))
-  one-off p q h = omega (arith, h)
+  one_off : (p q : ℕ) → p + 1 ≤ q → q - p ≡ suc (q - (p + 1))
+  one_off p q h = omega (arith, h)
 
   -- the place is the one before j
-  ended : (g : ℕ) (b f : Bool) (p s : ℕ) (m : Best) (j : Job) (ks : List Job) → pick (f || leb (s + c) d) (At p s) Nowhere ≡ findFrom p s c d (take (early d (j ∷ ks)) (j ∷ ks))
-      → (findFrom p s c d (take (early d (j ∷ ks)) (j ∷ ks)) ≡ Nowhere → leb j.start d ≡ false) → (e : ℕ) → Chain e (j ∷ ks)
-      → Sought g b p s m (j ∷ ks) (fold searchStep (off g (busyFrom p b (j ∷ ks)) f p s (j.flex + j.start) (soughtAt m j)) ks)
-  ended g b f p s m j ks spot high e o = subst (Sought g b p s m (j ∷ ks)) (sym (off-stays g (busyFrom p b (j ∷ ks)) f p s (j.flex + j.start) (soughtAt m j) ks)) (record {
+  ended : (g : ℕ) (b f : Bool) (p s : ℕ) (m : Best) (j : Job) (ks : List Job) → pick (f || leb (s + c) d) (At p s) Nowhere ≡ find_from p s c d (take (early d (j ∷ ks)) (j ∷ ks))
+      → (find_from p s c d (take (early d (j ∷ ks)) (j ∷ ks)) ≡ Nowhere → leb j.start d ≡ false) → (e : ℕ) → Chain e (j ∷ ks)
+      → Sought g b p s m (j ∷ ks) (fold search_step (off g (busy_from p b (j ∷ ks)) f p s (j.flex + j.start) (sought_at m j)) ks)
+  ended g b f p s m j ks spot high e o = subst (Sought g b p s m (j ∷ ks)) (sym (off_stays g (busy_from p b (j ∷ ks)) f p s (j.flex + j.start) (sought_at m j) ks)) (record {
     asks = (refl, refl, refl);
-    gone-is = refl;
-    busy-is = refl;
+    gone_is = refl;
+    busy_is = refl;
     spot_is = spot;
     from = omega arith;
-    behind-is = rw (none-off p);
+    behind_is = rw (none_off p);
     last = λ q. at_last (high q);
   }) where
-    at_last : leb j.start d ≡ false → Last p s m (j ∷ ks) (off g (busyFrom p b (j ∷ ks)) f p s (j.flex + j.start) (fold soughtAt (soughtAt m j) ks))
+    at_last : leb j.start d ≡ false → Last p s m (j ∷ ks) (off g (busy_from p b (j ∷ ks)) f p s (j.flex + j.start) (fold sought_at (sought_at m j) ks))
     at_last h =
         let z : early d (j ∷ ks) ≡ 0 = early-none d e j ks o h in
-        record { place_is = omega (arith, z); start_is = rw z; best-is = rw h }
+        record { place_is = omega (arith, z); start_is = rw z; best_is = rw h }
 
-  sought : (ks : List Job) (g : ℕ) (b : Bool) (p s : ℕ) (m : Best) (e : ℕ) → Chain e ks → Lasting ks → p + length ks ≤ most32 → Sought g b p s m ks (fold searchStep (on g b p s m) ks)
+  sought : (ks : List Job) (g : ℕ) (b : Bool) (p s : ℕ) (m : Best) (e : ℕ) → Chain e ks → Lasting ks → p + length ks ≤ most32 → Sought g b p s m ks (fold search_step (on g b p s m) ks)
   unfolding fold
   sought [] g b p s m e o w h = record {
     asks = (refl, refl, refl);
-    gone-is = refl;
-    busy-is = refl;
+    gone_is = refl;
+    busy_is = refl;
     spot_is = refl;
     from = omega arith;
-    behind-is = rw (none-off p);
-    last = λ q. record { place_is = omega arith; start_is = refl; best-is = refl };
+    behind_is = rw (none_off p);
+    last = λ q. record { place_is = omega arith; start_is = refl; best_is = refl };
   }
-  sought (j ∷ ks) g b p s m e o w h = by-early (leb j.start d) refl (sought ks g (busyFrom p b (j ∷ ks)) (p + 1) (ends j) (pastBest g b p s m j w.0) (ends j) o.2 w.1 (omega (arith, h))) where
+  sought (j ∷ ks) g b p s m e o w h = by_early (leb j.start d) refl (sought ks g (busy_from p b (j ∷ ks)) (p + 1) (ends j) (past_best g b p s m j w.0) (ends j) o.2 w.1 (omega (arith, h))) where
     m₂ : Best
-    m₂ = pastBest g b p s m j w.0
+    m₂ = past_best g b p s m j w.0
 
-    by-room : (v : Bool) → leb c (room s d j) ≡ v → leb j.start d ≡ true
-        → Sought g (busyFrom p b (j ∷ ks)) (p + 1) (ends j) m₂ ks (fold searchStep (on g (busyFrom p b (j ∷ ks)) (p + 1) (ends j) m₂) ks)
-        → Sought g b p s m (j ∷ ks) (fold searchStep (searchStep (on g b p s m) j) ks)
-    by-room true f i more =
-        subst (λ (z : Searching). Sought g b p s m (j ∷ ks) (fold searchStep z ks)) (sym (seek_found g b p s m j w.0 i f))
+    by_room : (v : Bool) → leb c (room s d j) ≡ v → leb j.start d ≡ true
+        → Sought g (busy_from p b (j ∷ ks)) (p + 1) (ends j) m₂ ks (fold search_step (on g (busy_from p b (j ∷ ks)) (p + 1) (ends j) m₂) ks)
+        → Sought g b p s m (j ∷ ks) (fold search_step (search_step (on g b p s m) j) ks)
+    by_room true f i more =
+        subst (λ (z : Searching). Sought g b p s m (j ∷ ks) (fold search_step z ks)) (sym (seek_found g b p s m j w.0 i f))
         (ended g b true p s m j ks (rw (i, f)) (λ q. absurd (let q₂ : At p s ≡ Nowhere = rw (i, f) at q in let y : ◌≡◌ {A = ℕ} 0 1 = cc in omega arith)) e o)
-    by-room false f i more =
-        subst (λ (z : Searching). Sought g b p s m (j ∷ ks) (fold searchStep z ks)) (sym (seek-past g b p s m j w.0 i f (omega (arith, h)) (omega (arith, o.1.in-time, o.1.low))))
+    by_room false f i more =
+        subst (λ (z : Searching). Sought g b p s m (j ∷ ks) (fold search_step z ks)) (sym (seek_past g b p s m j w.0 i f (omega (arith, h)) (omega (arith, o.1.in_time, o.1.low))))
         (record {
           asks = more.asks;
-          gone-is = more.gone-is;
-          busy-is = more.busy-is ∙ busy-stays p (busyFrom p b (j ∷ ks)) ks;
+          gone_is = more.gone_is;
+          busy_is = more.busy_is ∙ busy_stays p (busy_from p b (j ∷ ks)) ks;
           spot_is = rw (i, f) more.spot_is;
           from = omega (arith, more.from);
-          behind-is = rw (one-off p _ more.from) more.behind-is;
+          behind_is = rw (one_off p _ more.from) more.behind_is;
           last = λ q. next (more.last (rw (i, f) at q));
         }) where
           next : {z : Searching} → Last (p + 1) (ends j) m₂ ks z → Last p s m (j ∷ ks) z
           next l = record {
             place_is = rw i (omega (arith, l.place_is));
             start_is = rw (i, start-next s j ks (early d ks)) l.start_is;
-            best-is = rw i l.best-is;
+            best_is = rw i l.best_is;
           }
 
-    by-early : (v : Bool) → leb j.start d ≡ v
-        → Sought g (busyFrom p b (j ∷ ks)) (p + 1) (ends j) m₂ ks (fold searchStep (on g (busyFrom p b (j ∷ ks)) (p + 1) (ends j) m₂) ks)
-        → Sought g b p s m (j ∷ ks) (fold searchStep (searchStep (on g b p s m) j) ks)
-    by-early true i more = by-room (leb c (room s d j)) refl i more
-    by-early false i more =
+    by_early : (v : Bool) → leb j.start d ≡ v
+        → Sought g (busy_from p b (j ∷ ks)) (p + 1) (ends j) m₂ ks (fold search_step (on g (busy_from p b (j ∷ ks)) (p + 1) (ends j) m₂) ks)
+        → Sought g b p s m (j ∷ ks) (fold search_step (search_step (on g b p s m) j) ks)
+    by_early true i more = by_room (leb c (room s d j)) refl i more
+    by_early false i more =
         let late : d < ends j = omega (arith, leb-false j.start d i) in
-        subst (λ (z : Searching). Sought g b p s m (j ∷ ks) (fold searchStep z ks)) (sym (seek-late g b p s m j w.0 i))
+        subst (λ (z : Searching). Sought g b p s m (j ∷ ks) (fold search_step z ks)) (sym (seek_late g b p s m j w.0 i))
         (ended g b false p s m j ks (rw (i, early-late d (ends j) ks late o.2)) (λ q. i) e o)
 
   -- ---- the jobs that end by t come first
 
   pub record Searched (g : ℕ) (js : List Job) (e : Searching) : Type 0 where
     pub asks : (e.time ≡ t) × (e.budget ≡ c) × (e.deadline ≡ d)
-    pub gone-is : e.gone ≡ g + goneBy t js
-    pub busy-is : e.busy ≡ busy t (kept t js)
+    pub gone_is : e.gone ≡ g + gone_by t js
+    pub busy_is : e.busy ≡ busy t (kept t js)
     pub spot_is : spot_of e ≡ find t c d (kept t js)
-    pub behind-is : e.behind ≡ behindOf (drop e.place (kept t js))
-    pub last : find t c d (kept t js) ≡ Nowhere → Last 0 t noBest (kept t js) e
+    pub behind_is : e.behind ≡ behind_of (drop e.place (kept t js))
+    pub last : find t c d (kept t js) ≡ Nowhere → Last 0 t no_best (kept t js) e
 
-  seek-gone : (g : ℕ) (j : Job) → leb (ends j) t ≡ true → g + 1 ≤ most32 → searchStep (on g false 0 t noBest) j ≡ on (g + 1) false 0 t noBest
-  seek-gone g j e h = rw (e, sum_is g 1 h)
+  seek_gone : (g : ℕ) (j : Job) → leb (ends j) t ≡ true → g + 1 ≤ most32 → search_step (on g false 0 t no_best) j ≡ on (g + 1) false 0 t no_best
+  seek_gone g j e h = rw (e, sum_is g 1 h)
 
   from_front : (p : ℕ) → p - 0 ≡ p
   from_front p = omega arith
 
-  all_left : (g : ℕ) (j : Job) (js : List Job) (z : Searching) → leb (ends j) t ≡ false → (goneBy t js ≡ 0) × (kept t js ≡ js) → Sought g false 0 t noBest (j ∷ js) z → Searched g (j ∷ js) z
+  all_left : (g : ℕ) (j : Job) (js : List Job) (z : Searching) → leb (ends j) t ≡ false → (gone_by t js ≡ 0) × (kept t js ≡ js) → Sought g false 0 t no_best (j ∷ js) z → Searched g (j ∷ js) z
   all_left g j js z i all so = record {
     asks = so.asks;
-    gone-is = rw (i, all.0) (omega (arith, so.gone-is));
-    busy-is = rw i so.busy-is;
+    gone_is = rw (i, all.0) (omega (arith, so.gone_is));
+    busy_is = rw i so.busy_is;
     spot_is = rw (i, all.1) so.spot_is;
-    behind-is = rw (i, all.1) (rw (from_front z.place) at so.behind-is);
+    behind_is = rw (i, all.1) (rw (from_front z.place) at so.behind_is);
     last = rw (i, all.1) so.last;
   }
 
-  pub searched : (js : List Job) (g e : ℕ) → Chain e js → g + length js ≤ most32 → Searched g js (fold searchStep (on g false 0 t noBest) js)
+  pub searched : (js : List Job) (g e : ℕ) → Chain e js → g + length js ≤ most32 → Searched g js (fold search_step (on g false 0 t no_best) js)
   unfolding fold
-  searched [] g e o h = record { asks = (refl, refl, refl); gone-is = omega arith; busy-is = refl; spot_is = refl; behind-is = refl; last = λ q. record { place_is = omega arith; start_is = refl; best-is = refl } }
+  searched [] g e o h = record { asks = (refl, refl, refl); gone_is = omega arith; busy_is = refl; spot_is = refl; behind_is = refl; last = λ q. record { place_is = omega arith; start_is = refl; best_is = refl } }
   searched (j ∷ js) g e o h = by_end (leb (ends j) t) refl (searched js (g + 1) (ends j) o.2 (omega (arith, h))) where
-    by_end : (v : Bool) → leb (ends j) t ≡ v → Searched (g + 1) js (fold searchStep (on (g + 1) false 0 t noBest) js)
-        → Searched g (j ∷ js) (fold searchStep (searchStep (on g false 0 t noBest) j) js)
+    by_end : (v : Bool) → leb (ends j) t ≡ v → Searched (g + 1) js (fold search_step (on (g + 1) false 0 t no_best) js)
+        → Searched g (j ∷ js) (fold search_step (search_step (on g false 0 t no_best) j) js)
     by_end true i more =
-        subst (λ (z : Searching). Searched g (j ∷ js) (fold searchStep z js)) (sym (seek-gone g j i (omega (arith, h))))
+        subst (λ (z : Searching). Searched g (j ∷ js) (fold search_step z js)) (sym (seek_gone g j i (omega (arith, h))))
         (record {
           asks = more.asks;
-          gone-is = rw i (omega (arith, more.gone-is));
-          busy-is = rw i more.busy-is;
+          gone_is = rw i (omega (arith, more.gone_is));
+          busy_is = rw i more.busy_is;
           spot_is = rw i more.spot_is;
-          behind-is = rw i more.behind-is;
+          behind_is = rw i more.behind_is;
           last = rw i more.last;
         })
     by_end false i more =
         let last : t < ends j = leb-false _ _ i in
         let all = gone-none t (ends j) js last o.2 in
-        all_left g j js _ i all (sought (j ∷ js) g false 0 t noBest e o (last, lasting-of (ends j) js last o.2) (omega (arith, h)))
+        all_left g j js _ i all (sought (j ∷ js) g false 0 t no_best e o (last, lasting_of (ends j) js last o.2) (omega (arith, h)))

@@ -12,37 +12,37 @@ use Rattle.desk.proofs.Afresh.{AllNear}
 use Rattle.desk_writing.specs.declared.shift.Shift.{Shift}
 use Rattle.desk_records.specs.Folds.{forth}
 use Rattle.desk_records.specs.Sums.{most32, sum_to}
-use Rattle.desk_writing.specs.Writing.{shiftFrom, stillShift, shiftOut, shiftStep, shifted}
+use Rattle.desk_writing.specs.Writing.{shift_from, still_shift, shift_out, shift_step, shifted}
 use Rattle.desk_engine.proofs.Counts.{some_more, one_less, sum_is}
 
-abbrev shiftAt : ℕ → ℕ → ℕ → Job → Shift
-shiftAt before put end carry = record { still = false; before = before; put = put; end = end; carry = carry }
+abbrev shift_at : ℕ → ℕ → ℕ → Job → Shift
+shift_at before put end carry = record { still = false; before = before; put = put; end = end; carry = carry }
 
-shift-before : (n put end : ℕ) (carry j : Job) → shiftStep (shiftAt (suc n) put end carry) j ≡ shiftAt n put end carry
+shift-before : (n put end : ℕ) (carry j : Job) → shift_step (shift_at (suc n) put end carry) j ≡ shift_at n put end carry
 shift-before n put end carry j = rw (some_more n, one_less n)
 
-shift-before-out : (n put end : ℕ) (carry j : Job) → shiftOut (shiftAt (suc n) put end carry) j ≡ j
-shift-before-out n put end carry j = rw (some_more n)
+shift-before_out : (n put end : ℕ) (carry j : Job) → shift_out (shift_at (suc n) put end carry) j ≡ j
+shift-before_out n put end carry j = rw (some_more n)
 
-shift-put : (n e : ℕ) (k j : Job) → shiftStep (shiftAt 0 (suc n) e k) j ≡ shiftAt 0 n (sum_to (max e k.start) k.budget) j
-shift-put n e k j = rw (some_more n, one_less n)
+shift_put : (n e : ℕ) (k j : Job) → shift_step (shift_at 0 (suc n) e k) j ≡ shift_at 0 n (sum_to (max e k.start) k.budget) j
+shift_put n e k j = rw (some_more n, one_less n)
 
-shift-put-out : (n e : ℕ) (k j : Job) → shiftOut (shiftAt 0 (suc n) e k) j ≡ moved e k
-shift-put-out n e k j = rw (some_more n)
+shift_put_out : (n e : ℕ) (k j : Job) → shift_out (shift_at 0 (suc n) e k) j ≡ moved e k
+shift_put_out n e k j = rw (some_more n)
 
-forth-cons : (s s₂ : Shift) (j v : Job) (l : List Job) → shiftStep s j ≡ s₂ → shiftOut s j ≡ v → forth shiftStep shiftOut s (j ∷ l) ≡ v ∷ forth shiftStep shiftOut s₂ l
+forth-cons : (s s₂ : Shift) (j v : Job) (l : List Job) → shift_step s j ≡ s₂ → shift_out s j ≡ v → forth shift_step shift_out s (j ∷ l) ≡ v ∷ forth shift_step shift_out s₂ l
 unfolding forth
-forth-cons s s₂ j v l e f = ap (λ (r : Shift). shiftOut s j ∷ forth shiftStep shiftOut r l) e ∙ ap (λ (u : Job). u ∷ forth shiftStep shiftOut s₂ l) f
+forth-cons s s₂ j v l e f = ap (λ (r : Shift). shift_out s j ∷ forth shift_step shift_out r l) e ∙ ap (λ (u : Job). u ∷ forth shift_step shift_out s₂ l) f
 
 forth-before : (xs ys : List Job) (put end : ℕ) (carry : Job)
-    → forth shiftStep shiftOut (shiftAt (length xs) put end carry) (xs ++ ys) ≡ xs ++ forth shiftStep shiftOut (shiftAt 0 put end carry) ys
+    → forth shift_step shift_out (shift_at (length xs) put end carry) (xs ++ ys) ≡ xs ++ forth shift_step shift_out (shift_at 0 put end carry) ys
 unfolding forth
 forth-before [] ys put end carry = refl
 forth-before (x ∷ xs) ys put end carry =
-    forth-cons (shiftAt (suc (length xs)) put end carry) (shiftAt (length xs) put end carry) x x (xs ++ ys) (shift-before (length xs) put end carry x) (shift-before-out (length xs) put end carry x)
+    forth-cons (shift_at (suc (length xs)) put end carry) (shift_at (length xs) put end carry) x x (xs ++ ys) (shift-before (length xs) put end carry x) (shift-before_out (length xs) put end carry x)
     ∙ ap (λ (r : List Job). x ∷ r) (forth-before xs ys put end carry)
 
-forth-none : (z : List Job) (end : ℕ) (carry : Job) → forth shiftStep shiftOut (shiftAt 0 0 end carry) z ≡ replicate (length z) none
+forth-none : (z : List Job) (end : ℕ) (carry : Job) → forth shift_step shift_out (shift_at 0 0 end carry) z ≡ replicate (length z) none
 unfolding forth
 forth-none [] end carry = refl
 forth-none (y ∷ z) end carry = ap (λ (r : List Job). none ∷ r) (forth-none z end carry)
@@ -52,48 +52,48 @@ abbrev pub Within : ℕ → List Job → Type 0
 Within e [] = Unit {0}
 Within e (j ∷ js) = (max e j.start + j.budget ≤ most32) × Within (max e j.start + j.budget) js
 
-forth-push : (e : ℕ) (k : Job) (ks : List Job) (y : Job) (z : List Job) → Within e (k ∷ ks)
-    → forth shiftStep shiftOut (shiftAt 0 (suc (length ks)) e k) (ks ++ (y ∷ z)) ≡ shift e (k ∷ ks) ++ replicate (length z) none
+forth_push : (e : ℕ) (k : Job) (ks : List Job) (y : Job) (z : List Job) → Within e (k ∷ ks)
+    → forth shift_step shift_out (shift_at 0 (suc (length ks)) e k) (ks ++ (y ∷ z)) ≡ shift e (k ∷ ks) ++ replicate (length z) none
 unfolding forth
-forth-push e k [] y z w =
-    forth-cons (shiftAt 0 1 e k) (shiftAt 0 0 (sum_to (max e k.start) k.budget) y) y (moved e k) z (shift-put 0 e k y) (shift-put-out 0 e k y)
+forth_push e k [] y z w =
+    forth-cons (shift_at 0 1 e k) (shift_at 0 0 (sum_to (max e k.start) k.budget) y) y (moved e k) z (shift_put 0 e k y) (shift_put_out 0 e k y)
     ∙ ap (λ (r : List Job). moved e k ∷ r) (forth-none z (sum_to (max e k.start) k.budget) y)
-forth-push e k (k₂ ∷ ks) y z w =
-    forth-cons (shiftAt 0 (suc (suc (length ks))) e k) (shiftAt 0 (suc (length ks)) (sum_to (max e k.start) k.budget) k₂) k₂ (moved e k) (ks ++ (y ∷ z)) (shift-put (suc (length ks)) e k k₂) (shift-put-out (suc (length ks)) e k k₂)
-    ∙ ap (λ (i : ℕ). moved e k ∷ forth shiftStep shiftOut (shiftAt 0 (suc (length ks)) i k₂) (ks ++ (y ∷ z))) (sum_is (max e k.start) k.budget w.0)
-    ∙ ap (λ (r : List Job). moved e k ∷ r) (forth-push (max e k.start + k.budget) k₂ ks y z w.1)
+forth_push e k (k₂ ∷ ks) y z w =
+    forth-cons (shift_at 0 (suc (suc (length ks))) e k) (shift_at 0 (suc (length ks)) (sum_to (max e k.start) k.budget) k₂) k₂ (moved e k) (ks ++ (y ∷ z)) (shift_put (suc (length ks)) e k k₂) (shift_put_out (suc (length ks)) e k k₂)
+    ∙ ap (λ (i : ℕ). moved e k ∷ forth shift_step shift_out (shift_at 0 (suc (length ks)) i k₂) (ks ++ (y ∷ z))) (sum_is (max e k.start) k.budget w.0)
+    ∙ ap (λ (r : List Job). moved e k ∷ r) (forth_push (max e k.start + k.budget) k₂ ks y z w.1)
 
 -- from 0 on the first job is not moved
-first-stays : (j : Job) → moved 0 j ≡ j
-first-stays j =
+first_stays : (j : Job) → moved 0 j ≡ j
+first_stays j =
     let e : max 0 j.start ≡ j.start = omega arith in
     let f : j.flex - (j.start - j.start) ≡ j.flex = omega arith in
     rw (e, f)
 
 -- xs stay, the new job is put, ks are moved behind it, and zeros follow: one place fewer than there were
-pub shift-law : (xs ks : List Job) (new y : Job) (z : List Job) → ends new ≤ most32 → Within (ends new) ks
-    → shifted (shiftFrom (length xs) (suc (length ks)) new) (xs ++ (ks ++ (y ∷ z))) ≡ xs ++ (new ∷ (shift (ends new) ks ++ replicate (length z) none))
+pub shift_law : (xs ks : List Job) (new y : Job) (z : List Job) → ends new ≤ most32 → Within (ends new) ks
+    → shifted (shift_from (length xs) (suc (length ks)) new) (xs ++ (ks ++ (y ∷ z))) ≡ xs ++ (new ∷ (shift (ends new) ks ++ replicate (length z) none))
 unfolding shifted
-shift-law xs ks new y z h w =
+shift_law xs ks new y z h w =
     let e : max 0 new.start ≡ new.start = omega arith in
     let all : Within 0 (new ∷ ks) = rw e (h, w) in
     forth-before xs (ks ++ (y ∷ z)) (suc (length ks)) 0 new
-    ∙ ap (λ (r : List Job). xs ++ r) (forth-push 0 new ks y z all)
-    ∙ ap (λ (m : Job). xs ++ (m ∷ (shift (ends m) ks ++ replicate (length z) none))) (first-stays new)
+    ∙ ap (λ (r : List Job). xs ++ r) (forth_push 0 new ks y z all)
+    ∙ ap (λ (m : Job). xs ++ (m ∷ (shift (ends m) ks ++ replicate (length z) none))) (first_stays new)
 
 -- no new job: the listed ones stay, and zeros follow
-pub clear-law : (xs z : List Job) → shifted (shiftFrom (length xs) 0 none) (xs ++ z) ≡ xs ++ replicate (length z) none
+pub clear_law : (xs z : List Job) → shifted (shift_from (length xs) 0 none) (xs ++ z) ≡ xs ++ replicate (length z) none
 unfolding shifted
-clear-law xs z = forth-before xs z 0 0 none ∙ ap (λ (r : List Job). xs ++ r) (forth-none z 0 none)
+clear_law xs z = forth-before xs z 0 0 none ∙ ap (λ (r : List Job). xs ++ r) (forth-none z 0 none)
 
-forth-still : (l : List Job) → forth shiftStep shiftOut stillShift l ≡ l
+forth_still : (l : List Job) → forth shift_step shift_out still_shift l ≡ l
 unfolding forth
-forth-still [] = refl
-forth-still (j ∷ l) = ap (λ (r : List Job). j ∷ r) (forth-still l)
+forth_still [] = refl
+forth_still (j ∷ l) = ap (λ (r : List Job). j ∷ r) (forth_still l)
 
-pub shift-still : (l : List Job) → shifted stillShift l ≡ l
+pub shift_still : (l : List Job) → shifted still_shift l ≡ l
 unfolding shifted
-shift-still l = forth-still l
+shift_still l = forth_still l
 
 -- no sum passes 32 bits where no move exceeds its job's x and the numbers are small
 pub record Low (j : Job) : Type 0 where

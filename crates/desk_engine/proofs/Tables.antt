@@ -8,68 +8,68 @@ use lib.ListN.{length, take, drop, replicate, length-append, length-take, length
 use lib.Dec.{eqb}
 use borrow.Author.Tests.{eqb-true}
 use Rattle.rules.specs.Walk.{pick}
-use Rattle.desk_engine.specs.Deciding.{dropFrom}
+use Rattle.desk_engine.specs.Deciding.{drop_from}
 use lib.Seq.{drop-length, length-take-le}
 use Rattle.rules.specs.Limits.{places}
 use Rattle.desk.specs.declared.Job.{Job}
-use Rattle.desk.specs.Table.{none, filled, flexes, tableOk, ends}
+use Rattle.desk.specs.Table.{none, filled, flexes, table_ok, ends}
 use Rattle.desk.specs.Places.{shift}
-use Rattle.desk.specs.Request.{insertAt, kept}
-use Rattle.desk.proofs.Check.{listed_of, length-refit, opened-is}
-use Rattle.desk.proofs.Chain.{Chain, chain-of, chain-kept}
+use Rattle.desk.specs.Request.{insert_at, kept}
+use Rattle.desk.proofs.Check.{listed_of, length-refit, opened_is}
+use Rattle.desk.proofs.Chain.{Chain, chain_of, chain_kept}
 use Rattle.desk.proofs.Spot.{length_shift}
-use Rattle.desk_records.specs.Folds.{movedUp}
+use Rattle.desk_records.specs.Folds.{moved_up}
 use Rattle.desk_records.specs.Sums.{most32}
-use Rattle.desk_writing.specs.Writing.{shiftFrom, stillShift, shifted, fitFrom, stillFit, fittedAll}
-use Rattle.desk_engine.proofs.Fitted.{behindOf, Dues, fit-law, fit-still}
-use Rattle.desk_engine.proofs.Shifted.{shift-law, clear-law, shift-still, Within}
-use Rattle.desk_engine.proofs.Dropped.{goneBy, drop-law, gone-few}
+use Rattle.desk_writing.specs.Writing.{shift_from, still_shift, shifted, fit_from, still_fit, fitted_all}
+use Rattle.desk_engine.proofs.Fitted.{behind_of, Dues, fit_law, fit_still}
+use Rattle.desk_engine.proofs.Shifted.{shift_law, clear_law, shift_still, Within}
+use Rattle.desk_engine.proofs.Dropped.{gone_by, drop_law, gone-few}
 
 -- nothing changes
-moved_none : (l : List Job) → movedUp 0 l ≡ l
-unfolding movedUp
+moved_none : (l : List Job) → moved_up 0 l ≡ l
+unfolding moved_up
 moved_none l = let e : length l - 0 ≡ length l = omega arith in ap (λ (m : ℕ). l ++ drop m l) e ∙ ap (λ (r : List Job). l ++ r) (drop-length l) ∙ append-nil l
 
 -- from past the table on there is nothing to move
-moved_all : (l : List Job) → length l ≡ places → movedUp places l ≡ l
-unfolding movedUp
+moved_all : (l : List Job) → length l ≡ places → moved_up places l ≡ l
+unfolding moved_up
 moved_all l h =
     let e : length l - places ≡ 0 = omega (arith, h) in
     ap (λ (m : ℕ). drop m l ++ drop (length l - places) l) (sym h) ∙ ap (λ (r : List Job). r ++ drop (length l - places) l) (drop-length l) ∙ ap (λ (m : ℕ). drop m l) e
 
-moved-from : (g : ℕ) (l : List Job) → length l ≡ places → movedUp (dropFrom g) l ≡ movedUp g l
-moved-from g l h = by-none (eqb g 0) refl where
-  by-none : (b : Bool) → eqb g 0 ≡ b → movedUp (pick b places g) l ≡ movedUp g l
-  by-none true e = moved_all l h ∙ sym (moved_none l) ∙ ap (λ (m : ℕ). movedUp m l) (sym (eqb-true g 0 e))
-  by-none false e = refl
+moved-from : (g : ℕ) (l : List Job) → length l ≡ places → moved_up (drop_from g) l ≡ moved_up g l
+moved-from g l h = by_none (eqb g 0) refl where
+  by_none : (b : Bool) → eqb g 0 ≡ b → moved_up (pick b places g) l ≡ moved_up g l
+  by_none true e = moved_all l h ∙ sym (moved_none l) ∙ ap (λ (m : ℕ). moved_up m l) (sym (eqb-true g 0 e))
+  by_none false e = refl
 
-pub still-table : (l : List Job) → fittedAll stillFit (shifted stillShift (movedUp 0 l)) ≡ l
-still-table l = fit-still (shifted stillShift (movedUp 0 l)) ∙ shift-still (movedUp 0 l) ∙ moved_none l
+pub still_table : (l : List Job) → fitted_all still_fit (shifted still_shift (moved_up 0 l)) ≡ l
+still_table l = fit_still (shifted still_shift (moved_up 0 l)) ∙ shift_still (moved_up 0 l) ∙ moved_none l
 
 -- no deadline is later than far off
-dues-of : (e : ℕ) (js : List Job) → Chain e js → Dues js
-dues-of e [] o = tt
-dues-of e (j ∷ js) o = (omega (arith, o.1.low), dues-of (ends j) js o.2)
+dues_of : (e : ℕ) (js : List Job) → Chain e js → Dues js
+dues_of e [] o = tt
+dues_of e (j ∷ js) o = (omega (arith, o.1.low), dues_of (ends j) js o.2)
 
-dues-take : (i : ℕ) (js : List Job) → Dues js → Dues (take i js)
-dues-take zero js w = tt
-dues-take (suc i) [] w = tt
-dues-take (suc i) (j ∷ js) w = (w.0, dues-take i js w.1)
+dues_take : (i : ℕ) (js : List Job) → Dues js → Dues (take i js)
+dues_take zero js w = tt
+dues_take (suc i) [] w = tt
+dues_take (suc i) (j ∷ js) w = (w.0, dues_take i js w.1)
 
-dues-one : (js : List Job) (j : Job) → Dues js → j.deadline ≤ most32 → Dues (js ++ (j ∷ []))
-dues-one [] j w h = (h, tt)
-dues-one (k ∷ js) j w h = (w.0, dues-one js j w.1 h)
+dues_one : (js : List Job) (j : Job) → Dues js → j.deadline ≤ most32 → Dues (js ++ (j ∷ []))
+dues_one [] j w h = (h, tt)
+dues_one (k ∷ js) j w h = (w.0, dues_one js j w.1 h)
 
 -- the listed jobs with their own x, and zeros
-pub open-table : (n : ℕ) (l : List Job) → tableOk n l ≡ true → fittedAll (fitFrom (places - n) most32) (shifted stillShift (movedUp places l)) ≡ filled (flexes (take n l))
-open-table n l h =
+pub open_table : (n : ℕ) (l : List Job) → table_ok n l ≡ true → fitted_all (fit_from (places - n) most32) (shifted still_shift (moved_up places l)) ≡ filled (flexes (take n l))
+open_table n l h =
     let w = listed_of n l h in
     let left : places - n ≡ length (drop n l) = omega (arith, length-drop n l, w.whole) in
-    ap (fittedAll (fitFrom (places - n) most32)) (shift-still (movedUp places l) ∙ moved_all l w.whole)
-    ∙ ap (λ (m : ℕ). fittedAll (fitFrom m most32) l) left
-    ∙ ap (fittedAll (fitFrom (length (drop n l)) most32)) (sym (take-append-drop n l))
-    ∙ fit-law (take n l) [] (drop n l) (dues-of 0 (take n l) (chain-of 0 (take n l) w.order))
-    ∙ opened-is n l h
+    ap (fitted_all (fit_from (places - n) most32)) (shift_still (moved_up places l) ∙ moved_all l w.whole)
+    ∙ ap (λ (m : ℕ). fitted_all (fit_from m most32) l) left
+    ∙ ap (fitted_all (fit_from (length (drop n l)) most32)) (sym (take-append-drop n l))
+    ∙ fit_law (take n l) [] (drop n l) (dues_of 0 (take n l) (chain_of 0 (take n l) w.order))
+    ∙ opened_is n l h
 
 module _ (t : ℕ) (l : List Job) (n : ℕ) (sixty : length l ≡ places) (o : Chain 0 (take n l)) where
   abbrev js : List Job
@@ -80,29 +80,29 @@ module _ (t : ℕ) (l : List Job) (n : ℕ) (sixty : length l ≡ places) (o : C
 
   -- what stands behind the jobs left, after the drop pass
   abbrev past : List Job
-  past = drop n l ++ drop (length (js ++ drop n l) - goneBy t js) (js ++ drop n l)
+  past = drop n l ++ drop (length (js ++ drop n l) - gone_by t js) (js ++ drop n l)
 
-  moved-is : movedUp (goneBy t js) l ≡ ks ++ past
-  moved-is = ap (movedUp (goneBy t js)) (sym (take-append-drop n l)) ∙ drop-law t 0 js (drop n l) o
+  moved_is : moved_up (gone_by t js) l ≡ ks ++ past
+  moved_is = ap (moved_up (gone_by t js)) (sym (take-append-drop n l)) ∙ drop_law t 0 js (drop n l) o
 
-  length_moved : (k : ℕ) (r : List Job) → k ≤ length r → length (movedUp k r) ≡ length r
-  unfolding movedUp
+  length_moved : (k : ℕ) (r : List Job) → k ≤ length r → length (moved_up k r) ≡ length r
+  unfolding moved_up
   length_moved k r h = omega (arith, h, length-append (drop k r) (drop (length r - k) r), length-drop k r, length-drop (length r - k) r)
 
-  gone-in : goneBy t js ≤ length l
-  gone-in = omega (arith, gone-few t js, length-take n l)
+  gone_in : gone_by t js ≤ length l
+  gone_in = omega (arith, gone-few t js, length-take n l)
 
-  past-length : length ks + length past ≡ places
-  past-length = sym (length-append ks past) ∙ ap length (sym moved-is) ∙ length_moved (goneBy t js) l gone-in ∙ sixty
+  past_length : length ks + length past ≡ places
+  past_length = sym (length-append ks past) ∙ ap length (sym moved_is) ∙ length_moved (gone_by t js) l gone_in ∙ sixty
 
-  dropped-is : movedUp (dropFrom (goneBy t js)) l ≡ ks ++ past
-  dropped-is = moved-from (goneBy t js) l sixty ∙ moved-is
+  dropped_is : moved_up (drop_from (gone_by t js)) l ≡ ks ++ past
+  dropped_is = moved-from (gone_by t js) l sixty ∙ moved_is
 
   -- the jobs left, and zeros
-  pub drop-table : fittedAll stillFit (shifted (shiftFrom (length ks) 0 none) (movedUp (dropFrom (goneBy t js)) l)) ≡ filled ks
-  drop-table =
-      let e : length past ≡ places - length ks = omega (arith, past-length) in
-      fit-still (shifted (shiftFrom (length ks) 0 none) (movedUp (dropFrom (goneBy t js)) l)) ∙ ap (shifted (shiftFrom (length ks) 0 none)) dropped-is ∙ clear-law ks past ∙ ap (λ (m : ℕ). ks ++ replicate m none) e
+  pub drop_table : fitted_all still_fit (shifted (shift_from (length ks) 0 none) (moved_up (drop_from (gone_by t js)) l)) ≡ filled ks
+  drop_table =
+      let e : length past ≡ places - length ks = omega (arith, past_length) in
+      fit_still (shifted (shift_from (length ks) 0 none) (moved_up (drop_from (gone_by t js)) l)) ∙ ap (shifted (shift_from (length ks) 0 none)) dropped_is ∙ clear_law ks past ∙ ap (λ (m : ℕ). ks ++ replicate m none) e
 
   -- the jobs left with a new one at place i, and zeros
   module _ (new : Job) (i : ℕ) (low : ends new ≤ most32) (due : new.deadline ≤ most32) (in-ks : i ≤ length ks) (some-free : length ks < places) (w : Within (ends new) (drop i ks)) where
@@ -116,32 +116,32 @@ module _ (t : ℕ) (l : List Job) (n : ℕ) (sixty : length l ≡ places) (o : C
     zs = replicate (places - (length ks + 1)) none
 
     abbrev shifts : List Job → List Job
-    shifts = shifted (shiftFrom i (suc (length ks - i)) new)
+    shifts = shifted (shift_from i (suc (length ks - i)) new)
 
     abbrev fits : List Job → List Job
-    fits = fittedAll (fitFrom (places - (i + 1)) (behindOf (shift (ends new) rear)))
+    fits = fitted_all (fit_from (places - (i + 1)) (behind_of (shift (ends new) rear)))
 
-    shifted-is : (r : List Job) → past ≡ r → length ks + length r ≡ places → shifts (ks ++ r) ≡ front ++ (new ∷ (shift (ends new) rear ++ zs))
-    shifted-is [] e h = absurd (omega (arith, h))
-    shifted-is (y ∷ z) e h =
+    shifted_is : (r : List Job) → past ≡ r → length ks + length r ≡ places → shifts (ks ++ r) ≡ front ++ (new ∷ (shift (ends new) rear ++ zs))
+    shifted_is [] e h = absurd (omega (arith, h))
+    shifted_is (y ∷ z) e h =
         let e₁ : length front ≡ i = length-take-le i ks in-ks in
         let e₂ : length rear ≡ length ks - i = length-drop i ks in
         let e₃ : length z ≡ places - (length ks + 1) = omega (arith, h) in
-        ap (λ (m : ℕ). shifted (shiftFrom m (suc (length ks - i)) new) (ks ++ (y ∷ z))) (sym e₁)
-        ∙ ap (λ (m : ℕ). shifted (shiftFrom (length front) (suc m) new) (ks ++ (y ∷ z))) (sym e₂)
-        ∙ ap (λ (r : List Job). shifted (shiftFrom (length front) (suc (length rear)) new) (r ++ (y ∷ z))) (sym (take-append-drop i ks))
-        ∙ ap (shifted (shiftFrom (length front) (suc (length rear)) new)) (append_assoc front rear (y ∷ z))
-        ∙ shift-law front rear new y z low w
+        ap (λ (m : ℕ). shifted (shift_from m (suc (length ks - i)) new) (ks ++ (y ∷ z))) (sym e₁)
+        ∙ ap (λ (m : ℕ). shifted (shift_from (length front) (suc m) new) (ks ++ (y ∷ z))) (sym e₂)
+        ∙ ap (λ (r : List Job). shifted (shift_from (length front) (suc (length rear)) new) (r ++ (y ∷ z))) (sym (take-append-drop i ks))
+        ∙ ap (shifted (shift_from (length front) (suc (length rear)) new)) (append_assoc front rear (y ∷ z))
+        ∙ shift_law front rear new y z low w
         ∙ ap (λ (m : ℕ). front ++ (new ∷ (shift (ends new) rear ++ replicate m none))) e₃
 
-    pub take-table : fits (shifts (movedUp (dropFrom (goneBy t js)) l)) ≡ filled (insertAt i new ks)
-    take-table =
+    pub take_table : fits (shifts (moved_up (drop_from (gone_by t js)) l)) ≡ filled (insert_at i new ks)
+    take_table =
         let moved_on : List Job = shift (ends new) rear in
         let e₁ : length moved_on ≡ length ks - i = length_shift (ends new) rear ∙ length-drop i ks in
         let e₂ : places - (i + 1) ≡ length (moved_on ++ zs) = omega (arith, in-ks, some-free, e₁, length-append moved_on zs, length-replicate (places - (length ks + 1)) none) in
-        let e₃ : places - length (insertAt i new ks) ≡ places - (length ks + 1) = omega (arith, in-ks, length-refit (front ++ (new ∷ [])) moved_on, length-append front (new ∷ []), length-take-le i ks in-ks, e₁) in
-        ap (λ (r : List Job). fits (shifts r)) dropped-is
-        ∙ ap fits (shifted-is past refl past-length ∙ sym (append_assoc front (new ∷ []) (moved_on ++ zs)))
-        ∙ ap (λ (m : ℕ). fittedAll (fitFrom m (behindOf moved_on)) ((front ++ (new ∷ [])) ++ (moved_on ++ zs))) e₂
-        ∙ fit-law (front ++ (new ∷ [])) moved_on zs (dues-one front new (dues-take i ks (dues-of 0 ks (chain-kept t 0 js o))) due)
-        ∙ ap (λ (m : ℕ). insertAt i new ks ++ replicate m none) (sym e₃)
+        let e₃ : places - length (insert_at i new ks) ≡ places - (length ks + 1) = omega (arith, in-ks, length-refit (front ++ (new ∷ [])) moved_on, length-append front (new ∷ []), length-take-le i ks in-ks, e₁) in
+        ap (λ (r : List Job). fits (shifts r)) dropped_is
+        ∙ ap fits (shifted_is past refl past_length ∙ sym (append_assoc front (new ∷ []) (moved_on ++ zs)))
+        ∙ ap (λ (m : ℕ). fitted_all (fit_from m (behind_of moved_on)) ((front ++ (new ∷ [])) ++ (moved_on ++ zs))) e₂
+        ∙ fit_law (front ++ (new ∷ [])) moved_on zs (dues_one front new (dues_take i ks (dues_of 0 ks (chain_kept t 0 js o))) due)
+        ∙ ap (λ (m : ℕ). insert_at i new ks ++ replicate m none) (sym e₃)

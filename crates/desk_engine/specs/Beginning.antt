@@ -6,7 +6,7 @@ use Rattle.desk.specs.declared.Desk.{Desk}
 use Rattle.desk.specs.declared.Ask.{Ask}
 use Rattle.desk.specs.declared.Ask.TheVariants.{Open, Request}
 use Rattle.desk_records.specs.Sums.{most32}
-use Rattle.desk_reading.specs.Best.{noBest}
+use Rattle.desk_reading.specs.Best.{no_best}
 use Rattle.desk_reading.specs.declared.checking.Checking.{Checking}
 use Rattle.desk_reading.specs.declared.searching.Searching.{Searching}
 use Rattle.desk_reading.specs.declared.scan.Scan.{Scan}
@@ -14,14 +14,14 @@ use Rattle.desk_reading.specs.declared.scan.Scan.{Scan}
 -- a table of other than 64 places, or a count or clock out of bounds, is not right from the start
 
 -- "A lent table of other than 64 places is 13", "count at most 64"
-abbrev pub sizesOk : Desk → ℕ → Bool
-sizesOk k n = eqb n places && leb k.count places
+abbrev pub sizes_ok : Desk → ℕ → Bool
+sizes_ok k n = eqb n places && leb k.count places
 
-abbrev pub checkingFrom : Bool → Checking
-checkingFrom o = record { opening = o; end = 0; own = 0; flex = 0 }
+abbrev pub checking_from : Bool → Checking
+checking_from o = record { opening = o; end = 0; own = 0; flex = 0 }
 
-abbrev pub searchingFrom : Bool → ℕ → ℕ → ℕ → Searching
-searchingFrom looking t c d = record {
+abbrev pub searching_from : Bool → ℕ → ℕ → ℕ → Searching
+searching_from looking t c d = record {
   time = t;
   budget = c;
   deadline = d;
@@ -32,29 +32,29 @@ searchingFrom looking t c d = record {
   place = 0;
   start = t;
   behind = most32;
-  best = noBest;
+  best = no_best;
 }
 
 -- "Opening takes any x of a listed job and any clock"
-abbrev pub openingOf : Desk → ℕ → Scan
-openingOf k n = record {
-  ok = sizesOk k n;
+abbrev pub opening_of : Desk → ℕ → Scan
+opening_of k n = record {
+  ok = sizes_ok k n;
   left = k.count;
-  checking = checkingFrom true;
-  searching = searchingFrom false 0 0 0;
+  checking = checking_from true;
+  searching = searching_from false 0 0 0;
   desk = k;
 }
 
 -- "A request at time t has budget C and deadline d."
-abbrev pub askingOf : Desk → ℕ → ℕ → ℕ → ℕ → Scan
-askingOf k n t c d = record {
-  ok = leb k.clock latest && sizesOk k n;
+abbrev pub asking_of : Desk → ℕ → ℕ → ℕ → ℕ → Scan
+asking_of k n t c d = record {
+  ok = leb k.clock latest && sizes_ok k n;
   left = k.count;
-  checking = checkingFrom false;
-  searching = searchingFrom true t c d;
+  checking = checking_from false;
+  searching = searching_from true t c d;
   desk = k;
 }
 
-abbrev pub scanFor : Desk → ℕ → Ask → Scan
-scanFor k n Open = openingOf k n
-scanFor k n (Request q) = askingOf k n q.time q.budget q.deadline
+abbrev pub scan_for : Desk → ℕ → Ask → Scan
+scan_for k n Open = opening_of k n
+scan_for k n (Request q) = asking_of k n q.time q.budget q.deadline

@@ -1,7 +1,7 @@
 // What the reading pass begins with.
 ghost use Rattle.std.specs.Prelude.{◌≡◌, ◌&&◌, leb};
 ghost use Rattle.rules.specs.Limits.{latest};
-ghost use Rattle.desk_engine.specs.Beginning.{sizesOk, openingOf, askingOf, scanFor};
+ghost use Rattle.desk_engine.specs.Beginning.{sizes_ok, opening_of, asking_of, scan_for};
 
 use desk::{Ask, Desk};
 use desk_reading::best::no_best;
@@ -13,7 +13,7 @@ use rules::limits::{LATEST, PLACES};
 
 // As many places as there must be, and a count of at most so many.
 pub fn sizes_ok(k: Desk, n: usize) -> bool
-    ensures { result ≡ sizesOk k n }
+    ensures { result ≡ sizes_ok k n }
 {
     if n != PLACES {
         return false;
@@ -23,7 +23,7 @@ pub fn sizes_ok(k: Desk, n: usize) -> bool
 
 // The same, and a request's clock.
 pub fn clock_ok(k: Desk, n: usize) -> bool
-    ensures { result ≡ (leb k.clock latest && sizesOk k n) }
+    ensures { result ≡ (leb k.clock latest && sizes_ok k n) }
 {
     if LATEST < k.clock {
         return false;
@@ -33,7 +33,7 @@ pub fn clock_ok(k: Desk, n: usize) -> bool
 
 // What the pass begins with at an opening: nothing is searched.
 pub fn opening(k: Desk, n: usize) -> Scan
-    ensures { result ≡ openingOf k n }
+    ensures { result ≡ opening_of k n }
 {
     let ok = sizes_ok(k, n);
     let a = Checking {
@@ -66,7 +66,7 @@ pub fn opening(k: Desk, n: usize) -> Scan
 
 // What the pass begins with at a request.
 pub fn asking(k: Desk, n: usize, t: u32, c: u32, d: u32) -> Scan
-    ensures { result ≡ askingOf k n t c d }
+    ensures { result ≡ asking_of k n t c d }
 {
     let ok = clock_ok(k, n);
     let a = Checking {
@@ -99,7 +99,7 @@ pub fn asking(k: Desk, n: usize, t: u32, c: u32, d: u32) -> Scan
 
 // What the pass begins with.
 pub fn scan_for(k: Desk, n: usize, ask: Ask) -> Scan
-    ensures { result ≡ scanFor k n ask }
+    ensures { result ≡ scan_for k n ask }
 {
     match ask {
         Ask::Open => opening(k, n),

@@ -1,6 +1,6 @@
 // What is decided at the end of the reading pass: refusals 13 to 18 in their order.
 ghost use Rattle.std.specs.Prelude.{◌≡◌};
-ghost use Rattle.desk_engine.specs.Deciding.{rest_of, requestDecision, decisionOf};
+ghost use Rattle.desk_engine.specs.Deciding.{rest_of, request_decision, decision_of};
 
 use desk_reading::scan::{Scan, check_end};
 use desk_reading::searching::{explanation, search_end};
@@ -27,7 +27,7 @@ pub fn rest_of(s: Scan) -> u32
 
 // Of a request, on a table that keeps the rules.
 pub fn decide_request(s: Scan) -> Decision
-    ensures { result ≡ requestDecision s }
+    ensures { result ≡ request_decision s }
 {
     let b = s.searching;
     let k = s.desk;
@@ -51,7 +51,7 @@ pub fn decide_request(s: Scan) -> Decision
 
 // Of any call.
 pub fn decide(s: Scan) -> Decision
-    ensures { result ≡ decisionOf s }
+    ensures { result ≡ decision_of s }
 {
     let a = s.checking;
     if check_end(s) {

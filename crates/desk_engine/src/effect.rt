@@ -1,7 +1,7 @@
 // What a decision makes of the record and of the table.
 ghost use Rattle.std.specs.Prelude.{◌≡◌};
-ghost use Rattle.desk_engine.specs.Deciding.{dropFrom, openEffect, keepEffect, dropEffect, takeEffect};
-ghost use Rattle.desk_engine.specs.Deciding.{effectBy, effectOf};
+ghost use Rattle.desk_engine.specs.Deciding.{drop_from, open_effect, keep_effect, drop_effect, take_effect};
+ghost use Rattle.desk_engine.specs.Deciding.{effect_by, effect_of};
 
 use crate::decision::{Decision, decide, rest_of};
 use desk::{Answer, Desk};
@@ -33,7 +33,7 @@ fn wide_place(x: u32) -> usize
 
 // Where the jobs that stay begin; past the table if none goes, so that the pass has none to put down again.
 pub fn drop_from(gone: u32) -> usize
-    ensures { result ≡ dropFrom gone }
+    ensures { result ≡ drop_from gone }
 {
     if gone == 0 {
         return PLACES;
@@ -43,7 +43,7 @@ pub fn drop_from(gone: u32) -> usize
 
 // Opening: every listed job's x is worked out.
 pub fn open_effect(s: Scan) -> Effect
-    ensures { result ≡ openEffect s }
+    ensures { result ≡ open_effect s }
 {
     let k = s.desk;
     let fit = Fit {
@@ -65,7 +65,7 @@ pub fn open_effect(s: Scan) -> Effect
 
 // A refusal that changes nothing, in a table of any length.
 pub fn keep_effect(why: Refusal, s: Scan) -> Effect
-    ensures { result ≡ keepEffect why s }
+    ensures { result ≡ keep_effect why s }
 {
     let k = s.desk;
     Effect {
@@ -79,7 +79,7 @@ pub fn keep_effect(why: Refusal, s: Scan) -> Effect
 
 // A refusal that sets the clock and drops the finished jobs.
 pub fn drop_effect(why: Refusal, s: Scan) -> Effect
-    ensures { result ≡ dropEffect why s }
+    ensures { result ≡ drop_effect why s }
 {
     let left = s.searching;
     let rest = rest_of(s);
@@ -104,7 +104,7 @@ pub fn drop_effect(why: Refusal, s: Scan) -> Effect
 
 // The new job taken in: later jobs move, and x is worked out from it towards the front.
 pub fn take_effect(s: Scan) -> Effect
-    ensures { result ≡ takeEffect s }
+    ensures { result ≡ take_effect s }
 {
     let q = s.searching;
     let rest = rest_of(s);
@@ -135,7 +135,7 @@ pub fn take_effect(s: Scan) -> Effect
 
 // What each decision does.
 pub fn effect_by(w: Decision, s: Scan) -> Effect
-    ensures { result ≡ effectBy w s }
+    ensures { result ≡ effect_by w s }
 {
     match w {
         Decision::Opens => open_effect(s),
@@ -147,7 +147,7 @@ pub fn effect_by(w: Decision, s: Scan) -> Effect
 
 // What is decided, and so done.
 pub fn effect_of(s: Scan) -> Effect
-    ensures { result ≡ effectOf s }
+    ensures { result ≡ effect_of s }
 {
     effect_by(decide(s), s)
 }

@@ -39,31 +39,31 @@ use Rattle.desk_engine.specs.contracts.effect.answer_of as answer-of
 abbrev pub smach : Scan → Val
 smach v = LL.tuple_val S.the_type S'.the_laws ((S.the_type).to v)
 
-pub tellS : (r : Scan) (w : Val) → Is S.the_row r (w ∷ []) → w ≡ smach r
-tellS r w is = ap only (LL.tells S.the_type S'.the_laws r (w ∷ []) is)
+pub tell_s : (r : Scan) (w : Val) → Is S.the_row r (w ∷ []) → w ≡ smach r
+tell_s r w is = ap only (LL.tells S.the_type S'.the_laws r (w ∷ []) is)
 
-pub isS : (r : Scan) (w : Val) → Is S.the_row r (w ∷ []) → Is S.the_row r (smach r ∷ [])
-isS r w is = subst (Is S.the_row r) (LL.tells S.the_type S'.the_laws r (w ∷ []) is) is
+pub is_s : (r : Scan) (w : Val) → Is S.the_row r (w ∷ []) → Is S.the_row r (smach r ∷ [])
+is_s r w is = subst (Is S.the_row r) (LL.tells S.the_type S'.the_laws r (w ∷ []) is) is
 
 -- an effect: its machine value is as it is written
 abbrev pub pmach : Effect → Val
 pmach v = LL.tuple_val P.the_type P'.the_laws ((P.the_type).to v)
 
-pub tellP : (r : Effect) (w : Val) → Is P.the_row r (w ∷ []) → w ≡ pmach r
-tellP r w is = ap only (LL.tells P.the_type P'.the_laws r (w ∷ []) is)
+pub tell_p : (r : Effect) (w : Val) → Is P.the_row r (w ∷ []) → w ≡ pmach r
+tell_p r w is = ap only (LL.tells P.the_type P'.the_laws r (w ∷ []) is)
 
-pub isP : (r : Effect) (w : Val) → Is P.the_row r (w ∷ []) → Is P.the_row r (pmach r ∷ [])
-isP r w is = subst (Is P.the_row r) (LL.tells P.the_type P'.the_laws r (w ∷ []) is) is
+pub is_p : (r : Effect) (w : Val) → Is P.the_row r (w ∷ []) → Is P.the_row r (pmach r ∷ [])
+is_p r w is = subst (Is P.the_row r) (LL.tells P.the_type P'.the_laws r (w ∷ []) is) is
 
 -- a desk: its machine value is as it is written
 abbrev pub dmach : Desk → Val
 dmach v = LL.tuple_val D.the_type D'.the_laws ((D.the_type).to v)
 
-pub tellD : (r : Desk) (w : Val) → Is D.the_row r (w ∷ []) → w ≡ dmach r
-tellD r w is = ap only (LL.tells D.the_type D'.the_laws r (w ∷ []) is)
+pub tell_d : (r : Desk) (w : Val) → Is D.the_row r (w ∷ []) → w ≡ dmach r
+tell_d r w is = ap only (LL.tells D.the_type D'.the_laws r (w ∷ []) is)
 
-pub isD : (r : Desk) (w : Val) → Is D.the_row r (w ∷ []) → Is D.the_row r (dmach r ∷ [])
-isD r w is = subst (Is D.the_row r) (LL.tells D.the_type D'.the_laws r (w ∷ []) is) is
+pub is_d : (r : Desk) (w : Val) → Is D.the_row r (w ∷ []) → Is D.the_row r (dmach r ∷ [])
+is_d r w is = subst (Is D.the_row r) (LL.tells D.the_type D'.the_laws r (w ∷ []) is) is
 
 abbrev pub ServeC : {M : Type 1} {𝓤 : Ura M} (𝓛 : Logic 𝓤) (mem : Memory → SProp 𝓤) (run : Routine → Fun 𝓤) → Contract 𝓤
 ServeC 𝓛 mem run = triple_of 𝓛 serve.signature (serve.spec 𝓛 mem run)
@@ -78,31 +78,31 @@ module _ {M : Type 1} {𝓤 : Ura M} (𝓛 : Logic 𝓤) (mem : Memory → SProp
   -- what `desk_of` is passed, that it has what it asks, and what it says
   open 𝓛 use {A}
 
-  abbrev pub to-desk : Effect → (DeskC 𝓛 mem run).Ghost
-  to-desk r = ((tt, tt, tt, (r, tt), (pmach r ∷ [], tt)), tt)
+  abbrev pub to_desk : Effect → (DeskC 𝓛 mem run).Ghost
+  to_desk r = ((tt, tt, tt, (r, tt), (pmach r ∷ [], tt)), tt)
 
-  pub goes-desk : (r : Effect) → Is P.the_row r (pmach r ∷ []) → ent 𝓤 (sem 𝓛 ftrue) ((DeskC 𝓛 mem run).pre (to-desk r))
-  goes-desk r is = qed 𝓛 (‵ ftrue ∷ []) ∵ nothing ! $ owned ! P.the_row (Is P.the_row) (LL.makes P.the_type P'.the_plain 𝓛) r _ is $ fjoin ! $ move ! (1 ∷ 0 ∷ []) $ join ! $ frame ! $ done !
+  pub goes_desk : (r : Effect) → Is P.the_row r (pmach r ∷ []) → ent 𝓤 (sem 𝓛 ftrue) ((DeskC 𝓛 mem run).pre (to_desk r))
+  goes_desk r is = qed 𝓛 (‵ ftrue ∷ []) ∵ nothing ! $ owned ! P.the_row (Is P.the_row) (LL.makes P.the_type P'.the_plain 𝓛) r _ is $ fjoin ! $ move ! (1 ∷ 0 ∷ []) $ join ! $ frame ! $ done !
 
   pub said-desk : (r : Effect) (e : Desk) → ent 𝓤 (ensured 𝓛 desk-of.ended (desk-of.clauses 𝓛 mem run) tt (r, tt) tt e) (fact 𝓤 (e ≡ r.desk))
   said-desk r e = ex_e 𝓤 _ (λ ws. snd∗ 𝓤 (sem 𝓛 (lasts desk-of.ended tt (r, tt) ws)) (fact 𝓤 (e ≡ r.desk)))
 
   -- what `answer_of` is passed, that it has what it asks, and what it says
-  abbrev pub to-answer : Effect → (AnswerC 𝓛 mem run).Ghost
-  to-answer r = ((tt, tt, tt, (r, tt), (pmach r ∷ [], tt)), tt)
+  abbrev pub to_answer : Effect → (AnswerC 𝓛 mem run).Ghost
+  to_answer r = ((tt, tt, tt, (r, tt), (pmach r ∷ [], tt)), tt)
 
-  pub goes-answer : (r : Effect) → Is P.the_row r (pmach r ∷ []) → ent 𝓤 (sem 𝓛 ftrue) ((AnswerC 𝓛 mem run).pre (to-answer r))
-  goes-answer r is = qed 𝓛 (‵ ftrue ∷ []) ∵ nothing ! $ owned ! P.the_row (Is P.the_row) (LL.makes P.the_type P'.the_plain 𝓛) r _ is $ fjoin ! $ move ! (1 ∷ 0 ∷ []) $ join ! $ frame ! $ done !
+  pub goes_answer : (r : Effect) → Is P.the_row r (pmach r ∷ []) → ent 𝓤 (sem 𝓛 ftrue) ((AnswerC 𝓛 mem run).pre (to_answer r))
+  goes_answer r is = qed 𝓛 (‵ ftrue ∷ []) ∵ nothing ! $ owned ! P.the_row (Is P.the_row) (LL.makes P.the_type P'.the_plain 𝓛) r _ is $ fjoin ! $ move ! (1 ∷ 0 ∷ []) $ join ! $ frame ! $ done !
 
   pub said-answer : (r : Effect) (e : Answer) → ent 𝓤 (ensured 𝓛 answer-of.ended (answer-of.clauses 𝓛 mem run) tt (r, tt) tt e) (fact 𝓤 (e ≡ r.answer))
   said-answer r e = ex_e 𝓤 _ (λ ws. snd∗ 𝓤 (sem 𝓛 (lasts answer-of.ended tt (r, tt) ws)) (fact 𝓤 (e ≡ r.answer)))
 
   -- what `serve` is passed: the table at its own lifetime, share and name
   module _ (κ : Lft) (q : Share) (x : MutBor (List Job)) (sv : Val) where
-    abbrev pub to-serve : Scan → (ServeC 𝓛 mem run).Ghost
-    to-serve s = (((κ, tt), (q, tt), tt, (x, (s, tt)), (sv ∷ [], (smach s ∷ [], tt))), tt)
+    abbrev pub to_serve : Scan → (ServeC 𝓛 mem run).Ghost
+    to_serve s = (((κ, tt), (q, tt), tt, (x, (s, tt)), (sv ∷ [], (smach s ∷ [], tt))), tt)
 
-    pub goes-serve : (s : Scan) → Is S.the_row s (smach s ∷ []) → ent 𝓤 (sep 𝓤 (sep 𝓤 (A.lft κ q) (sem 𝓛 ftrue)) (sem 𝓛 ((MutSlice (named 1) κ J.the_row).own_val x (sv ∷ [])))) ((ServeC 𝓛 mem run).pre (to-serve s))
-    goes-serve s is =
+    pub goes_serve : (s : Scan) → Is S.the_row s (smach s ∷ []) → ent 𝓤 (sep 𝓤 (sep 𝓤 (A.lft κ q) (sem 𝓛 ftrue)) (sem 𝓛 ((MutSlice (named 1) κ J.the_row).own_val x (sv ∷ [])))) ((ServeC 𝓛 mem run).pre (to_serve s))
+    goes_serve s is =
         qed 𝓛 ((‵ (flft κ q) ⊛ ‵ ftrue) ∷ ‵ ((MutSlice (named 0) κ J.the_row).own_val x (sv ∷ [])) ∷ []) ∵
         nothing ! $ owned ! S.the_row (Is S.the_row) (LL.makes S.the_type S'.the_plain 𝓛) s _ is $ fjoin ! $ move ! (2 ∷ 0 ∷ []) $ fjoin ! $ move ! (1 ∷ 0 ∷ []) $ join ! $ frame ! $ done !

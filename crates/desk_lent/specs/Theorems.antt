@@ -3,11 +3,11 @@ use Rattle.std.specs.Prelude.{◌≡◌, List, [], ◌∷◌}
 use Rattle.desk.specs.declared.Job.{Job}
 use Rattle.desk.specs.declared.Asked.{Asked}
 use Rattle.desk.specs.declared.Answer.{Answer}
-use Rattle.desk.specs.Table.{Outcome, openOf}
-use Rattle.desk.specs.Request.{requestOf}
+use Rattle.desk.specs.Table.{Outcome, open_of}
+use Rattle.desk.specs.Request.{request_of}
 use Rattle.desk.specs.Story.{begin, many}
 use Rattle.desk.specs.declared.Desk.{Desk}
-use Rattle.desk.specs.Call.{deskOf, Leaves}
+use Rattle.desk.specs.Call.{desk_of, Leaves}
 
 -- "any two outcomes it permits are equal"
 abbrev pub LentOne : Type 0
@@ -20,15 +20,15 @@ abbrev pub Asks : List Asked → Desk → List Job → Desk → List Job → Typ
 Asks [] k l k₂ l₂ = (k₂ ≡ k) × (l₂ ≡ l)
 Asks (q ∷ qs) k l k₂ l₂ =
     (r : Answer) × (k₁ : Desk) × (l₁ : List Job)
-    × Leaves (requestOf k.clock k.count l q.time q.budget q.deadline) r k₁ l₁ × Asks qs k₁ l₁ k₂ l₂
+    × Leaves (request_of k.clock k.count l q.time q.budget q.deadline) r k₁ l₁ × Asks qs k₁ l₁ k₂ l₂
 
 -- "Over any requests after one opening" the record and the table are those of the desk's story, whose promises so hold of them
 abbrev pub LentStory : Type 0
 LentStory =
-    (k : Desk) (l : List Job) (r : Answer) (k₁ : Desk) (l₁ : List Job) → Leaves (openOf k.clock k.count l) r k₁ l₁
+    (k : Desk) (l : List Job) (r : Answer) (k₁ : Desk) (l₁ : List Job) → Leaves (open_of k.clock k.count l) r k₁ l₁
     → (qs : List Asked) (k₂ : Desk) (l₂ : List Job) → Asks qs k₁ l₁ k₂ l₂
-    → (k₂ ≡ deskOf (many qs (begin k.clock k.count l)).desk) × (l₂ ≡ (many qs (begin k.clock k.count l)).desk.jobs)
+    → (k₂ ≡ desk_of (many qs (begin k.clock k.count l)).desk) × (l₂ ≡ (many qs (begin k.clock k.count l)).desk.jobs)
 
 pub record Proved : Type 0 where
   pub lent_one : LentOne
-  pub lent-story : LentStory
+  pub lent_story : LentStory

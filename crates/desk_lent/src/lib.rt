@@ -3,7 +3,7 @@
 ghost use Rattle.std.specs.Prelude.{◌≡◌};
 ghost use Rattle.desk.specs.Call.{call_of, Leaves};
 ghost use Rattle.desk_reading.specs.Reading.{scanned};
-ghost use Rattle.desk_engine.specs.Deciding.{effectOf, applied};
+ghost use Rattle.desk_engine.specs.Deciding.{effect_of, applied};
 
 use desk::{Answer, Ask, Desk, Job};
 use desk_engine::begin::scan_for;
@@ -25,7 +25,7 @@ fn apply(jobs: &mut [Job], p: Effect)
 
 // One reading pass, what is decided by it, and the writing passes.
 fn serve(jobs: &mut [Job], s: Scan) -> Effect
-    ensures { (result ≡ effectOf (scanned s jobs.old))
+    ensures { (result ≡ effect_of (scanned s jobs.old))
         × (jobs.new ≡ applied result jobs.old) }
 {
     let l = scan_pass(&*jobs, s);

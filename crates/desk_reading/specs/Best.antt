@@ -7,31 +7,31 @@ use Rattle.rules.specs.declared.Binding.TheVariants.{Own, Listed}
 use Rattle.rules.specs.declared.Explanation.{Explanation}
 use Rattle.rules.specs.declared.Explanation.TheVariants.{Roomiest}
 use Rattle.desk.specs.declared.Job.{Job}
-use Rattle.desk.specs.Table.{flex, xOf}
+use Rattle.desk.specs.Table.{flex, x_of}
 use Rattle.desk_records.specs.Sums.{sum_to}
 use Rattle.desk_reading.specs.declared.best.Best.{Best}
 
-abbrev pub noBest : Best
-noBest = record { place = 0; job = 0; room = 0; listed = false; seeking = false }
+abbrev pub no_best : Best
+no_best = record { place = 0; job = 0; room = 0; listed = false; seeking = false }
 
 -- the next place, with so much room, is better: "the lowest place with the largest room"; place 0 is the first
 abbrev pub outdone : Best → ℕ → ℕ → Bool
 outdone b place room = pick (eqb place 0) true (ltb b.room room)
 
 -- the better of the place so far and the next one
-abbrev pub bestWith : Best → ℕ → ℕ → Bool → Best
-bestWith b place room listed =
+abbrev pub best_with : Best → ℕ → ℕ → Bool → Best
+best_with b place room listed =
     pick (outdone b place room)
     (record { place = place; job = place; room = room; listed = listed; seeking = listed })
     b
 
 -- x is all that the job's own deadline leaves
 abbrev pub tight : Job → Bool
-tight j = eqb (flex j) (xOf j [])
+tight j = eqb (flex j) (x_of j [])
 
 -- the job that binds is found
-abbrev pub foundJob : Best → Best
-foundJob b = record {
+abbrev pub found_job : Best → Best
+found_job b = record {
   place = b.place;
   room = b.room;
   listed = b.listed;
@@ -40,8 +40,8 @@ foundJob b = record {
 }
 
 -- it is further on
-abbrev pub nextJob : Best → Best
-nextJob b = record {
+abbrev pub next_job : Best → Best
+next_job b = record {
   place = b.place;
   room = b.room;
   listed = b.listed;
@@ -50,12 +50,12 @@ nextJob b = record {
 }
 
 -- "the first one whose deadline a longer move would break", sought at one more job
-abbrev pub soughtAt : Best → Job → Best
-soughtAt b j = pick b.seeking (pick (tight j) (foundJob b) (nextJob b)) b
+abbrev pub sought_at : Best → Job → Best
+sought_at b j = pick b.seeking (pick (tight j) (found_job b) (next_job b)) b
 
 -- "whether the request's own deadline or a listed job's binds it"
-abbrev pub bindingOf : Best → Binding
-bindingOf b = pick b.listed (Listed b.job) Own
+abbrev pub binding_of : Best → Binding
+binding_of b = pick b.listed (Listed b.job) Own
 
 abbrev pub explained : Best → Explanation
-explained b = Roomiest b.place b.room (bindingOf b)
+explained b = Roomiest b.place b.room (binding_of b)

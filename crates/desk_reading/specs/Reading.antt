@@ -5,12 +5,12 @@ use Rattle.rules.specs.Walk.{pick}
 use Rattle.rules.specs.declared.Explanation.{Explanation}
 use Rattle.rules.specs.declared.Explanation.TheVariants.{Nowhere}
 use Rattle.desk.specs.declared.Job.{Job}
-use Rattle.desk.specs.Table.{job, start, budget, flex, ends, xOf, jobOk, zeros}
+use Rattle.desk.specs.Table.{job, start, budget, flex, ends, x_of, job_ok, zeros}
 use Rattle.desk.specs.Places.{room}
 use Rattle.desk_reading.specs.declared.checking.Checking.{Checking}
 use Rattle.desk_reading.specs.declared.searching.Searching.{Searching}
 use Rattle.desk_reading.specs.declared.scan.Scan.{Scan}
-use Rattle.desk_reading.specs.Best.{bestWith, soughtAt, explained}
+use Rattle.desk_reading.specs.Best.{best_with, sought_at, explained}
 use Rattle.desk_records.specs.Folds.{fold}
 use Rattle.desk_records.specs.Sums.{sum_to}
 
@@ -19,21 +19,21 @@ use Rattle.desk_records.specs.Sums.{sum_to}
 -- j may stand behind the job before, whose x is the rule's, or is not looked at
 abbrev pub follows : Checking → Job → Bool
 follows s j =
-    jobOk j && (leb s.end (start j) && (eqb s.flex (min s.own (flex j + start j - s.end)) || s.opening))
+    job_ok j && (leb s.end (start j) && (eqb s.flex (min s.own (flex j + start j - s.end)) || s.opening))
 
 -- j is the job before
 abbrev pub behind : Checking → Job → Checking
-behind s j = record { opening = s.opening; end = ends j; own = xOf j []; flex = flex j }
+behind s j = record { opening = s.opening; end = ends j; own = x_of j []; flex = flex j }
 
 -- the last job's x is the rule's, or is not looked at
-abbrev pub lastOk : Checking → Bool
-lastOk s = eqb s.flex s.own || s.opening
+abbrev pub last_ok : Checking → Bool
+last_ok s = eqb s.flex s.own || s.opening
 
 -- ---- the search among the jobs that do not end by t, which are behind those that do
 
 -- a job is dropped
-abbrev pub searchDropped : Searching → Searching
-searchDropped s = record {
+abbrev pub search_dropped : Searching → Searching
+search_dropped s = record {
   time = s.time;
   budget = s.budget;
   deadline = s.deadline;
@@ -48,8 +48,8 @@ searchDropped s = record {
 }
 
 -- the place is the one before j
-abbrev pub searchClosed : Searching → Bool → Bool → Job → Searching
-searchClosed s busy found j = record {
+abbrev pub search_closed : Searching → Bool → Bool → Job → Searching
+search_closed s busy found j = record {
   time = s.time;
   budget = s.budget;
   deadline = s.deadline;
@@ -60,12 +60,12 @@ searchClosed s busy found j = record {
   place = s.place;
   start = s.start;
   behind = flex j + start j;
-  best = soughtAt s.best j;
+  best = sought_at s.best j;
 }
 
 -- the search goes on behind j, where the room was r
-abbrev pub searchPast : Searching → Bool → ℕ → Job → Searching
-searchPast s busy r j = record {
+abbrev pub search_past : Searching → Bool → ℕ → Job → Searching
+search_past s busy r j = record {
   time = s.time;
   budget = s.budget;
   deadline = s.deadline;
@@ -76,12 +76,12 @@ searchPast s busy r j = record {
   place = sum_to s.place 1;
   start = sum_to (start j) (budget j);
   behind = s.behind;
-  best = soughtAt (bestWith s.best s.place r (ltb (flex j) (s.deadline - start j))) j;
+  best = sought_at (best_with s.best s.place r (ltb (flex j) (s.deadline - start j))) j;
 }
 
 -- behind the place
-abbrev pub searchBehind : Searching → Job → Searching
-searchBehind s j = record {
+abbrev pub search_behind : Searching → Job → Searching
+search_behind s j = record {
   time = s.time;
   budget = s.budget;
   deadline = s.deadline;
@@ -92,39 +92,39 @@ searchBehind s j = record {
   place = s.place;
   start = s.start;
   behind = s.behind;
-  best = soughtAt s.best j;
+  best = sought_at s.best j;
 }
 
 -- the first job left is running, j being the next one left
-abbrev pub busyAfter : Searching → Job → Bool
-busyAfter s j = pick (eqb s.place 0) (ltb (start j) s.time) s.busy
+abbrev pub busy_after : Searching → Job → Bool
+busy_after s j = pick (eqb s.place 0) (ltb (start j) s.time) s.busy
 
 -- "The lowest place with R ≥ C is taken", among those with a ≤ d
-abbrev pub searchLook : Searching → Job → Searching
-searchLook s j =
-    pick (ltb s.deadline (start j)) (searchClosed s (busyAfter s j) false j)
-    (pick (ltb (room s.start s.deadline j) s.budget) (searchPast s (busyAfter s j) (room s.start s.deadline j) j)
-    (searchClosed s (busyAfter s j) true j))
+abbrev pub search_look : Searching → Job → Searching
+search_look s j =
+    pick (ltb s.deadline (start j)) (search_closed s (busy_after s j) false j)
+    (pick (ltb (room s.start s.deadline j) s.budget) (search_past s (busy_after s j) (room s.start s.deadline j) j)
+    (search_closed s (busy_after s j) true j))
 
 -- one more job: one that ends by t is dropped, any other is looked at; behind the place only the job that binds is sought
-abbrev pub searchStep : Searching → Job → Searching
-searchStep s j =
+abbrev pub search_step : Searching → Job → Searching
+search_step s j =
     pick s.looking
-    (pick (leb (ends j) s.time) (searchDropped s) (searchLook s j))
-    (searchBehind s j)
+    (pick (leb (ends j) s.time) (search_dropped s) (search_look s j))
+    (search_behind s j)
 
 -- the job asked for, at the start that the search has come to
-abbrev pub newJob : Searching → Job
-newJob s = job s.start s.budget s.deadline 0
+abbrev pub new_job : Searching → Job
+new_job s = job s.start s.budget s.deadline 0
 
 -- after the last place: one with room is found, or place l "is taken when s + C ≤ d"
-abbrev pub searchEnd : Searching → Bool
-searchEnd s = s.found || leb (ends (newJob s)) s.deadline
+abbrev pub search_end : Searching → Bool
+search_end s = s.found || leb (ends (new_job s)) s.deadline
 
 -- with place l, which "has room d − s, bound by the request's deadline; a place with room below 0 is none"
-abbrev pub explanationBy : Searching → Explanation
-explanationBy s =
-    pick (leb s.start s.deadline) (explained (bestWith s.best s.place (s.deadline - s.start) false))
+abbrev pub explanation_by : Searching → Explanation
+explanation_by s =
+    pick (leb s.start s.deadline) (explained (best_with s.best s.place (s.deadline - s.start) false))
     (pick (eqb s.place 0) Nowhere (explained s.best))
 
 -- ---- the whole pass
@@ -134,25 +134,25 @@ abbrev pub broken : Scan → Scan
 broken s = record { ok = false; left = s.left; checking = s.checking; searching = s.searching; desk = s.desk }
 
 -- a listed job is checked and searched at once
-abbrev pub listedStep : Scan → Job → Scan
-listedStep s j =
+abbrev pub listed_step : Scan → Job → Scan
+listed_step s j =
     pick (follows s.checking j)
     (record {
       ok = s.ok;
       left = s.left - 1;
       checking = behind s.checking j;
-      searching = searchStep s.searching j;
+      searching = search_step s.searching j;
       desk = s.desk;
     })
     (broken s)
 
 -- a place past the count is held against zeros
-abbrev pub scanStep : Scan → Job → Scan
-scanStep s j = pick (ltb 0 s.left) (listedStep s j) (pick (zeros j) s (broken s))
+abbrev pub scan_step : Scan → Job → Scan
+scan_step s j = pick (ltb 0 s.left) (listed_step s j) (pick (zeros j) s (broken s))
 
 -- after the last place
-abbrev pub checkEnd : Scan → Bool
-checkEnd s = s.ok && lastOk s.checking
+abbrev pub check_end : Scan → Bool
+check_end s = s.ok && last_ok s.checking
 
 unfoldable pub scanned : Scan → List Job → Scan
-scanned s l = fold scanStep s l
+scanned s l = fold scan_step s l

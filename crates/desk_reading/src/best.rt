@@ -1,7 +1,7 @@
 // The roomiest place that the search has come past, and the deadline that binds it: what 18 tells.
 ghost use Rattle.std.specs.Prelude.{◌≡◌, ◌-◌, ltb};
 ghost use Rattle.desk.specs.Table.{start, flex};
-ghost use Rattle.desk_reading.specs.Best.{noBest, outdone, bestWith, tight, soughtAt, bindingOf, explained};
+ghost use Rattle.desk_reading.specs.Best.{no_best, outdone, best_with, tight, sought_at, binding_of, explained};
 
 use desk::Job;
 use desk_records::numbers::{less, sum};
@@ -19,7 +19,7 @@ pub struct Best {
 }
 
 pub fn no_best() -> Best
-    ensures { result ≡ noBest }
+    ensures { result ≡ no_best }
 {
     Best {
         place: 0,
@@ -42,7 +42,7 @@ fn is_outdone(b: Best, place: u32, room: u32) -> bool
 
 // The better of the place so far and the next one.
 pub fn best_with(b: Best, place: u32, room: u32, listed: bool) -> Best
-    ensures { result ≡ bestWith b place room listed }
+    ensures { result ≡ best_with b place room listed }
 {
     if is_outdone(b, place, room) {
         return Best {
@@ -66,7 +66,7 @@ fn is_tight(j: Job) -> bool
 // The job that binds, sought at one more job: a move beyond x breaks that job's own deadline or pushes the next one
 // beyond its x.
 pub fn sought_at(b: Best, j: Job) -> Best
-    ensures { result ≡ soughtAt b j }
+    ensures { result ≡ sought_at b j }
 {
     if b.seeking {
         let mut r = b;
@@ -95,7 +95,7 @@ fn told(x: u32) -> usize
 }
 
 fn binding_of(b: Best) -> Binding
-    ensures { result ≡ bindingOf b }
+    ensures { result ≡ binding_of b }
 {
     if b.listed {
         return Binding::Listed(told(b.job));

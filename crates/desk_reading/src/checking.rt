@@ -1,7 +1,7 @@
 // The table check at a listed job: it is held against the job before.
 ghost use Rattle.std.specs.Prelude.{◌≡◌, ◌||◌, ◌≤◌, min, eqb};
 ghost use Rattle.desk.specs.Table.{deadline, ends};
-ghost use Rattle.desk_reading.specs.Reading.{follows, behind, lastOk};
+ghost use Rattle.desk_reading.specs.Reading.{follows, behind, last_ok};
 
 use desk::Job;
 use desk_records::numbers::{earlier, wide};
@@ -55,7 +55,7 @@ pub fn behind_it(s: Checking, j: Job) -> Checking
 
 // Whether the last job's x is the rule's.
 pub fn last_ok(s: Checking) -> bool
-    ensures { result ≡ lastOk s }
+    ensures { result ≡ last_ok s }
 {
     if wide(s.flex) == s.own {
         return true;

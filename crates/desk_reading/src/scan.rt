@@ -1,6 +1,6 @@
 // One step of the reading pass: a listed job is checked and looked at by the search, a place past the count checked.
 ghost use Rattle.std.specs.Prelude.{◌≡◌, ◌<◌};
-ghost use Rattle.desk_reading.specs.Reading.{broken, listedStep, scanStep, checkEnd};
+ghost use Rattle.desk_reading.specs.Reading.{broken, listed_step, scan_step, check_end};
 
 use crate::checking::{Checking, behind_it, follows_on, last_ok};
 use crate::searching::{Searching, search_step};
@@ -30,7 +30,7 @@ fn breaks(s: Scan) -> Scan
 // One more listed job.
 fn listed_step(s: Scan, j: Job) -> Scan
     requires { 0 < s.left }
-    ensures { result ≡ listedStep s j }
+    ensures { result ≡ listed_step s j }
 {
     let a = s.checking;
     let b = s.searching;
@@ -46,7 +46,7 @@ fn listed_step(s: Scan, j: Job) -> Scan
 
 // One more place.
 pub fn scan_step(s: Scan, j: Job) -> Scan
-    ensures { result ≡ scanStep s j }
+    ensures { result ≡ scan_step s j }
 {
     if 0 < s.left {
         return listed_step(s, j);
@@ -59,7 +59,7 @@ pub fn scan_step(s: Scan, j: Job) -> Scan
 
 // Whether the table keeps the rules, after its last place.
 pub fn check_end(s: Scan) -> bool
-    ensures { result ≡ checkEnd s }
+    ensures { result ≡ check_end s }
 {
     if s.ok {
         let a = s.checking;

@@ -2,8 +2,8 @@
 ghost use Rattle.std.specs.Prelude.{◌≡◌, ltb, eqb};
 ghost use Rattle.rules.specs.Walk.{pick};
 ghost use Rattle.desk.specs.Table.{start};
-ghost use Rattle.desk_reading.specs.Reading.{searchDropped, searchClosed, searchPast, searchLook, searchStep};
-ghost use Rattle.desk_reading.specs.Reading.{searchBehind, newJob, searchEnd, explanationBy};
+ghost use Rattle.desk_reading.specs.Reading.{search_dropped, search_closed, search_past, search_look, search_step};
+ghost use Rattle.desk_reading.specs.Reading.{search_behind, new_job, search_end, explanation_by};
 
 use crate::best::{Best, best_with, explain, listed_binds, sought_at};
 use desk::Job;
@@ -32,7 +32,7 @@ pub struct Searching {
 
 // The place is the one before j.
 fn closes(s: Searching, busy: bool, found: bool, j: Job) -> Searching
-    ensures { result ≡ searchClosed s busy found j }
+    ensures { result ≡ search_closed s busy found j }
 {
     let b = s.best;
     let mut r = s;
@@ -46,7 +46,7 @@ fn closes(s: Searching, busy: bool, found: bool, j: Job) -> Searching
 
 // The search goes on behind j, where the room was too small.
 fn goes_past(s: Searching, busy: bool, room: u32, j: Job) -> Searching
-    ensures { result ≡ searchPast s busy room j }
+    ensures { result ≡ search_past s busy room j }
 {
     let b = s.best;
     let c = best_with(b, s.place, room, listed_binds(s.deadline, j));
@@ -70,7 +70,7 @@ fn busy_after(s: Searching, j: Job) -> bool
 
 // The search, at a job left.
 fn look_at(s: Searching, j: Job) -> Searching
-    ensures { result ≡ searchLook s j }
+    ensures { result ≡ search_look s j }
 {
     let busy = busy_after(s, j);
     if s.deadline < j.start {
@@ -85,7 +85,7 @@ fn look_at(s: Searching, j: Job) -> Searching
 
 // A job that ends by t is dropped.
 fn drops(s: Searching) -> Searching
-    ensures { result ≡ searchDropped s }
+    ensures { result ≡ search_dropped s }
 {
     let mut r = s;
     r.gone = sum(s.gone, 1);
@@ -94,7 +94,7 @@ fn drops(s: Searching) -> Searching
 
 // Behind the place only the job that binds the roomiest one is still sought.
 fn seeks_on(s: Searching, j: Job) -> Searching
-    ensures { result ≡ searchBehind s j }
+    ensures { result ≡ search_behind s j }
 {
     let b = s.best;
     if b.seeking {
@@ -107,7 +107,7 @@ fn seeks_on(s: Searching, j: Job) -> Searching
 
 // The search, at one more job. Those that end by t stand first, so none behind the place does.
 pub fn search_step(s: Searching, j: Job) -> Searching
-    ensures { result ≡ searchStep s j }
+    ensures { result ≡ search_step s j }
 {
     if s.looking {
         if ends_by(j, s.time) {
@@ -120,7 +120,7 @@ pub fn search_step(s: Searching, j: Job) -> Searching
 
 // The job asked for, at the start that the search has come to.
 pub fn new_job(s: Searching) -> Job
-    ensures { result ≡ newJob s }
+    ensures { result ≡ new_job s }
 {
     Job {
         start: s.start,
@@ -132,7 +132,7 @@ pub fn new_job(s: Searching) -> Job
 
 // Whether there is a place, after the last job: one with room before a job, or place l in time.
 pub fn search_end(s: Searching) -> bool
-    ensures { result ≡ searchEnd s }
+    ensures { result ≡ search_end s }
 {
     if s.found {
         return true;
@@ -142,7 +142,7 @@ pub fn search_end(s: Searching) -> bool
 
 // Why there is no place, after the last job: place l is one too where it starts by d, bound by the request's deadline.
 pub fn explanation(s: Searching) -> Explanation
-    ensures { result ≡ explanationBy s }
+    ensures { result ≡ explanation_by s }
 {
     let b = s.best;
     if s.start <= s.deadline {

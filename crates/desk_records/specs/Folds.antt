@@ -14,15 +14,15 @@ forth step out s [] = []
 forth step out s (j ∷ l) = out s j ∷ forth step out (step s j) l
 
 -- the state after the jobs of l, from the back
-unfoldable pub foldBack : {S : Type 0} → (S → Job → S) → S → List Job → S
-foldBack step s [] = s
-foldBack step s (j ∷ l) = step (foldBack step s l) j
+unfoldable pub fold_back : {S : Type 0} → (S → Job → S) → S → List Job → S
+fold_back step s [] = s
+fold_back step s (j ∷ l) = step (fold_back step s l) j
 
 -- each job as the state behind it makes it, from the back
 unfoldable pub back : {S : Type 0} → (S → Job → S) → (S → Job → Job) → S → List Job → List Job
 back step out s [] = []
-back step out s (j ∷ l) = out (foldBack step s l) j ∷ back step out s l
+back step out s (j ∷ l) = out (fold_back step s l) j ∷ back step out s l
 
 -- the jobs from place k on, moved to the front; the last places stay
-unfoldable pub movedUp : ℕ → List Job → List Job
-movedUp k l = drop k l ++ drop (length l - k) l
+unfoldable pub moved_up : ℕ → List Job → List Job
+moved_up k l = drop k l ++ drop (length l - k) l

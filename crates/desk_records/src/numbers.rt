@@ -1,6 +1,6 @@
 // Numbers that never wrap, and the limits of a request's own.
 ghost use Rattle.std.specs.Prelude.{◌≡◌, ◌-◌, min, max};
-ghost use Rattle.desk.specs.Request.{numbersOk};
+ghost use Rattle.desk.specs.Request.{numbers_ok};
 ghost use Rattle.desk_records.specs.Sums.{sum_to};
 
 use rules::limits::{LATEST, PLACES};
@@ -52,7 +52,7 @@ pub fn sum(x: u32, y: u32) -> u32
 
 // Whether a request's time, budget and deadline are in their limits.
 pub fn numbers_ok(t: u32, c: u32, d: u32) -> bool
-    ensures { result ≡ numbersOk t c d }
+    ensures { result ≡ numbers_ok t c d }
 {
     if c == 0 {
         return false;

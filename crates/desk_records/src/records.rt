@@ -1,6 +1,6 @@
 // The rules of one job record: its end, its flexibility, its limits, its room, its move.
 ghost use Rattle.std.specs.Prelude.{◌≡◌, ◌+◌, ◌-◌, min, leb};
-ghost use Rattle.desk.specs.Table.{start, budget, deadline, flex, ends, none, jobOk, zeros};
+ghost use Rattle.desk.specs.Table.{start, budget, deadline, flex, ends, none, job_ok, zeros};
 ghost use Rattle.desk.specs.Places.{room, moved};
 
 use crate::numbers::{earlier, larger, less, smaller, wide};
@@ -49,7 +49,7 @@ pub fn x_before(j: Job, behind: u64) -> u32
 }
 
 pub fn job_ok(j: Job) -> bool
-    ensures { result ≡ jobOk j }
+    ensures { result ≡ job_ok j }
 {
     if j.budget == 0 {
         return false;

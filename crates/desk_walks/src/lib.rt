@@ -1,8 +1,8 @@
 // The thin passes over the lent table of jobs: one that reads it, and three that write it.
 // What becomes of each job is decided by value, in desk_reading and desk_writing.
 ghost use Rattle.std.specs.Prelude.{◌≡◌};
-ghost use Rattle.desk_records.specs.Folds.{movedUp};
-ghost use Rattle.desk_writing.specs.Writing.{shifted, fittedAll};
+ghost use Rattle.desk_records.specs.Folds.{moved_up};
+ghost use Rattle.desk_writing.specs.Writing.{shifted, fitted_all};
 ghost use Rattle.desk_reading.specs.Reading.{scanned};
 
 use desk::Job;
@@ -26,7 +26,7 @@ pub fn scan_pass(jobs: &[Job], s: Scan) -> Scan
 
 // The jobs from place k on move up to the front; the last places stay as they are.
 pub fn drop_pass(jobs: &mut [Job], k: usize)
-    ensures { jobs.new ≡ movedUp k jobs.old }
+    ensures { jobs.new ≡ moved_up k jobs.old }
 {
     let mut to = 0;
     let mut from = k;
@@ -55,7 +55,7 @@ pub fn shift_pass(jobs: &mut [Job], s: Shift)
 
 // The flexibilities, worked out towards the front.
 pub fn fit_pass(jobs: &mut [Job], s: Fit)
-    ensures { jobs.new ≡ fittedAll s jobs.old }
+    ensures { jobs.new ≡ fitted_all s jobs.old }
 {
     let mut st = s;
     let mut i = jobs.len();

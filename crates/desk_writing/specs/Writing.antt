@@ -13,21 +13,21 @@ use Rattle.desk_records.specs.Folds.{forth, back}
 -- ---- the shift pass: `before` jobs stay, `put` jobs follow, the new one first, moved as far as forced, and zeros after them
 
 -- what the pass begins with
-abbrev pub shiftFrom : ℕ → ℕ → Job → Shift
-shiftFrom before put carry = record { still = false; before = before; put = put; end = 0; carry = carry }
+abbrev pub shift_from : ℕ → ℕ → Job → Shift
+shift_from before put carry = record { still = false; before = before; put = put; end = 0; carry = carry }
 
 -- what it begins with to change nothing
-abbrev pub stillShift : Shift
-stillShift = record { still = true; before = 0; put = 0; end = 0; carry = none }
+abbrev pub still_shift : Shift
+still_shift = record { still = true; before = 0; put = 0; end = 0; carry = none }
 
 -- what is put down where j stood: "Later jobs move only as far as the job before forces them"
-abbrev pub shiftOut : Shift → Job → Job
-shiftOut s j =
+abbrev pub shift_out : Shift → Job → Job
+shift_out s j =
     pick s.still j (pick (ltb 0 s.before) j (pick (ltb 0 s.put) (moved s.end s.carry) none))
 
 -- how far the pass is after j
-abbrev pub shiftStep : Shift → Job → Shift
-shiftStep s j =
+abbrev pub shift_step : Shift → Job → Shift
+shift_step s j =
     pick s.still s
     (pick (ltb 0 s.before)
     (record { still = s.still; before = s.before - 1; put = s.put; end = s.end; carry = s.carry })
@@ -43,17 +43,17 @@ shiftStep s j =
 
 -- the whole table
 unfoldable pub shifted : Shift → List Job → List Job
-shifted s l = forth shiftStep shiftOut s l
+shifted s l = forth shift_step shift_out s l
 
 -- ---- the flexibility pass, from the back: `wait` places stay as they are, the jobs in front of them get their x
 
 -- what the pass begins with
-abbrev pub fitFrom : ℕ → ℕ → Fit
-fitFrom wait behind = record { still = false; wait = wait; behind = behind }
+abbrev pub fit_from : ℕ → ℕ → Fit
+fit_from wait behind = record { still = false; wait = wait; behind = behind }
 
 -- what it begins with to change nothing
-abbrev pub stillFit : Fit
-stillFit = record { still = true; wait = 0; behind = most32 }
+abbrev pub still_fit : Fit
+still_fit = record { still = true; wait = 0; behind = most32 }
 
 -- j with its x worked out from the job behind it, if any
 abbrev pub fitted : Fit → Job → Job
@@ -62,16 +62,16 @@ fitted s j =
     (min (deadline j - start j - budget j) (s.behind - start j - budget j))
 
 -- what is put down where j stood
-abbrev pub fitOut : Fit → Job → Job
-fitOut s j = pick s.still j (pick (ltb 0 s.wait) j (fitted s j))
+abbrev pub fit_out : Fit → Job → Job
+fit_out s j = pick s.still j (pick (ltb 0 s.wait) j (fitted s j))
 
 -- how far the pass is after j
-abbrev pub fitStep : Fit → Job → Fit
-fitStep s j =
+abbrev pub fit_step : Fit → Job → Fit
+fit_step s j =
     pick s.still s
     (pick (ltb 0 s.wait) (record { still = s.still; wait = s.wait - 1; behind = s.behind })
     (record { still = s.still; wait = s.wait; behind = flex (fitted s j) + start (fitted s j) }))
 
 -- the whole table
-unfoldable pub fittedAll : Fit → List Job → List Job
-fittedAll s l = back fitStep fitOut s l
+unfoldable pub fitted_all : Fit → List Job → List Job
+fitted_all s l = back fit_step fit_out s l

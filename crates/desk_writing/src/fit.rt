@@ -1,6 +1,6 @@
 // One step of the flexibility pass, from the back.
 ghost use Rattle.std.specs.Prelude.{◌≡◌};
-ghost use Rattle.desk_writing.specs.Writing.{stillFit, fitted, fitOut, fitStep};
+ghost use Rattle.desk_writing.specs.Writing.{still_fit, fitted, fit_out, fit_step};
 
 use desk::Job;
 use desk_records::numbers::FAR;
@@ -17,7 +17,7 @@ pub struct Fit {
 
 // The pass that changes nothing.
 pub fn still_fit() -> Fit
-    ensures { result ≡ stillFit }
+    ensures { result ≡ still_fit }
 {
     Fit {
         still: true,
@@ -40,7 +40,7 @@ fn fit_one(s: Fit, j: Job) -> Job
 
 // What is put down where j stood.
 pub fn fit_out(s: Fit, j: Job) -> Job
-    ensures { result ≡ fitOut s j }
+    ensures { result ≡ fit_out s j }
 {
     if s.still {
         return j;
@@ -53,7 +53,7 @@ pub fn fit_out(s: Fit, j: Job) -> Job
 
 // How far the pass is after j.
 pub fn fit_step(s: Fit, j: Job) -> Fit
-    ensures { result ≡ fitStep s j }
+    ensures { result ≡ fit_step s j }
 {
     let mut r = s;
     if s.still {

@@ -1,6 +1,6 @@
 // One step of the shift pass: the new job is put in, and later jobs are moved as far as forced.
 ghost use Rattle.std.specs.Prelude.{◌≡◌};
-ghost use Rattle.desk_writing.specs.Writing.{stillShift, shiftOut, shiftStep};
+ghost use Rattle.desk_writing.specs.Writing.{still_shift, shift_out, shift_step};
 
 use desk::Job;
 use desk_records::numbers::sum;
@@ -19,7 +19,7 @@ pub struct Shift {
 
 // The pass that changes nothing.
 pub fn still_shift() -> Shift
-    ensures { result ≡ stillShift }
+    ensures { result ≡ still_shift }
 {
     Shift {
         still: true,
@@ -32,7 +32,7 @@ pub fn still_shift() -> Shift
 
 // What is put down where j stood.
 pub fn shift_out(s: Shift, j: Job) -> Job
-    ensures { result ≡ shiftOut s j }
+    ensures { result ≡ shift_out s j }
 {
     if s.still {
         return j;
@@ -49,7 +49,7 @@ pub fn shift_out(s: Shift, j: Job) -> Job
 
 // How far the pass is after j.
 pub fn shift_step(s: Shift, j: Job) -> Shift
-    ensures { result ≡ shiftStep s j }
+    ensures { result ≡ shift_step s j }
 {
     let mut r = s;
     if s.still {

@@ -2,10 +2,10 @@
 use Rattle.std.specs.Prelude.{ℕ, ◌+◌, ◌-◌, ◌*◌, ◌/◌, ◌%◌, ◌<◌, List, [], ◌∷◌, length, get_or, take, drop}
 
 -- the numbers that bytes hold; an odd last byte is no number
-unfoldable pub numsOf : List ℕ → List ℕ
-numsOf [] = []
-numsOf (high ∷ []) = []
-numsOf (high ∷ low ∷ bs) = (high * 256 + low) ∷ numsOf bs
+unfoldable pub nums_of : List ℕ → List ℕ
+nums_of [] = []
+nums_of (high ∷ []) = []
+nums_of (high ∷ low ∷ bs) = (high * 256 + low) ∷ nums_of bs
 
 -- the bytes of numbers
 unfoldable pub bytes_of : List ℕ → List ℕ

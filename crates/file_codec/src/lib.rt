@@ -1,7 +1,7 @@
 // The plan file's numbers of two bytes, read and put.
 ghost use Rattle.std.specs.Prelude.{◌≡◌, ◌++◌, ◌+◌, ◌*◌, ◌/◌, ◌%◌, ◌≤◌, ◌<◌, min, length, get_or, set, drop};
-ghost use Rattle.rules.specs.Limits.{numberBytes};
-ghost use Rattle.file_codec.specs.Bytes.{numsOf, bytes_of};
+ghost use Rattle.rules.specs.Limits.{number_bytes};
+ghost use Rattle.file_codec.specs.Bytes.{nums_of, bytes_of};
 ghost use Rattle.file_codec.specs.Inner.{over};
 
 use rules::limits::NUMBER_BYTES;
@@ -14,7 +14,7 @@ fn byte(x: u8) -> u16
 
 // The number at place k of a body, or 0 past its end.
 pub fn number(body: &[u8], k: usize) -> u16
-    ensures { result ≡ get_or (numsOf body.now) k 0 }
+    ensures { result ≡ get_or (nums_of body.now) k 0 }
 {
     let n = body.len() / NUMBER_BYTES;
     if k < n {
@@ -26,8 +26,8 @@ pub fn number(body: &[u8], k: usize) -> u16
 // The numbers of a body, as many as there are and as the table has room for.
 pub fn load(body: &[u8], table: &mut [u16])
     ensures { table.new
-        ≡ over (numsOf body.now)
-        (min (length table.old) (length body.now / numberBytes)) table.old }
+        ≡ over (nums_of body.now)
+        (min (length table.old) (length body.now / number_bytes)) table.old }
 {
     let n = rules::numbers::smaller(table.len(), body.len() / NUMBER_BYTES);
     let mut k = 0;
@@ -47,10 +47,10 @@ fn put(out: &mut [u8], at: usize, x: u16)
 
 // The bytes of a table at the start of the output; those behind them are left alone.
 pub fn put_all(table: &[u16], out: &mut [u8])
-    requires { numberBytes * length table.now ≤ length out.old }
+    requires { number_bytes * length table.now ≤ length out.old }
     ensures { out.new
         ≡ bytes_of table.now
-        ++ drop (numberBytes * length table.now) out.old }
+        ++ drop (number_bytes * length table.now) out.old }
 {
     let n = table.len();
     let mut k = 0;

@@ -4,21 +4,21 @@ use Rattle.output.specs.Text.{bytes}
 use Rattle.output.specs.Decimal.{decimal}
 
 -- frame F
-unfoldable pub frameLine : ℕ → List ℕ
-frameLine frame = bytes "frame " ++ decimal frame ++ bytes "\n"
+unfoldable pub frame_line : ℕ → List ℕ
+frame_line frame = bytes "frame " ++ decimal frame ++ bytes "\n"
 
 -- partition i wants q in m least l
-unfoldable pub partitionLine : ℕ → ℕ → ℕ → ℕ → List ℕ
-partitionLine i q m l =
+unfoldable pub partition_line : ℕ → ℕ → ℕ → ℕ → List ℕ
+partition_line i q m l =
     bytes "partition " ++ decimal i ++ (bytes " wants " ++ decimal q) ++ (bytes " in " ++ decimal m)
     ++ (bytes " least " ++ decimal l) ++ bytes "\n"
 
 -- task i partition p pass t, and document 02, ask 4: tick u
-unfoldable pub passLine : ℕ → ℕ → ℕ → ℕ → List ℕ
-passLine i p t u =
+unfoldable pub pass_line : ℕ → ℕ → ℕ → ℕ → List ℕ
+pass_line i p t u =
     bytes "task " ++ decimal i ++ (bytes " partition " ++ decimal p) ++ (bytes " pass " ++ decimal t)
     ++ (bytes " tick " ++ decimal u) ++ bytes "\n"
 
 -- "A failing task ends in `fail`."
-unfoldable pub failLine : ℕ → ℕ → List ℕ
-failLine i p = bytes "task " ++ decimal i ++ (bytes " partition " ++ decimal p) ++ bytes " fail\n"
+unfoldable pub fail_line : ℕ → ℕ → List ℕ
+fail_line i p = bytes "task " ++ decimal i ++ (bytes " partition " ++ decimal p) ++ bytes " fail\n"

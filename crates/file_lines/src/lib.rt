@@ -1,15 +1,15 @@
 // The lines of the listing: each is put from a place on, and the answer is the place behind it.
 ghost use Rattle.std.specs.Prelude.{◌+◌, ◌≤◌, ◌<◌, ◌^◌};
 ghost use Rattle.output.specs.Put.{Put};
-ghost use Rattle.rules.specs.Limits.{longestLine};
-ghost use Rattle.file_lines.specs.Lines.{frameLine, partitionLine, passLine, failLine};
+ghost use Rattle.rules.specs.Limits.{longest_line};
+ghost use Rattle.file_lines.specs.Lines.{frame_line, partition_line, pass_line, fail_line};
 
 use output::{put_field, put_text};
 
 pub fn put_frame(out: &mut [u8], at: usize, frame: usize) -> usize
     requires { at < 2 ^ 40 }
-    ensures { Put out.old at (frameLine frame) result out.new
-        × (result ≤ at + longestLine) }
+    ensures { Put out.old at (frame_line frame) result out.new
+        × (result ≤ at + longest_line) }
 {
     let a = put_field(out, at, b"frame ", frame);
     put_text(out, a, b"\n")
@@ -24,8 +24,8 @@ pub fn put_partition(
     least: usize,
 ) -> usize
     requires { at < 2 ^ 40 }
-    ensures { Put out.old at (partitionLine place wanted cycle least) result out.new
-        × (result ≤ at + longestLine) }
+    ensures { Put out.old at (partition_line place wanted cycle least) result out.new
+        × (result ≤ at + longest_line) }
 {
     let a = put_field(out, at, b"partition ", place);
     let b = put_field(out, a, b" wants ", wanted);
@@ -43,8 +43,8 @@ pub fn put_pass(
     tick: usize,
 ) -> usize
     requires { at < 2 ^ 40 }
-    ensures { Put out.old at (passLine place partition point tick) result out.new
-        × (result ≤ at + longestLine) }
+    ensures { Put out.old at (pass_line place partition point tick) result out.new
+        × (result ≤ at + longest_line) }
 {
     let a = put_field(out, at, b"task ", place);
     let b = put_field(out, a, b" partition ", partition);
@@ -55,8 +55,8 @@ pub fn put_pass(
 
 pub fn put_fail(out: &mut [u8], at: usize, place: usize, partition: usize) -> usize
     requires { at < 2 ^ 40 }
-    ensures { Put out.old at (failLine place partition) result out.new
-        × (result ≤ at + longestLine) }
+    ensures { Put out.old at (fail_line place partition) result out.new
+        × (result ≤ at + longest_line) }
 {
     let a = put_field(out, at, b"task ", place);
     let b = put_field(out, a, b" partition ", partition);

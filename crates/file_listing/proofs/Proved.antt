@@ -14,83 +14,83 @@ use Rattle.rules.specs.Refusals.{told}
 use Rattle.rules.specs.declared.Refusal.{Refusal}
 use Rattle.rules.proofs.Tests.{pick_first}
 use Rattle.rules.specs.declared.Finding.TheVariants as found
-use Rattle.theory.specs.Task.{taskLoad, taskPoint, taskTick}
-use Rattle.theory.specs.Inner.{leastFor}
-use Rattle.theory.proofs.Points.{tick-at-most-point}
-use Rattle.rules.specs.Terms.{filed, ruleOf, wanted}
+use Rattle.theory.specs.Task.{task_load, task_point, task_tick}
+use Rattle.theory.specs.Inner.{least_for}
+use Rattle.theory.proofs.Points.{tick_at_most_point}
+use Rattle.rules.specs.Terms.{filed, rule_of, wanted}
 use Rattle.rules.specs.declared.Rule.{Rule}
-use Rattle.plan_check.specs.Check.{checkOf, scanOf}
-use Rattle.plan_check.proofs.Orders.{shortPart, shortStart, shortfall}
+use Rattle.plan_check.specs.Check.{check_of, scan_of}
+use Rattle.plan_check.proofs.Orders.{short_part, short_start, shortfall}
 use Rattle.task_verdict.specs.Theorems.{Answered}
-use Rattle.task_verdict.specs.Verdict.{passAt, verdictBy}
-use Rattle.task_verdict.proofs.Orders.{is-pass, is-fail, answer}
+use Rattle.task_verdict.specs.Verdict.{pass_at, verdict_by}
+use Rattle.task_verdict.proofs.Orders.{is_pass, is_fail, answer}
 use Rattle.task_verdict.proofs.Engines as verdicts
-use Rattle.file_page.specs.Page.{taskLine}
+use Rattle.file_page.specs.Page.{task_line}
 use Rattle.file_read.specs.declared.Reading.{Reading}
 use Rattle.file_read.specs.declared.Reading.TheVariants.{Contents, Refused}
 use Rattle.file_read.specs.declared.Body.TheVariants.{Partitions, Tasks}
 use Rattle.file_read.specs.Reader.{read_of, table_of}
 use Rattle.file_read.proofs.Reader.{accepted, contents-short}
 use Rattle.file_read.proofs.Proved as reader
-use Rattle.file_listing.specs.Listing.{readLines, listingOf}
-use Rattle.file_listing.specs.Theorems.{planIn, LineOfBoth, ListingFirst, Proved}
+use Rattle.file_listing.specs.Listing.{read_lines, listing_of}
+use Rattle.file_listing.specs.Theorems.{plan_in, LineOfBoth, ListingFirst, Proved}
 use Rattle.file_runs.proofs.Loaded.{fit}
 use Rattle.file_listing.proofs.Tables.{scanned}
 
-listed-verdict : (b : List ℕ) (ed frame np nt nr : ℕ) → read_of b ≡ Contents ed frame np nt nr → (j : ℕ) → checkOf (filed ed) (planIn b) (table_of b Partitions) ≡ found.Good → j < nt
-    → Answered (filed ed) (planIn b) (table_of b Partitions) (table_of b Tasks) (j + 1)
-listed-verdict b ed frame np nt nr e j c h = let f = fit b ed frame np nt nr e in record {
+listed_verdict : (b : List ℕ) (ed frame np nt nr : ℕ) → read_of b ≡ Contents ed frame np nt nr → (j : ℕ) → check_of (filed ed) (plan_in b) (table_of b Partitions) ≡ found.Good → j < nt
+    → Answered (filed ed) (plan_in b) (table_of b Partitions) (table_of b Tasks) (j + 1)
+listed_verdict b ed frame np nt nr e j c h = let f = fit b ed frame np nt nr e in record {
   accepted = c;
   good = rw f.ticks f.good;
-  from-1 = omega arith;
+  from_1 = omega arith;
   listed = omega (arith, f.listed);
 }
 
 -- an answered task's line
 module _ (ed : ℕ) (plan ps ts : List ℕ) (j : ℕ) (a : Answered (filed ed) plan ps ts (j + 1)) where
-  said : (engine : Rule → List ℕ → List ℕ → ℕ → ℕ) → verdictBy engine (filed ed) plan ps ts (j + 1) ≡ passAt (deadline ts j) (engine (ruleOf ed) plan ts j)
+  said : (engine : Rule → List ℕ → List ℕ → ℕ → ℕ) → verdict_by engine (filed ed) plan ps ts (j + 1) ≡ pass_at (deadline ts j) (engine (rule_of ed) plan ts j)
   said engine = let z : j + 1 - 1 ≡ j = omega arith in rw z at (answer (filed ed) plan ps ts (j + 1) engine a)
 
   listed-line : LineOfBoth ed plan ps ts j
-  unfolding taskLine
-  listed-line = at (leb (taskPoint (ruleOf ed) plan ts j) (deadline ts j)) refl
+  unfolding task_line
+  listed-line = at (leb (task_point (rule_of ed) plan ts j) (deadline ts j)) refl
     where
-      at : (b : Bool) → leb (taskPoint (ruleOf ed) plan ts j) (deadline ts j) ≡ b → LineOfBoth ed plan ps ts j
+      at : (b : Bool) → leb (task_point (rule_of ed) plan ts j) (deadline ts j) ≡ b → LineOfBoth ed plan ps ts j
       at true e =
-          let h = leb-true (taskPoint (ruleOf ed) plan ts j) (deadline ts j) e in
-          let g = tick-at-most-point (taskLoad ts) (leastFor (ruleOf ed) plan ts j) j in
+          let h = leb-true (task_point (rule_of ed) plan ts j) (deadline ts j) e in
+          let g = tick_at_most_point (task_load ts) (least_for (rule_of ed) plan ts j) j in
           inl (
-            taskPoint (ruleOf ed) plan ts j,
-            taskTick (ruleOf ed) plan ts j,
-            said taskPoint ∙ is-pass _ _ h,
-            said taskTick ∙ is-pass _ _ (omega arith),
+            task_point (rule_of ed) plan ts j,
+            task_tick (rule_of ed) plan ts j,
+            said task_point ∙ is_pass _ _ h,
+            said task_tick ∙ is_pass _ _ (omega arith),
             rw e,
           )
       at false e =
-          let f = said taskPoint ∙ is-fail _ _ (leb-false (taskPoint (ruleOf ed) plan ts j) (deadline ts j) e) in
-          inr (f, ((verdicts.proved).by-ticks.fail-exactly (filed ed) plan ps ts (j + 1)).1 (((verdicts.proved).by-points.fail-exactly (filed ed) plan ps ts (j + 1)).0 f), rw e)
+          let f = said task_point ∙ is_fail _ _ (leb-false (task_point (rule_of ed) plan ts j) (deadline ts j) e) in
+          inr (f, ((verdicts.proved).by_ticks.fail_exactly (filed ed) plan ps ts (j + 1)).1 (((verdicts.proved).by_points.fail_exactly (filed ed) plan ps ts (j + 1)).0 f), rw e)
 
 -- the scan's only refusal
-scan-nine : (rule : Rule) (q : ℕ → ℕ) (plan ps : List ℕ) (r : Refusal) → scanOf rule q plan ps ≡ found.Refused r → (told r).number ≡ 9
-unfolding scanOf
-scan-nine rule q plan ps r e =
-    let a = pick_first (ltb (shortPart rule q plan ps) (partitions ps)) (found.Refused (shortfall rule q plan ps (shortPart rule q plan ps) (shortStart rule q plan ps (shortPart rule q plan ps)))) found.Good (found.Refused r) (λ e. let z : ◌≡◌ {A = ℕ} 0 1 = cc in absurd (omega arith)) e in
-    let s : shortfall rule q plan ps (shortPart rule q plan ps) (shortStart rule q plan ps (shortPart rule q plan ps)) ≡ r = cc a.1 in
+scan_nine : (rule : Rule) (q : ℕ → ℕ) (plan ps : List ℕ) (r : Refusal) → scan_of rule q plan ps ≡ found.Refused r → (told r).number ≡ 9
+unfolding scan_of
+scan_nine rule q plan ps r e =
+    let a = pick_first (ltb (short_part rule q plan ps) (partitions ps)) (found.Refused (shortfall rule q plan ps (short_part rule q plan ps) (short_start rule q plan ps (short_part rule q plan ps)))) found.Good (found.Refused r) (λ e. let z : ◌≡◌ {A = ℕ} 0 1 = cc in absurd (omega arith)) e in
+    let s : shortfall rule q plan ps (short_part rule q plan ps) (short_start rule q plan ps (short_part rule q plan ps)) ≡ r = cc a.1 in
     ap (λ (x : Refusal). (told x).number) (sym s)
 
-listing-first : ListingFirst
-unfolding listingOf
-listing-first b n h = step (read_of b) refl
+listing_first : ListingFirst
+unfolding listing_of
+listing_first b n h = step (read_of b) refl
   where
-    step : (c : Reading) → read_of b ≡ c → readLines (read_of (take n b)) (take n b) ≡ readLines (read_of b) b
+    step : (c : Reading) → read_of b ≡ c → read_lines (read_of (take n b)) (take n b) ≡ read_lines (read_of b) b
     step (Refused x) e = rw ((reader.proved).read_first b n h, e)
     step (Contents ed f np nt nr) e = rw (take_all n b (omega (arith, contents-short b ed f np nt nr (accepted b ed f np nt nr e).contents)))
 
 pub proved : Proved
 proved = record {
-  listing-counts = λ b ed frame np nt nr e. ((fit b ed frame np nt nr e).ticks, (fit b ed frame np nt nr e).parts, (fit b ed frame np nt nr e).listed);
-  listing-verdicts = λ b ed frame np nt nr j e c h. listed-line ed (planIn b) (table_of b Partitions) (table_of b Tasks) j (listed-verdict b ed frame np nt nr e j c h);
-  only-nine = λ b ed frame np nt nr r e c. scan-nine (ruleOf ed) (wanted (filed ed) (table_of b Partitions)) (planIn b) (table_of b Partitions) r (sym (scanned b ed frame np nt nr e) ∙ c);
-  listing-first = listing-first;
-  listing-one = λ b out o o' r r' e f. (e.0 ∙ sym f.0, e.1 ∙ sym f.1);
+  listing_counts = λ b ed frame np nt nr e. ((fit b ed frame np nt nr e).ticks, (fit b ed frame np nt nr e).parts, (fit b ed frame np nt nr e).listed);
+  listing_verdicts = λ b ed frame np nt nr j e c h. listed-line ed (plan_in b) (table_of b Partitions) (table_of b Tasks) j (listed_verdict b ed frame np nt nr e j c h);
+  only_nine = λ b ed frame np nt nr r e c. scan_nine (rule_of ed) (wanted (filed ed) (table_of b Partitions)) (plan_in b) (table_of b Partitions) r (sym (scanned b ed frame np nt nr e) ∙ c);
+  listing_first = listing_first;
+  listing_one = λ b out o o' r r' e f. (e.0 ∙ sym f.0, e.1 ∙ sym f.1);
 }

@@ -6,66 +6,66 @@ use native.Mathlib.Omega.{arith}
 use lib.ListN.{length, take, drop}
 use borrow.Author.Tests.{lt-ltb, le-ltb}
 use Rattle.rules.specs.Walk.{Every}
-use Rattle.rules.specs.Table.{partitions, tasks, goodTick}
+use Rattle.rules.specs.Table.{partitions, tasks, good_tick}
 use Rattle.tables.specs.Tables.{GoodTables}
 use Rattle.rules.specs.declared.Refusal.TheVariants.{Tick, Output}
-use Rattle.tables.proofs.Chain.{good-lowest, without-tasks, unless-good}
+use Rattle.tables.proofs.Chain.{good-lowest, without_tasks, unless_good_lem}
 use Rattle.rules.specs.declared.Finding.TheVariants as found
-use Rattle.rules.specs.Terms.{filed, ruleOf, wanted}
-use Rattle.plan_check.specs.Check.{scanOf, planCheckOf, checkOf}
+use Rattle.rules.specs.Terms.{filed, rule_of, wanted}
+use Rattle.plan_check.specs.Check.{scan_of, plan_check_of, check_of}
 use Rattle.file_read.specs.declared.Reading.{Reading}
 use Rattle.file_read.specs.declared.Reading.TheVariants.{Contents}
 use Rattle.file_read.specs.declared.Body.TheVariants.{Partitions, Tasks, Runs}
 use Rattle.file_read.specs.Reader.{read_of, table_of}
 use Rattle.output.specs.Put.{Put}
-use Rattle.output.proofs.Put.{put_front, put-taken}
-use Rattle.file_runs.specs.Ticks.{ticksOf}
+use Rattle.output.proofs.Put.{put_front, put_taken}
+use Rattle.file_runs.specs.Ticks.{ticks_of}
 use Rattle.file_runs.proofs.Loaded.{fit, sized, framed}
 use Rattle.rules.specs.declared.Filling.TheVariants.{Fills, Refused}
-use Rattle.file_listing.specs.Listing.{tablesLines, readLines, listingOf, list_of, listedLeft}
+use Rattle.file_listing.specs.Listing.{tables_lines, read_lines, listing_of, list_of, listed_left}
 use Rattle.file_listing.specs.Inner.{Listable}
 
 -- ---- the tables
 
 module _ (b : List ℕ) (ed frame np nt nr : ℕ) (e : read_of b ≡ Contents ed frame np nt nr) where
   -- of the plan of a file that was read only 9 is left
-  pub scanned : checkOf (filed ed) (ticksOf (table_of b Runs)) (table_of b Partitions) ≡ scanOf (ruleOf ed) (wanted (filed ed) (table_of b Partitions)) (ticksOf (table_of b Runs)) (table_of b Partitions)
-  unfolding checkOf planCheckOf
+  pub scanned : check_of (filed ed) (ticks_of (table_of b Runs)) (table_of b Partitions) ≡ scan_of (rule_of ed) (wanted (filed ed) (table_of b Partitions)) (ticks_of (table_of b Runs)) (table_of b Partitions)
+  unfolding check_of plan_check_of
   scanned =
       let f = fit b ed frame np nt nr e in
-      let plan : List ℕ = ticksOf (table_of b Runs) in
+      let plan : List ℕ = ticks_of (table_of b Runs) in
       let ps : List ℕ = table_of b Partitions in
-      let g : GoodTables (filed ed) (length plan) ps [] = rw f.ticks (without-tasks frame ps (table_of b Tasks) f.good) in
-      let t : Every (goodTick (partitions ps) plan) (length plan) = rw (f.parts, f.ticks) f.owned in
-      unless-good (filed ed) (length plan) ps [] found.Refused (planCheckOf (ruleOf ed) (wanted (filed ed) ps) plan ps) g ∙ rw (good-lowest Tick (goodTick (partitions ps) plan) (length plan) t)
+      let g : GoodTables (filed ed) (length plan) ps [] = rw f.ticks (without_tasks frame ps (table_of b Tasks) f.good) in
+      let t : Every (good_tick (partitions ps) plan) (length plan) = rw (f.parts, f.ticks) f.owned in
+      unless_good_lem (filed ed) (length plan) ps [] found.Refused (plan_check_of (rule_of ed) (wanted (filed ed) ps) plan ps) g ∙ rw (good-lowest Tick (good_tick (partitions ps) plan) (length plan) t)
 
   pub listable : Listable ed frame (table_of b Partitions) (table_of b Tasks) (table_of b Runs)
   listable =
       let f = fit b ed frame np nt nr e in
       let s = sized b ed frame np nt nr e in
       record {
-        records = record { few-parts = rw e s.parts-high; few-tasks = rw e s.tasks-high; good = f.good.tasks };
+        records = record { few_parts = rw e s.parts_high; few_tasks = rw e s.tasks_high; good = f.good.tasks };
         framed = framed b ed frame np nt nr e;
         judged = scanned;
       }
 
-  pub tables-listed : tablesLines ed frame (ticksOf (table_of b Runs)) (table_of b Partitions) (table_of b Tasks) ≡ listingOf b
-  unfolding listingOf
-  tables-listed = sym (ap (λ (c : Reading). readLines c b) e)
+  pub tables_listed : tables_lines ed frame (ticks_of (table_of b Runs)) (table_of b Partitions) (table_of b Tasks) ≡ listing_of b
+  unfolding listing_of
+  tables_listed = sym (ap (λ (c : Reading). read_lines c b) e)
 
 -- ---- the text
 
-module _ (b page0 page out : List ℕ) (n : ℕ) (p : Put page0 0 (listingOf b) n page) where
-  long : length (listingOf b) ≡ n
+module _ (b page0 page out : List ℕ) (n : ℕ) (p : Put page0 0 (listing_of b) n page) where
+  long : length (listing_of b) ≡ n
   long = omega (arith, p.place)
 
-  pub listed-short : length out < n → (Refused Output ≡ list_of b (length out)) × (out ≡ listedLeft b out)
+  pub listed-short : length out < n → (Refused Output ≡ list_of b (length out)) × (out ≡ listed_left b out)
   unfolding list_of
   listed-short h = rw (long, lt-ltb (length out) n h) (refl, refl)
 
-  pub listed-text : n ≤ length page0 → n ≤ length out → (o : List ℕ) (r : ℕ) → Put out 0 (take n page) r o → (Fills n ≡ list_of b (length out)) × (o ≡ listedLeft b out)
+  pub listed_text : n ≤ length page0 → n ≤ length out → (o : List ℕ) (r : ℕ) → Put out 0 (take n page) r o → (Fills n ≡ list_of b (length out)) × (o ≡ listed_left b out)
   unfolding list_of
-  listed-text hp ho o r q =
-      let w : Put out 0 (listingOf b) r o = rw (put-taken p hp).1 at q in
-      let z : o ≡ listingOf b ++ drop n out = rw long at (put_front w (omega (arith, long))) in
+  listed_text hp ho o r q =
+      let w : Put out 0 (listing_of b) r o = rw (put_taken p hp).1 at q in
+      let z : o ≡ listing_of b ++ drop n out = rw long at (put_front w (omega (arith, long))) in
       rw (long, le-ltb (length out) n ho) (refl, z)

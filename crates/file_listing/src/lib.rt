@@ -1,11 +1,11 @@
 // The listing of a plan file: read and judged once, its plan checked once for all its tasks.
 ghost use Rattle.std.specs.Prelude.{◌≡◌, ◌≤◌, length};
-ghost use Rattle.rules.specs.Limits.{longestListing};
-ghost use Rattle.rules.specs.Terms.{filed, ruleOf, wanted};
-ghost use Rattle.plan_check.specs.Check.{scanOf, checkOf};
-ghost use Rattle.file_runs.specs.Ticks.{ticksOf};
+ghost use Rattle.rules.specs.Limits.{longest_listing};
+ghost use Rattle.rules.specs.Terms.{filed, rule_of, wanted};
+ghost use Rattle.plan_check.specs.Check.{scan_of, check_of};
+ghost use Rattle.file_runs.specs.Ticks.{ticks_of};
 ghost use Rattle.output.specs.Put.{Put};
-ghost use Rattle.file_listing.specs.Listing.{tablesLines, listingOf, Lists};
+ghost use Rattle.file_listing.specs.Listing.{tables_lines, listing_of, Lists};
 ghost use Rattle.file_page.specs.Inner.{GoodRecords};
 ghost use Rattle.file_listing.specs.Inner.{Listable};
 
@@ -27,11 +27,11 @@ fn put_checked(
     out: &mut [u8],
 ) -> usize
     requires good_records { GoodRecords parts.now table.now }
-    requires parts_value { checkOf (filed edition) plan.now parts.now
-        ≡ scanOf (ruleOf edition) (wanted (filed edition) parts.now) plan.now parts.now }
+    requires parts_value { check_of (filed edition) plan.now parts.now
+        ≡ scan_of (rule_of edition) (wanted (filed edition) parts.now) plan.now parts.now }
     ensures { Put out.old 0
-        (tablesLines edition frame plan.now parts.now table.now) result out.new
-        × (result ≤ longestListing) }
+        (tables_lines edition frame plan.now parts.now table.now) result out.new
+        × (result ≤ longest_listing) }
 {
     let rule = rules::rule_of(edition);
     let checked = plan_check::scan(rule, rules::filed(edition), plan, parts);
@@ -52,9 +52,9 @@ fn put_tables(
 ) -> usize
     requires { Listable edition frame parts.now table.now runs.now }
     ensures { Put out.old 0
-        (tablesLines edition frame (ticksOf runs.now) parts.now table.now)
+        (tables_lines edition frame (ticks_of runs.now) parts.now table.now)
         result out.new
-        × (result ≤ longestListing) }
+        × (result ≤ longest_listing) }
 {
     let mut plan = [0u16; LONGEST];
     file_runs::ticks_of(runs, &mut plan);
@@ -63,8 +63,8 @@ fn put_tables(
 
 // Puts the listing of a file's bytes at the start of the output, as far as there is room. The answer is its length.
 pub fn compose(file: &[u8], out: &mut [u8]) -> usize
-    ensures { Put out.old 0 (listingOf file.now) result out.new
-        × (result ≤ longestListing) }
+    ensures { Put out.old 0 (listing_of file.now) result out.new
+        × (result ≤ longest_listing) }
 {
     let mut parts = [0u16; PART_NUMBERS];
     let mut tasks = [0u16; TASK_NUMBERS];
@@ -90,7 +90,7 @@ pub fn compose(file: &[u8], out: &mut [u8]) -> usize
 // The listing of a file's bytes, at the start of the output. An output of LONGEST_LISTING bytes is long enough for any.
 pub fn listing(file: &[u8], out: &mut [u8]) -> Filling
     ensures lists { Lists file.now out.old out.new result }
-    ensures file_len_bound { length (listingOf file.now) ≤ longestListing }
+    ensures file_len_bound { length (listing_of file.now) ≤ longest_listing }
 {
     let mut page = [0u8; LONGEST_LISTING];
     let n = compose(file, &mut page);

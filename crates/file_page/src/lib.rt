@@ -1,22 +1,22 @@
 // The page of a plan that serves: lines put from a place on, as far as there is room; the answer is the place
 // behind them.
 ghost use Rattle.std.specs.Prelude.{◌+◌, ◌*◌, ◌≤◌, ◌<◌, ◌^◌, length};
-ghost use Rattle.rules.specs.Limits.{mostPartitions, mostTasks, longestLine, longestListing};
+ghost use Rattle.rules.specs.Limits.{most_partitions, most_tasks, longest_line, longest_listing};
 ghost use Rattle.rules.specs.Walk.{gathered};
 ghost use Rattle.rules.specs.Table.{partitions, tasks};
 ghost use Rattle.output.specs.Put.{Put};
-ghost use Rattle.file_page.specs.Page.{partLine, taskLine, page_of};
-ghost use Rattle.file_page.specs.Inner.{GoodRecords, lineBy};
+ghost use Rattle.file_page.specs.Page.{part_line, task_line, page_of};
+ghost use Rattle.file_page.specs.Inner.{GoodRecords, line_by};
 
 use file_lines::{put_fail, put_frame, put_partition, put_pass};
 use rules::Rule;
 use rules::limits::MOST_TASKS;
 
 fn put_part(rule: Rule, plan: &[u16], parts: &[u16], k: usize, out: &mut [u8], at: usize) -> usize
-    requires { (k < mostPartitions) × (at < 2 ^ 40) }
+    requires { (k < most_partitions) × (at < 2 ^ 40) }
     ensures { Put out.old at
-        (partLine rule plan.now parts.now k) result out.new
-        × (result ≤ at + longestLine) }
+        (part_line rule plan.now parts.now k) result out.new
+        × (result ≤ at + longest_line) }
 {
     let m = rules::records::cycle(parts, k);
     let wanted = rules::records::wanted(rules::filed(1), parts, k);
@@ -25,11 +25,11 @@ fn put_part(rule: Rule, plan: &[u16], parts: &[u16], k: usize, out: &mut [u8], a
 }
 
 fn put_parts(rule: Rule, plan: &[u16], parts: &[u16], out: &mut [u8], start: usize) -> usize
-    requires { (partitions parts.now ≤ mostPartitions) × (start < 2 ^ 32) }
+    requires { (partitions parts.now ≤ most_partitions) × (start < 2 ^ 32) }
     ensures { Put out.old start
-        (gathered (partLine rule plan.now parts.now) (partitions parts.now))
+        (gathered (part_line rule plan.now parts.now) (partitions parts.now))
         result out.new
-        × (result ≤ start + mostPartitions * longestLine) }
+        × (result ≤ start + most_partitions * longest_line) }
 {
     let n = rules::records::partitions(parts);
     let mut at = start;
@@ -50,10 +50,10 @@ fn put_task(
     out: &mut [u8],
     at: usize,
 ) -> usize
-    requires { (j < mostTasks) × (at < 2 ^ 40) × (j < length points.now) × (j < length ticks.now) }
+    requires { (j < most_tasks) × (at < 2 ^ 40) × (j < length points.now) × (j < length ticks.now) }
     ensures { Put out.old at
-        (lineBy table.now points.now ticks.now j) result out.new
-        × (result ≤ at + longestLine) }
+        (line_by table.now points.now ticks.now j) result out.new
+        × (result ≤ at + longest_line) }
 {
     let partition = rules::numbers::wide(rules::records::partition(table, j));
     let point = points[j];
@@ -71,12 +71,12 @@ fn put_lines(
     out: &mut [u8],
     start: usize,
 ) -> usize
-    requires { (tasks table.now ≤ mostTasks) × (start < 2 ^ 32)
-        × (mostTasks ≤ length points.now) × (mostTasks ≤ length ticks.now) }
+    requires { (tasks table.now ≤ most_tasks) × (start < 2 ^ 32)
+        × (most_tasks ≤ length points.now) × (most_tasks ≤ length ticks.now) }
     ensures { Put out.old start
-        (gathered (lineBy table.now points.now ticks.now) (tasks table.now))
+        (gathered (line_by table.now points.now ticks.now) (tasks table.now))
         result out.new
-        × (result ≤ start + mostTasks * longestLine) }
+        × (result ≤ start + most_tasks * longest_line) }
 {
     let n = rules::records::tasks(table);
     let mut at = start;
@@ -99,9 +99,9 @@ fn put_tasks(
 ) -> usize
     requires { GoodRecords parts.now table.now × (start < 2 ^ 32) }
     ensures { Put out.old start
-        (gathered (taskLine rule plan.now table.now) (tasks table.now))
+        (gathered (task_line rule plan.now table.now) (tasks table.now))
         result out.new
-        × (result ≤ start + mostTasks * longestLine) }
+        × (result ≤ start + most_tasks * longest_line) }
 {
     let mut points = [0usize; MOST_TASKS];
     let mut ticks = [0usize; MOST_TASKS];
@@ -122,7 +122,7 @@ pub fn put_page(
     requires { GoodRecords parts.now table.now }
     ensures { Put out.old 0
         (page_of rule frame plan.now parts.now table.now) result out.new
-        × (result ≤ longestListing) }
+        × (result ≤ longest_listing) }
 {
     let a = put_frame(out, 0, frame);
     let b = put_parts(rule, plan, parts, out, a);

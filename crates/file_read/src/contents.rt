@@ -1,21 +1,21 @@
 // The contents: the first 16 bytes, and the refusals 1 to 5.
 ghost use Rattle.std.specs.Prelude.{◌≡◌, ◌<◌, ◌^◌};
-ghost use Rattle.file_read.specs.Reader.{countsOf, headNumber, contentsOf};
-ghost use Rattle.file_read.specs.Inner.{countsRight, offsetsRight};
+ghost use Rattle.file_read.specs.Reader.{counts_of, head_number, contents_of};
+ghost use Rattle.file_read.specs.Inner.{counts_right, offsets_right};
 
 use crate::Reading;
 use rules::Refusal;
 use rules::limits::{HEAD_BYTES, NUMBER_BYTES, PART_WIDTH, RUN_WIDTH, TASK_WIDTH};
 
 fn head_number(file: &[u8], k: usize) -> usize
-    ensures { (result ≡ headNumber file.now k) × (result < 2 ^ 16) }
+    ensures { (result ≡ head_number file.now k) × (result < 2 ^ 16) }
 {
     rules::numbers::wide(file_codec::number(file, k))
 }
 
 fn counts_right(frame: usize, np: usize, nt: usize, nr: usize) -> bool
     requires { (np < 2 ^ 16) × (nt < 2 ^ 16) × (nr < 2 ^ 16) }
-    ensures { result ≡ countsRight frame np nt nr }
+    ensures { result ≡ counts_right frame np nt nr }
 {
     if !tables::within_limits(frame, PART_WIDTH * np, TASK_WIDTH * nt) {
         return false;
@@ -25,7 +25,7 @@ fn counts_right(frame: usize, np: usize, nt: usize, nr: usize) -> bool
 
 fn offsets_right(po: usize, to: usize, ro: usize, np: usize, nt: usize) -> bool
     requires { (np < 2 ^ 16) × (nt < 2 ^ 16) }
-    ensures { result ≡ offsetsRight po to ro np nt }
+    ensures { result ≡ offsets_right po to ro np nt }
 {
     let tasks = HEAD_BYTES + NUMBER_BYTES * (PART_WIDTH * np);
     if po != HEAD_BYTES {
@@ -50,7 +50,7 @@ fn counts(
     nr: usize,
 ) -> Reading
     requires { (np < 2 ^ 16) × (nt < 2 ^ 16) × (nr < 2 ^ 16) }
-    ensures { result ≡ countsOf edition long frame po np to nt ro nr }
+    ensures { result ≡ counts_of edition long frame po np to nt ro nr }
 {
     if !counts_right(frame, np, nt, nr) {
         return Reading::Refused(Refusal::Limits);
@@ -72,7 +72,7 @@ fn counts(
 }
 
 pub fn contents(file: &[u8]) -> Reading
-    ensures { result ≡ contentsOf file.now }
+    ensures { result ≡ contents_of file.now }
 {
     if file.len() < HEAD_BYTES {
         return Reading::Refused(Refusal::Short);

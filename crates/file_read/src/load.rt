@@ -1,8 +1,8 @@
 // The bodies of a file, loaded into tables of numbers and judged there by the writer's rules.
 ghost use Rattle.std.specs.Prelude.{◌≡◌, ◌*◌, length};
-ghost use Rattle.rules.specs.Limits.{longest, mostPartitions, mostTasks, part_width, taskWidth, runWidth};
-ghost use Rattle.file_read.specs.Reader.{body_at, tableBy, contentsOf, read_of};
-ghost use Rattle.file_read.specs.Inner.{Few, Inside, front, loadedBy};
+ghost use Rattle.rules.specs.Limits.{longest, most_partitions, most_tasks, part_width, task_width, run_width};
+ghost use Rattle.file_read.specs.Reader.{body_at, table_by, contents_of, read_of};
+ghost use Rattle.file_read.specs.Inner.{Few, Inside, front, loaded_by};
 
 use crate::contents::contents;
 use crate::{Body, Reading, Stretch};
@@ -48,7 +48,7 @@ pub fn body_at(c: Reading, which: Body) -> Stretch
 fn load_body(file: &[u8], c: Reading, which: Body, table: &mut [u16])
     requires few { Few c }
     requires inside { Inside file.now c which }
-    ensures { table.new ≡ front (tableBy c file.now which) table.old }
+    ensures { table.new ≡ front (table_by c file.now which) table.old }
 {
     let s = body_at(c, which);
     let offset = s.offset;
@@ -59,10 +59,10 @@ fn load_body(file: &[u8], c: Reading, which: Body, table: &mut [u16])
 // What is read, where the tables of these contents are loaded.
 fn judge_loaded(c: Reading, parts: &[u16], tasks: &[u16], runs: &[u16]) -> Reading
     requires few { Few c }
-    requires parts_len { (length parts.now ≡ part_width * mostPartitions)
-        × (length tasks.now ≡ taskWidth * mostTasks)
-        × (length runs.now ≡ runWidth * longest) }
-    ensures { result ≡ loadedBy c parts.now tasks.now runs.now }
+    requires parts_len { (length parts.now ≡ part_width * most_partitions)
+        × (length tasks.now ≡ task_width * most_tasks)
+        × (length runs.now ≡ run_width * longest) }
+    ensures { result ≡ loaded_by c parts.now tasks.now runs.now }
 {
     match c {
         Reading::Refused(r) => Reading::Refused(r),
@@ -93,19 +93,19 @@ fn judge_loaded(c: Reading, parts: &[u16], tasks: &[u16], runs: &[u16]) -> Readi
 
 // Reads a file: its tables are put at the start of the lent ones, which have room for any.
 pub fn load_file(file: &[u8], parts: &mut [u16], tasks: &mut [u16], runs: &mut [u16]) -> Reading
-    requires { (length parts.old ≡ part_width * mostPartitions)
-        × (length tasks.old ≡ taskWidth * mostTasks)
-        × (length runs.old ≡ runWidth * longest) }
+    requires { (length parts.old ≡ part_width * most_partitions)
+        × (length tasks.old ≡ task_width * most_tasks)
+        × (length runs.old ≡ run_width * longest) }
     ensures value { result ≡ read_of file.now }
     ensures few { Few result }
     ensures parts_after { parts.new
-        ≡ front (tableBy (contentsOf file.now) file.now Body.Partitions)
+        ≡ front (table_by (contents_of file.now) file.now Body.Partitions)
         parts.old }
     ensures tasks_after { tasks.new
-        ≡ front (tableBy (contentsOf file.now) file.now Body.Tasks)
+        ≡ front (table_by (contents_of file.now) file.now Body.Tasks)
         tasks.old }
     ensures runs_after { runs.new
-        ≡ front (tableBy (contentsOf file.now) file.now Body.Runs) runs.old }
+        ≡ front (table_by (contents_of file.now) file.now Body.Runs) runs.old }
 {
     let c = contents(file);
     load_body(file, c, Body::Partitions, parts);

@@ -2,7 +2,7 @@
 ghost use Rattle.std.specs.Prelude.{◌≡◌, [], ◌∷◌, ◌+◌, ◌≤◌, ◌<◌, ◌^◌, replicate, eqb};
 ghost use Rattle.rules.specs.Walk.{pick};
 ghost use Rattle.output.specs.Put.{Put};
-ghost use Rattle.file_runs.specs.Ticks.{ticksPut, runsPut};
+ghost use Rattle.file_runs.specs.Ticks.{ticks_put, runs_put};
 
 use rules::limits::{LONGEST, RUN_NUMBERS};
 
@@ -21,7 +21,7 @@ fn put_ticks(out: &mut [u16], at: usize, owner: u16, n: usize) -> usize
 
 // The ticks of a table of runs, as far as there is room. The answer is how many there are.
 pub fn ticks_of(runs: &[u16], out: &mut [u16]) -> usize
-    ensures { Put out.old 0 (ticksPut runs.now) result out.new }
+    ensures { Put out.old 0 (ticks_put runs.now) result out.new }
 {
     if RUN_NUMBERS < runs.len() {
         return 0;
@@ -74,7 +74,7 @@ fn put_ended(out: &mut [u16], at: usize, owner: u16, long: u16, t: u16) -> usize
 
 // The runs of a plan's ticks, as far as there is room. The answer is how many numbers they have.
 pub fn runs_of(plan: &[u16], out: &mut [u16]) -> usize
-    ensures { Put out.old 0 (runsPut plan.now) result out.new }
+    ensures { Put out.old 0 (runs_put plan.now) result out.new }
 {
     let n = plan.len();
     if LONGEST < n {

@@ -1,19 +1,19 @@
 // Run records, and what tells against the three tables of a file.
 ghost use Rattle.std.specs.Prelude.{◌≡◌, ◌<◌, ◌^◌, length};
-ghost use Rattle.file_tables.specs.Inner.{runsCounted, firstBadRun};
-ghost use Rattle.file_tables.specs.Runs.{runOwner, runLength, runs, reached, repeats, goodRun, runsJudged, fileTablesOf};
+ghost use Rattle.file_tables.specs.Inner.{runs_counted, first_bad_run};
+ghost use Rattle.file_tables.specs.Runs.{run_owner, run_length, runs, reached, repeats, good_run, runs_judged, file_tables_of};
 
 use rules::limits::{LONGEST, RUN_WIDTH};
 use rules::{Finding, Refusal};
 
 pub fn run_owner(table: &[u16], k: usize) -> u16
-    ensures { result ≡ runOwner table.now k }
+    ensures { result ≡ run_owner table.now k }
 {
     rules::records::field_at(table, RUN_WIDTH, k, 0)
 }
 
 pub fn run_length(table: &[u16], k: usize) -> u16
-    ensures { result ≡ runLength table.now k }
+    ensures { result ≡ run_length table.now k }
 {
     rules::records::field_at(table, RUN_WIDTH, k, 1)
 }
@@ -36,7 +36,7 @@ fn repeats(table: &[u16], k: usize) -> bool
 // Whether the run at k is good, where the lengths up to it add up to `total`.
 fn good_run(table: &[u16], parts: usize, frame: usize, k: usize, total: usize) -> bool
     requires { (k < runs table.now) × (total ≡ reached table.now k) }
-    ensures { result ≡ goodRun parts frame table.now k }
+    ensures { result ≡ good_run parts frame table.now k }
 {
     if parts < rules::numbers::wide(run_owner(table, k)) {
         return false;
@@ -59,7 +59,7 @@ fn good_run(table: &[u16], parts: usize, frame: usize, k: usize, total: usize) -
 // The first bad run, counted from 0, or how many there are.
 fn first_bad_run(table: &[u16], parts: usize, frame: usize) -> usize
     requires { length table.now < 2 ^ 32 }
-    ensures { result ≡ firstBadRun parts frame table.now }
+    ensures { result ≡ first_bad_run parts frame table.now }
 {
     let n = runs(table);
     let mut total = 0;
@@ -77,7 +77,7 @@ fn first_bad_run(table: &[u16], parts: usize, frame: usize) -> usize
 // 8.
 fn judge_runs(table: &[u16], parts: usize, frame: usize) -> Finding
     requires { length table.now < 2 ^ 32 }
-    ensures { result ≡ runsJudged parts frame table.now }
+    ensures { result ≡ runs_judged parts frame table.now }
 {
     let r = first_bad_run(table, parts, frame);
     if r < runs(table) {
@@ -88,7 +88,7 @@ fn judge_runs(table: &[u16], parts: usize, frame: usize) -> Finding
 
 // Whether a table of so many numbers has as many runs as a file may have.
 pub fn runs_counted(numbers: usize) -> bool
-    ensures { result ≡ runsCounted numbers }
+    ensures { result ≡ runs_counted numbers }
 {
     tables::counted_in(1, LONGEST, RUN_WIDTH, numbers)
 }
@@ -101,7 +101,7 @@ pub fn judge_file(
     tasks: &[u16],
     runs: &[u16],
 ) -> Finding
-    ensures { result ≡ fileTablesOf edition frame parts.now tasks.now runs.now }
+    ensures { result ≡ file_tables_of edition frame parts.now tasks.now runs.now }
 {
     if !rules::good_edition(edition) {
         return Finding::Refused(Refusal::Edition);

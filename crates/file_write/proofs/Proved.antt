@@ -5,32 +5,32 @@ use native.Mathlib.Omega.{arith}
 use lib.ListN.{length, length-append, length-drop}
 use Rattle.rules.specs.declared.Filling.{Filling}
 use Rattle.rules.specs.declared.Filling.TheVariants as filling
-use Rattle.rules.specs.Filling.{leftBy}
-use Rattle.file_write.specs.Writer.{fileOf, writeOf}
+use Rattle.rules.specs.Filling.{left_by}
+use Rattle.file_write.specs.Writer.{file_of, write_of}
 use Rattle.file_write.specs.Theorems.{Untouched, Proved}
 use Rattle.file_write.proofs.Writer.{fit}
-use Rattle.file_write.proofs.Trip.{file-length, left-rest, read-written, write-back}
+use Rattle.file_write.proofs.Trip.{file-length, left-rest, read_written, write-back}
 
 untouched : Untouched
 untouched ed frame ps ts rs out = (
   (λ n e. (room n e, left-rest ed frame ps ts rs out n e)),
   (λ x e. rw e),
-  same (writeOf ed frame ps ts rs (length out)) refl,
+  same (write_of ed frame ps ts rs (length out)) refl,
 )
   where
-    room : (n : ℕ) → writeOf ed frame ps ts rs (length out) ≡ filling.Fills n → n ≤ length out
-    room n e = let f = fit n ed frame ps ts rs (length out) e in omega (arith, f.room-left, f.is-size)
+    room : (n : ℕ) → write_of ed frame ps ts rs (length out) ≡ filling.Fills n → n ≤ length out
+    room n e = let f = fit n ed frame ps ts rs (length out) e in omega (arith, f.room_left, f.is_size)
 
-    same : (w : Filling) → writeOf ed frame ps ts rs (length out) ≡ w → length (leftBy w (fileOf ed frame ps ts rs) out) ≡ length out
+    same : (w : Filling) → write_of ed frame ps ts rs (length out) ≡ w → length (left_by w (file_of ed frame ps ts rs) out) ≡ length out
     same (filling.Refused x) e = refl
     same (filling.Fills n) e =
         let f = fit n ed frame ps ts rs (length out) e in
-        simp (length-append, length-drop) (omega (arith, file-length ed frame ps ts rs, f.room-left, f.is-size))
+        simp (length-append, length-drop) (omega (arith, file-length ed frame ps ts rs, f.room_left, f.is_size))
 
 pub proved : Proved
 proved = record {
-  read-write = read-written;
+  read_write = read_written;
   write_read = write-back;
   untouched = untouched;
-  one-write = λ ed frame ps ts rs out o o' r r' e f. (e.0 ∙ sym f.0, e.1 ∙ sym f.1);
+  one_write = λ ed frame ps ts rs out o o' r r' e f. (e.0 ∙ sym f.0, e.1 ∙ sym f.1);
 }

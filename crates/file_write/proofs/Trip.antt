@@ -5,103 +5,103 @@ use mathlib.Core.List.{List, ◌++◌, append_assoc}
 use native.Mathlib.Omega.{arith}
 use lib.ListN.{length, get_or, take, drop, length-append}
 use lib.Seq.{take_at, drop_at, take_all, length-take-le, get_or-take, get_or-drop, ext_get_or}
-use Rattle.rules.specs.Limits.{part_width, taskWidth, runWidth, headBytes}
+use Rattle.rules.specs.Limits.{part_width, task_width, run_width, head_bytes}
 use Rattle.rules.specs.Table.{partitions, tasks}
-use Rattle.file_codec.specs.Bytes.{numsOf, bytes_of, part, Bytes}
+use Rattle.file_codec.specs.Bytes.{nums_of, bytes_of, part, Bytes}
 use Rattle.file_tables.specs.Runs.{runs}
-use Rattle.file_codec.specs.Contents.{tasksAt, runsAt, size_of, contents}
-use Rattle.file_codec.proofs.Bytes.{numsOf-length, numsOf-take, bytesOf-length, bytesOf-append, nums-bytes, bytes-nums}
-use Rattle.file_tables.proofs.Chain.{GoodFile, of-good, sizes}
+use Rattle.file_codec.specs.Contents.{tasks_at, runs_at, size_of, contents}
+use Rattle.file_codec.proofs.Bytes.{nums_of-length, nums_of-take, bytes_of-length, bytes_of-append, nums_bytes, bytes_nums}
+use Rattle.file_tables.proofs.Chain.{GoodFile, of_good, sizes}
 use Rattle.file_read.specs.declared.Reading.TheVariants.{Contents}
 use Rattle.file_read.specs.declared.Body.TheVariants.{Partitions, Tasks, Runs}
-use Rattle.file_read.specs.Reader.{headNumber, tableBy, contentsOf, read_of, table_of}
-use Rattle.file_read.proofs.Reader.{counts-good, counts_of, read-counts, right, Contained, contained, accepted, part_length, parts_are, tasks-are, runs-are, read-good}
+use Rattle.file_read.specs.Reader.{head_number, table_by, contents_of, read_of, table_of}
+use Rattle.file_read.proofs.Reader.{counts-good, counts_of_lem, read-counts, right, Contained, contained, accepted, part_length, parts_are, tasks_are, runs_are, read-good}
 use Rattle.file_read.proofs.Proved.{parts_all}
 use Rattle.rules.specs.declared.Filling.TheVariants as filling
-use Rattle.file_write.specs.Writer.{fileOf, size_for, writeOf, writtenLeft}
+use Rattle.file_write.specs.Writer.{file_of, size_for, write_of, written_left}
 use Rattle.file_write.proofs.Writer.{fit, write-all}
 
 -- ---- reading what was written
 
-part-mid : (a m z : List ℕ) (n e : ℕ) → length a ≡ n → length m ≡ e - n → part (a ++ (m ++ z)) n e ≡ m
-part-mid a m z n e ea em = rw (drop_at a (m ++ z) n ea, take_at m z (e - n) em)
+part_mid : (a m z : List ℕ) (n e : ℕ) → length a ≡ n → length m ≡ e - n → part (a ++ (m ++ z)) n e ≡ m
+part_mid a m z n e ea em = rw (drop_at a (m ++ z) n ea, take_at m z (e - n) em)
 
 module _ (ed frame : ℕ) (ps ts rs : List ℕ) where
   head : List ℕ
   head = bytes_of (contents ed frame (length ps) (length ts) (length rs))
 
-  head-16 : length head ≡ 16
+  head_16 : length head ≡ 16
   unfolding head
-  head-16 = bytesOf-length (contents ed frame (length ps) (length ts) (length rs))
+  head_16 = bytes_of-length (contents ed frame (length ps) (length ts) (length rs))
 
-  pub file-length : length (fileOf ed frame ps ts rs) ≡ size_for ps ts rs
-  unfolding fileOf head
+  pub file-length : length (file_of ed frame ps ts rs) ≡ size_for ps ts rs
+  unfolding file_of head
   file-length =
-      let bp = bytesOf-length ps in
-      let bt = bytesOf-length ts in
-      let br = bytesOf-length rs in
-      let h = head-16 in
+      let bp = bytes_of-length ps in
+      let bt = bytes_of-length ts in
+      let br = bytes_of-length rs in
+      let h = head_16 in
       simp length-append (omega arith)
 
-  file-nums : numsOf (fileOf ed frame ps ts rs) ≡ contents ed frame (length ps) (length ts) (length rs) ++ ps ++ ts ++ rs
-  unfolding fileOf
-  file-nums =
+  file_nums : nums_of (file_of ed frame ps ts rs) ≡ contents ed frame (length ps) (length ts) (length rs) ++ ps ++ ts ++ rs
+  unfolding file_of
+  file_nums =
       let ns : List ℕ = contents ed frame (length ps) (length ts) (length rs) in
-      rw (← bytesOf-append ns ps, ← bytesOf-append (ns ++ ps) ts, ← bytesOf-append (ns ++ ps ++ ts) rs) (nums-bytes _)
+      rw (← bytes_of-append ns ps, ← bytes_of-append (ns ++ ps) ts, ← bytes_of-append (ns ++ ps ++ ts) rs) (nums_bytes _)
 
   -- the bodies of the file, where the contents give as many numbers as the tables have
-  module _ (np nt nr : ℕ) (ep : part_width * np ≡ length ps) (et : taskWidth * nt ≡ length ts) (er : runWidth * nr ≡ length rs) where
-    file-parts : tableBy (Contents ed frame np nt nr) (fileOf ed frame ps ts rs) Partitions ≡ ps
-    unfolding tableBy fileOf head
+  module _ (np nt nr : ℕ) (ep : part_width * np ≡ length ps) (et : task_width * nt ≡ length ts) (er : run_width * nr ≡ length rs) where
+    file-parts : table_by (Contents ed frame np nt nr) (file_of ed frame ps ts rs) Partitions ≡ ps
+    unfolding table_by file_of head
     file-parts =
-        let bp = bytesOf-length ps in
-        rw (ep, append_assoc (head ++ bytes_of ps) (bytes_of ts) (bytes_of rs), append_assoc head (bytes_of ps) (bytes_of ts ++ bytes_of rs), part-mid head (bytes_of ps) (bytes_of ts ++ bytes_of rs) 16 (tasksAt (length ps)) head-16 (omega arith)) (nums-bytes ps)
+        let bp = bytes_of-length ps in
+        rw (ep, append_assoc (head ++ bytes_of ps) (bytes_of ts) (bytes_of rs), append_assoc head (bytes_of ps) (bytes_of ts ++ bytes_of rs), part_mid head (bytes_of ps) (bytes_of ts ++ bytes_of rs) 16 (tasks_at (length ps)) head_16 (omega arith)) (nums_bytes ps)
 
-    file-tasks : tableBy (Contents ed frame np nt nr) (fileOf ed frame ps ts rs) Tasks ≡ ts
-    unfolding tableBy fileOf head
+    file-tasks : table_by (Contents ed frame np nt nr) (file_of ed frame ps ts rs) Tasks ≡ ts
+    unfolding table_by file_of head
     file-tasks =
-        let bp = bytesOf-length ps in
-        let bt = bytesOf-length ts in
-        let h = head-16 in
-        let l : length (head ++ bytes_of ps) ≡ tasksAt (length ps) = rw (length-append head (bytes_of ps)) (omega arith) in
-        rw (ep, et, append_assoc (head ++ bytes_of ps) (bytes_of ts) (bytes_of rs), part-mid (head ++ bytes_of ps) (bytes_of ts) (bytes_of rs) (tasksAt (length ps)) (runsAt (length ps) (length ts)) l (omega arith)) (nums-bytes ts)
+        let bp = bytes_of-length ps in
+        let bt = bytes_of-length ts in
+        let h = head_16 in
+        let l : length (head ++ bytes_of ps) ≡ tasks_at (length ps) = rw (length-append head (bytes_of ps)) (omega arith) in
+        rw (ep, et, append_assoc (head ++ bytes_of ps) (bytes_of ts) (bytes_of rs), part_mid (head ++ bytes_of ps) (bytes_of ts) (bytes_of rs) (tasks_at (length ps)) (runs_at (length ps) (length ts)) l (omega arith)) (nums_bytes ts)
 
-    file-runs : tableBy (Contents ed frame np nt nr) (fileOf ed frame ps ts rs) Runs ≡ rs
-    unfolding tableBy fileOf head
+    file-runs : table_by (Contents ed frame np nt nr) (file_of ed frame ps ts rs) Runs ≡ rs
+    unfolding table_by file_of head
     file-runs =
-        let bp = bytesOf-length ps in
-        let bt = bytesOf-length ts in
-        let br = bytesOf-length rs in
-        let h = head-16 in
-        let l : length (head ++ bytes_of ps ++ bytes_of ts) ≡ runsAt (length ps) (length ts) = simp length-append (omega arith) in
-        rw (ep, et, er, drop_at (head ++ bytes_of ps ++ bytes_of ts) (bytes_of rs) (runsAt (length ps) (length ts)) l, take_all (size_for ps ts rs - runsAt (length ps) (length ts)) (bytes_of rs) (omega arith)) (nums-bytes rs)
+        let bp = bytes_of-length ps in
+        let bt = bytes_of-length ts in
+        let br = bytes_of-length rs in
+        let h = head_16 in
+        let l : length (head ++ bytes_of ps ++ bytes_of ts) ≡ runs_at (length ps) (length ts) = simp length-append (omega arith) in
+        rw (ep, et, er, drop_at (head ++ bytes_of ps ++ bytes_of ts) (bytes_of rs) (runs_at (length ps) (length ts)) l, take_all (size_for ps ts rs - runs_at (length ps) (length ts)) (bytes_of rs) (omega arith)) (nums_bytes rs)
 
   module _ (g : GoodFile ed frame ps ts rs) where
     np : part_width * partitions ps ≡ length ps
     np = sym (sizes ed frame ps ts rs g).parts_whole
 
-    nt : taskWidth * tasks ts ≡ length ts
-    nt = sym (sizes ed frame ps ts rs g).tasks-whole
+    nt : task_width * tasks ts ≡ length ts
+    nt = sym (sizes ed frame ps ts rs g).tasks_whole
 
-    nr : runWidth * runs rs ≡ length rs
-    nr = sym (sizes ed frame ps ts rs g).runs-whole
+    nr : run_width * runs rs ≡ length rs
+    nr = sym (sizes ed frame ps ts rs g).runs_whole
 
-    file-contents : contentsOf (fileOf ed frame ps ts rs) ≡ Contents ed frame (partitions ps) (tasks ts) (runs rs)
+    file-contents : contents_of (file_of ed frame ps ts rs) ≡ Contents ed frame (partitions ps) (tasks ts) (runs rs)
     file-contents =
         let n = file-length in
-        let w : (k : ℕ) → headNumber (fileOf ed frame ps ts rs) k ≡ get_or (contents ed frame (length ps) (length ts) (length rs) ++ ps ++ ts ++ rs) k 0 = λ k. rw file-nums in
-        let c = counts_of frame (partitions ps) (tasks ts) (runs rs) (rw (np, nt) g.tables.limits) (rw nr g.counted) in
+        let w : (k : ℕ) → head_number (file_of ed frame ps ts rs) k ≡ get_or (contents ed frame (length ps) (length ts) (length rs) ++ ps ++ ts ++ rs) k 0 = λ k. rw file_nums in
+        let c = counts_of_lem frame (partitions ps) (tasks ts) (runs rs) (rw (np, nt) g.tables.limits) (rw nr g.counted) in
         let o = right (partitions ps) (tasks ts) in
-        sym (read-counts (fileOf ed frame ps ts rs) (omega arith) ed (sym (w 0)) g.tables.edition frame 16 (partitions ps) (tasksAt (part_width * partitions ps)) (tasks ts) (runsAt (part_width * partitions ps) (taskWidth * tasks ts)) (runs rs)
+        sym (read-counts (file_of ed frame ps ts rs) (omega arith) ed (sym (w 0)) g.tables.edition frame 16 (partitions ps) (tasks_at (part_width * partitions ps)) (tasks ts) (runs_at (part_width * partitions ps) (task_width * tasks ts)) (runs rs)
         (sym (w 1)) (sym (w 2)) (sym (w 3)) (rw np (sym (w 4))) (sym (w 5)) (rw (np, nt) (sym (w 6))) (sym (w 7))
-        (Contents ed frame (partitions ps) (tasks ts) (runs rs)) (counts-good ed (length (fileOf ed frame ps ts rs)) frame 16 (partitions ps) (tasksAt (part_width * partitions ps)) (tasks ts) (runsAt (part_width * partitions ps) (taskWidth * tasks ts)) (runs rs) c o (length (fileOf ed frame ps ts rs)) (rw (np, nt, nr) n) refl))
+        (Contents ed frame (partitions ps) (tasks ts) (runs rs)) (counts-good ed (length (file_of ed frame ps ts rs)) frame 16 (partitions ps) (tasks_at (part_width * partitions ps)) (tasks ts) (runs_at (part_width * partitions ps) (task_width * tasks ts)) (runs rs) c o (length (file_of ed frame ps ts rs)) (rw (np, nt, nr) n) refl))
 
-    file-read : read_of (fileOf ed frame ps ts rs) ≡ Contents ed frame (partitions ps) (tasks ts) (runs rs)
+    file-read : read_of (file_of ed frame ps ts rs) ≡ Contents ed frame (partitions ps) (tasks ts) (runs rs)
     file-read =
-        read-good (fileOf ed frame ps ts rs) ed frame (partitions ps) (tasks ts) (runs rs) file-contents
+        read-good (file_of ed frame ps ts rs) ed frame (partitions ps) (tasks ts) (runs rs) file-contents
         (rw (file-parts (partitions ps) (tasks ts) (runs rs) np nt nr, file-tasks (partitions ps) (tasks ts) (runs rs) np nt nr, file-runs (partitions ps) (tasks ts) (runs rs) np nt nr) g)
 
-    file-tables : (table_of (fileOf ed frame ps ts rs) Partitions ≡ ps) × (table_of (fileOf ed frame ps ts rs) Tasks ≡ ts) × (table_of (fileOf ed frame ps ts rs) Runs ≡ rs)
+    file-tables : (table_of (file_of ed frame ps ts rs) Partitions ≡ ps) × (table_of (file_of ed frame ps ts rs) Tasks ≡ ts) × (table_of (file_of ed frame ps ts rs) Runs ≡ rs)
     file-tables = (
       rw file-read (file-parts (partitions ps) (tasks ts) (runs rs) np nt nr),
       rw file-read (file-tasks (partitions ps) (tasks ts) (runs rs) np nt nr),
@@ -109,18 +109,18 @@ module _ (ed frame : ℕ) (ps ts rs : List ℕ) where
     )
 
 -- the file that the writer left
-pub left-file : (ed frame : ℕ) (ps ts rs out : List ℕ) (n : ℕ) → writeOf ed frame ps ts rs (length out) ≡ filling.Fills n → take n (writtenLeft ed frame ps ts rs out) ≡ fileOf ed frame ps ts rs
-left-file ed frame ps ts rs out n e = rw e (take_at (fileOf ed frame ps ts rs) (drop n out) n (file-length ed frame ps ts rs ∙ sym (fit n ed frame ps ts rs (length out) e).is-size))
+pub left-file : (ed frame : ℕ) (ps ts rs out : List ℕ) (n : ℕ) → write_of ed frame ps ts rs (length out) ≡ filling.Fills n → take n (written_left ed frame ps ts rs out) ≡ file_of ed frame ps ts rs
+left-file ed frame ps ts rs out n e = rw e (take_at (file_of ed frame ps ts rs) (drop n out) n (file-length ed frame ps ts rs ∙ sym (fit n ed frame ps ts rs (length out) e).is_size))
 
-pub left-rest : (ed frame : ℕ) (ps ts rs out : List ℕ) (n : ℕ) → writeOf ed frame ps ts rs (length out) ≡ filling.Fills n → drop n (writtenLeft ed frame ps ts rs out) ≡ drop n out
-left-rest ed frame ps ts rs out n e = rw e (drop_at (fileOf ed frame ps ts rs) (drop n out) n (file-length ed frame ps ts rs ∙ sym (fit n ed frame ps ts rs (length out) e).is-size))
+pub left-rest : (ed frame : ℕ) (ps ts rs out : List ℕ) (n : ℕ) → write_of ed frame ps ts rs (length out) ≡ filling.Fills n → drop n (written_left ed frame ps ts rs out) ≡ drop n out
+left-rest ed frame ps ts rs out n e = rw e (drop_at (file_of ed frame ps ts rs) (drop n out) n (file-length ed frame ps ts rs ∙ sym (fit n ed frame ps ts rs (length out) e).is_size))
 
-pub read-written : (ed frame : ℕ) (ps ts rs out : List ℕ) (n : ℕ) → writeOf ed frame ps ts rs (length out) ≡ filling.Fills n
-    → (read_of (take n (writtenLeft ed frame ps ts rs out)) ≡ Contents ed frame (partitions ps) (tasks ts) (runs rs))
-    × (table_of (take n (writtenLeft ed frame ps ts rs out)) Partitions ≡ ps)
-    × (table_of (take n (writtenLeft ed frame ps ts rs out)) Tasks ≡ ts)
-    × (table_of (take n (writtenLeft ed frame ps ts rs out)) Runs ≡ rs)
-read-written ed frame ps ts rs out n e =
+pub read_written : (ed frame : ℕ) (ps ts rs out : List ℕ) (n : ℕ) → write_of ed frame ps ts rs (length out) ≡ filling.Fills n
+    → (read_of (take n (written_left ed frame ps ts rs out)) ≡ Contents ed frame (partitions ps) (tasks ts) (runs rs))
+    × (table_of (take n (written_left ed frame ps ts rs out)) Partitions ≡ ps)
+    × (table_of (take n (written_left ed frame ps ts rs out)) Tasks ≡ ts)
+    × (table_of (take n (written_left ed frame ps ts rs out)) Runs ≡ rs)
+read_written ed frame ps ts rs out n e =
     let f = fit n ed frame ps ts rs (length out) e in
     let t = file-tables ed frame ps ts rs f.good in
     rw (left-file ed frame ps ts rs out n e) (file-read ed frame ps ts rs f.good, t.0, t.1, t.2)
@@ -138,19 +138,19 @@ cases_8 P a b c d e f g h (suc (suc (suc (suc (suc (suc zero)))))) l = g
 cases_8 P a b c d e f g h (suc (suc (suc (suc (suc (suc (suc zero))))))) l = h
 cases_8 P a b c d e f g h (suc (suc (suc (suc (suc (suc (suc (suc k)))))))) l = absurd (omega arith)
 
-head-numbers : (b : List ℕ) (ed f np nt nr : ℕ) → Contained b ed f np nt nr → numsOf (take 16 b) ≡ contents ed f (3 * np) (4 * nt) (2 * nr)
-head-numbers b ed f np nt nr a =
+head_numbers : (b : List ℕ) (ed f np nt nr : ℕ) → Contained b ed f np nt nr → nums_of (take 16 b) ≡ contents ed f (3 * np) (4 * nt) (2 * nr)
+head_numbers b ed f np nt nr a =
     let l : 16 ≤ length b = omega (arith, a.long) in
     let n : length (take 16 b) ≡ 16 = length-take-le 16 b l in
-    let m : length (numsOf (take 16 b)) ≡ 8 = omega (arith, numsOf-length (take 16 b)) in
-    let w : (k : ℕ) → k < 8 → get_or (numsOf (take 16 b)) k 0 ≡ headNumber b k = λ k h. numsOf-take b 16 k l (omega arith) in
+    let m : length (nums_of (take 16 b)) ≡ 8 = omega (arith, nums_of-length (take 16 b)) in
+    let w : (k : ℕ) → k < 8 → get_or (nums_of (take 16 b)) k 0 ≡ head_number b k = λ k h. nums_of-take b 16 k l (omega arith) in
     let qp : np ≡ 3 * np / 3 = omega arith in
     let qt : nt ≡ 4 * nt / 4 = omega arith in
     let qr : nr ≡ 2 * nr / 2 = omega arith in
-    ext_get_or 0 (numsOf (take 16 b)) (contents ed f (3 * np) (4 * nt) (2 * nr)) m
-    (λ k h. cases_8 (λ k. get_or (numsOf (take 16 b)) k 0 ≡ get_or (contents ed f (3 * np) (4 * nt) (2 * nr)) k 0)
-    (w 0 (omega arith) ∙ a.edition) (w 1 (omega arith) ∙ a.is-frame) (w 2 (omega arith) ∙ a.parts_at) (w 3 (omega arith) ∙ a.is-np ∙ qp)
-    (w 4 (omega arith) ∙ a.tasks-at) (w 5 (omega arith) ∙ a.is-nt ∙ qt) (w 6 (omega arith) ∙ a.runs-at) (w 7 (omega arith) ∙ a.is-nr ∙ qr) k (omega arith))
+    ext_get_or 0 (nums_of (take 16 b)) (contents ed f (3 * np) (4 * nt) (2 * nr)) m
+    (λ k h. cases_8 (λ k. get_or (nums_of (take 16 b)) k 0 ≡ get_or (contents ed f (3 * np) (4 * nt) (2 * nr)) k 0)
+    (w 0 (omega arith) ∙ a.edition) (w 1 (omega arith) ∙ a.is_frame) (w 2 (omega arith) ∙ a.parts_at) (w 3 (omega arith) ∙ a.is_np ∙ qp)
+    (w 4 (omega arith) ∙ a.tasks_at_lem) (w 5 (omega arith) ∙ a.is_nt ∙ qt) (w 6 (omega arith) ∙ a.runs_at_lem) (w 7 (omega arith) ∙ a.is_nr ∙ qr) k (omega arith))
 
 Bytes-take : (n : ℕ) (b : List ℕ) → n ≤ length b → Bytes b → Bytes (take n b)
 unfolding Bytes
@@ -165,58 +165,58 @@ Bytes-part b n e l1 l2 h k lt =
     rw (get_or-take (e - n) (drop n b) k 0 (omega arith), get_or-drop n b k 0) (h (n + k) (omega arith))
 
 -- a part of 2·n bytes is what its numbers are written as
-part-back : (b : List ℕ) (a n e : ℕ) → e ≡ a + 2 * n → e ≤ length b → Bytes b → bytes_of (numsOf (part b a e)) ≡ part b a e
+part-back : (b : List ℕ) (a n e : ℕ) → e ≡ a + 2 * n → e ≤ length b → Bytes b → bytes_of (nums_of (part b a e)) ≡ part b a e
 part-back b a n e q l small =
     let m : length (part b a e) ≡ e - a = part_length b a e (omega arith) l in
-    bytes-nums (part b a e) (omega arith) (Bytes-part b a e (omega arith) l small)
+    bytes_nums (part b a e) (omega arith) (Bytes-part b a e (omega arith) l small)
 
 module _ (b : List ℕ) (ed f np nt nr : ℕ) (e : read_of b ≡ Contents ed f np nt nr) where
   a : Contained b ed f np nt nr
   a = contained b ed f np nt nr (accepted b ed f np nt nr e).contents
 
   ps : List ℕ
-  ps = tableBy (Contents ed f np nt nr) b Partitions
+  ps = table_by (Contents ed f np nt nr) b Partitions
 
   ts : List ℕ
-  ts = tableBy (Contents ed f np nt nr) b Tasks
+  ts = table_by (Contents ed f np nt nr) b Tasks
 
   rs : List ℕ
-  rs = tableBy (Contents ed f np nt nr) b Runs
+  rs = table_by (Contents ed f np nt nr) b Runs
 
   lp : length ps ≡ part_width * np
   unfolding ps
   lp = parts_are b ed f np nt nr a.long
 
-  lt : length ts ≡ taskWidth * nt
+  lt : length ts ≡ task_width * nt
   unfolding ts
-  lt = tasks-are b ed f np nt nr a.long
+  lt = tasks_are b ed f np nt nr a.long
 
-  lr : length rs ≡ runWidth * nr
+  lr : length rs ≡ run_width * nr
   unfolding rs
-  lr = runs-are b ed f np nt nr a.long
+  lr = runs_are b ed f np nt nr a.long
 
-  whole-file : Bytes b → fileOf ed f ps ts rs ≡ b
-  unfolding fileOf ps ts rs tableBy
+  whole-file : Bytes b → file_of ed f ps ts rs ≡ b
+  unfolding file_of ps ts rs table_by
   whole-file small =
       let l = a.long in
       let n : length (take 16 b) ≡ 16 = length-take-le 16 b (omega arith) in
-      let eh : bytes_of (numsOf (take 16 b)) ≡ take 16 b = bytes-nums (take 16 b) (omega arith) (Bytes-take 16 b (omega arith) small) in
-      let ep = part-back b headBytes (3 * np) (tasksAt (3 * np)) (omega arith) (omega arith) small in
-      let et = part-back b (tasksAt (3 * np)) (4 * nt) (runsAt (3 * np) (4 * nt)) (omega arith) (omega arith) small in
-      let er = part-back b (runsAt (3 * np) (4 * nt)) (2 * nr) (size_of (3 * np) (4 * nt) (2 * nr)) (omega arith) (omega arith) small in
-      rw (lp, lt, lr, ← head-numbers b ed f np nt nr a, eh, ep, et, er) (parts_all b (3 * np) (4 * nt) (2 * nr) l)
+      let eh : bytes_of (nums_of (take 16 b)) ≡ take 16 b = bytes_nums (take 16 b) (omega arith) (Bytes-take 16 b (omega arith) small) in
+      let ep = part-back b head_bytes (3 * np) (tasks_at (3 * np)) (omega arith) (omega arith) small in
+      let et = part-back b (tasks_at (3 * np)) (4 * nt) (runs_at (3 * np) (4 * nt)) (omega arith) (omega arith) small in
+      let er = part-back b (runs_at (3 * np) (4 * nt)) (2 * nr) (size_of (3 * np) (4 * nt) (2 * nr)) (omega arith) (omega arith) small in
+      rw (lp, lt, lr, ← head_numbers b ed f np nt nr a, eh, ep, et, er) (parts_all b (3 * np) (4 * nt) (2 * nr) l)
 
-  written_back : (room : ℕ) → length b ≤ room → writeOf ed f ps ts rs room ≡ filling.Fills (length b)
+  written_back : (room : ℕ) → length b ≤ room → write_of ed f ps ts rs room ≡ filling.Fills (length b)
   unfolding ps ts rs
   written_back room l =
       let n = a.long in
       let z : length b ≡ size_for ps ts rs = rw (lp, lt, lr) n in
-      sym (write-all ed f ps ts rs room (of-good ed f ps ts rs (accepted b ed f np nt nr e).good) (length b) z l)
+      sym (write-all ed f ps ts rs room (of_good ed f ps ts rs (accepted b ed f np nt nr e).good) (length b) z l)
 
 pub write-back : (b : List ℕ) (ed f np nt nr : ℕ) (out : List ℕ) → Bytes b → read_of b ≡ Contents ed f np nt nr → length b ≤ length out
-    → (writeOf ed f (table_of b Partitions) (table_of b Tasks) (table_of b Runs) (length out) ≡ filling.Fills (length b))
-    × (writtenLeft ed f (table_of b Partitions) (table_of b Tasks) (table_of b Runs) out ≡ b ++ drop (length b) out)
+    → (write_of ed f (table_of b Partitions) (table_of b Tasks) (table_of b Runs) (length out) ≡ filling.Fills (length b))
+    × (written_left ed f (table_of b Partitions) (table_of b Tasks) (table_of b Runs) out ≡ b ++ drop (length b) out)
 unfolding ps ts rs
 write-back b ed f np nt nr out small e l =
-    let w : writeOf ed f (table_of b Partitions) (table_of b Tasks) (table_of b Runs) (length out) ≡ filling.Fills (length b) = rw e (written_back b ed f np nt nr e (length out) l) in
+    let w : write_of ed f (table_of b Partitions) (table_of b Tasks) (table_of b Runs) (length out) ≡ filling.Fills (length b) = rw e (written_back b ed f np nt nr e (length out) l) in
     (w, rw (w, e, whole-file b ed f np nt nr e small))

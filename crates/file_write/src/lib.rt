@@ -1,6 +1,6 @@
 // The writer: an edition, a frame and three tables as the bytes of a plan file.
 ghost use Rattle.std.specs.Prelude.{◌≡◌};
-ghost use Rattle.file_write.specs.Writer.{writeOf, Writes};
+ghost use Rattle.file_write.specs.Writer.{write_of, Writes};
 
 use put::put_file;
 use rules::limits::{HEAD_BYTES, NUMBER_BYTES};
@@ -17,7 +17,7 @@ fn write_answer(
     runs: &[u16],
     room: usize,
 ) -> Filling
-    ensures { result ≡ writeOf edition frame parts.now tasks.now runs.now room }
+    ensures { result ≡ write_of edition frame parts.now tasks.now runs.now room }
 {
     let judged = file_tables::judge_file(edition, frame, parts, tasks, runs);
     match judged {

@@ -1,17 +1,17 @@
 // The contents and the bodies of a file, each put into its own stretch of the output.
 ghost use Rattle.std.specs.Prelude.{◌≡◌, ◌++◌, ◌+◌, ◌*◌, ◌≤◌, length, take, drop};
-ghost use Rattle.rules.specs.Limits.{headBytes, numberBytes};
+ghost use Rattle.rules.specs.Limits.{head_bytes, number_bytes};
 ghost use Rattle.file_codec.specs.Bytes.{bytes_of};
 ghost use Rattle.file_codec.specs.Contents.{contents};
-ghost use Rattle.file_write.specs.Writer.{fileOf, size_for};
+ghost use Rattle.file_write.specs.Writer.{file_of, size_for};
 ghost use Rattle.file_write.specs.Inner.{Small};
 
 use rules::limits::{HEAD_BYTES, NUMBER_BYTES, PART_WIDTH, RUN_WIDTH, TASK_WIDTH};
 
 // The contents, the first 16 bytes, of tables of so many numbers.
 fn put_head(edition: usize, frame: usize, p: usize, t: usize, r: usize, out: &mut [u8])
-    requires { Small edition frame p t r × (headBytes ≤ length out.old) }
-    ensures { out.new ≡ bytes_of (contents edition frame p t r) ++ drop headBytes out.old }
+    requires { Small edition frame p t r × (head_bytes ≤ length out.old) }
+    ensures { out.new ≡ bytes_of (contents edition frame p t r) ++ drop head_bytes out.old }
 {
     let tasks = HEAD_BYTES + NUMBER_BYTES * p;
     let runs = tasks + NUMBER_BYTES * t;
@@ -30,10 +30,10 @@ fn put_head(edition: usize, frame: usize, p: usize, t: usize, r: usize, out: &mu
 
 // A body in its own stretch of the output: the part from its offset is lent on.
 fn put_body(table: &[u16], out: &mut [u8], offset: usize)
-    requires { offset + numberBytes * length table.now ≤ length out.old }
+    requires { offset + number_bytes * length table.now ≤ length out.old }
     ensures { out.new
         ≡ take offset out.old ++ (bytes_of table.now
-        ++ drop (numberBytes * length table.now) (drop offset out.old)) }
+        ++ drop (number_bytes * length table.now) (drop offset out.old)) }
 {
     file_codec::put_all(table, &mut out[offset..]);
 }
@@ -49,7 +49,7 @@ pub fn put_file(
     requires small { Small edition frame (length parts.now) (length tasks.now) (length runs.now) }
     requires runs_in_bounds { size_for parts.now tasks.now runs.now ≤ length out.old }
     ensures { out.new
-        ≡ fileOf edition frame parts.now tasks.now runs.now
+        ≡ file_of edition frame parts.now tasks.now runs.now
         ++ drop (size_for parts.now tasks.now runs.now) out.old }
 {
     let tasks_at = HEAD_BYTES + NUMBER_BYTES * parts.len();

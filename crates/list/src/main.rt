@@ -1,7 +1,7 @@
 // Reads a plan file from standard input and writes its listing to standard output.
 ghost use Rattle.std.specs.Prelude.{◌≡◌, List, ℕ, ◌≤◌, ◌<◌, length, take};
-ghost use Rattle.rules.specs.Limits.{longestFile, longestListing};
-ghost use Rattle.file_listing.specs.Listing.{listingOf};
+ghost use Rattle.rules.specs.Limits.{longest_file, longest_listing};
+ghost use Rattle.file_listing.specs.Listing.{listing_of};
 
 use libc::{STDERR_FILENO, STDOUT_FILENO};
 use rules::limits::{LONGEST_FILE, LONGEST_LISTING};
@@ -13,10 +13,10 @@ const ROOM: usize = LONGEST_FILE + 1;
 // Then b's listing is put at the start of `out`, and the answer is its length.
 fn list_input(file: &[u8], n: usize, out: &mut [u8]) -> usize
     requires { (n ≤ length file.now)
-        × (longestFile < length file.now)
-        × (longestListing ≤ length out.old) }
+        × (longest_file < length file.now)
+        × (longest_listing ≤ length out.old) }
     ensures by_index { (b : List ℕ) → take n file.now ≡ take (length file.now) b
-        → take result out.new ≡ listingOf b }
+        → take result out.new ≡ listing_of b }
     ensures upper_bound { result ≤ length out.new }
 {
     file_listing::compose(&file[..n], out)

@@ -1,8 +1,8 @@
 // Reads a share table from standard input and writes its plan file, or one line that says why there is none. A word is the
 // file's edition, 1 where there is none.
 ghost use Rattle.std.specs.Prelude.{◌≡◌, List, ℕ, ◌≤◌, ◌<◌, length, take};
-ghost use Rattle.rules.specs.Limits.{longestFile};
-ghost use Rattle.share_text.specs.Table.{longestText};
+ghost use Rattle.rules.specs.Limits.{longest_file};
+ghost use Rattle.share_text.specs.Table.{longest_text};
 ghost use Rattle.share_plan.specs.Answer.{answer_of};
 
 use libc::{STDERR_FILENO, STDOUT_FILENO};
@@ -19,10 +19,10 @@ const READ: usize = LONGEST_TEXT + 1;
 // Then what is answered to t is put at the start of `out`, which has room for any file; the result is its length.
 fn plan_input(edition: usize, text: &[u8], n: usize, out: &mut [u8]) -> usize
     requires { (n ≤ length text.now)
-        × (longestText < length text.now)
-        × (longestFile ≤ length out.old) }
+        × (longest_text < length text.now)
+        × (longest_file ≤ length out.old) }
     ensures by_index { (t : List ℕ) → take n text.now ≡ take (length text.now) t
-        → take result out.new ≡ answer_of edition t longestFile }
+        → take result out.new ≡ answer_of edition t longest_file }
     ensures upper_bound { result ≤ length out.new }
 {
     share_plan::plan(edition, &text[..n], out)

@@ -7,7 +7,7 @@ use lib.ListN.{length}
 use lib.Dec.{ltb}
 use borrow.Author.Tests.{lt-ltb, le-ltb, ltb-false}
 use native.Mathlib.Omega.{arith}
-use Rattle.rules.specs.Limits.{longest, mostGranule, mostPartitions}
+use Rattle.rules.specs.Limits.{longest, most_granule, most_partitions}
 use Rattle.rules.specs.Table.{partitions, cycle, num, den}
 use Rattle.rules.specs.Terms.{wanted}
 use Rattle.rules.specs.declared.Terms.{Terms}
@@ -15,77 +15,77 @@ use Rattle.tables.specs.Tables.{tables_of, GoodTables}
 use Rattle.rules.specs.declared.Finding.TheVariants as found
 use Rattle.rules.specs.declared.Refusal.{Refusal}
 use Rattle.rules.specs.declared.Refusal.TheVariants.{Edition, Limits, Granule, Partition, Task, Unharmonic, Want, Output}
-use Rattle.tables.proofs.Chain.{within, good-exactly, unless-given}
-use Rattle.rules.proofs.Tests.{pick_second, good-granule, good-share}
-use Rattle.rules.proofs.Answers.{no-filling}
-use Rattle.theory.specs.Harmonic.{frame, allWanted}
+use Rattle.tables.proofs.Chain.{within, good_exactly, unless_given}
+use Rattle.rules.proofs.Tests.{pick_second, good-granule, good_share_lem}
+use Rattle.rules.proofs.Answers.{no_filling}
+use Rattle.theory.specs.Harmonic.{frame, all_wanted}
 use Rattle.rules.specs.declared.Filling.{Filling}
 use Rattle.rules.specs.declared.Filling.TheVariants.{Fills, Refused}
-use Rattle.plan_build.specs.Build.{unharmonic, laid_of, buildOf}
+use Rattle.plan_build.specs.Build.{unharmonic, laid_of, build_of}
 use Rattle.plan_lay.specs.Inner.{Layable}
 
 -- how many records a good table has
-pub counted-few : {terms : Terms} (ps ts : List ℕ) → GoodTables terms longest ps ts → (1 ≤ partitions ps) × (partitions ps ≤ mostPartitions)
-counted-few ps ts g = let w = within longest (length ps) (length ts) g.limits in (w.some-part, w.few-parts)
+pub counted-few : {terms : Terms} (ps ts : List ℕ) → GoodTables terms longest ps ts → (1 ≤ partitions ps) × (partitions ps ≤ most_partitions)
+counted-few ps ts g = let w = within longest (length ps) (length ts) g.limits in (w.some_part, w.few_parts)
 
 module _ (q : ℕ → ℕ) (ps : List ℕ) (room : ℕ) where
-  pub laid-10 : unharmonic ps ≡ true → Refused Unharmonic ≡ laid_of q ps room
+  pub laid_10 : unharmonic ps ≡ true → Refused Unharmonic ≡ laid_of q ps room
   unfolding laid_of
-  laid-10 u = rw u
+  laid_10 u = rw u
 
-  module _ (u : unharmonic ps ≡ false) (h w : ℕ) (eh : h ≡ frame ps) (ew : w ≡ allWanted q ps h) where
-    pub laid-11 : h < w → Refused Want ≡ laid_of q ps room
+  module _ (u : unharmonic ps ≡ false) (h w : ℕ) (eh : h ≡ frame ps) (ew : w ≡ all_wanted q ps h) where
+    pub laid_11 : h < w → Refused Want ≡ laid_of q ps room
     unfolding laid_of
-    laid-11 m = rw (u, ← eh, ← ew, lt-ltb h w m)
+    laid_11 m = rw (u, ← eh, ← ew, lt-ltb h w m)
 
-    pub laid-12 : w ≤ h → room < h → Refused Output ≡ laid_of q ps room
+    pub laid_12 : w ≤ h → room < h → Refused Output ≡ laid_of q ps room
     unfolding laid_of
-    laid-12 m o = rw (u, ← eh, ← ew, le-ltb h w m, lt-ltb room h o)
+    laid_12 m o = rw (u, ← eh, ← ew, le-ltb h w m, lt-ltb room h o)
 
-    pub laid-frame : w ≤ h → h ≤ room → Fills h ≡ laid_of q ps room
+    pub laid_frame : w ≤ h → h ≤ room → Fills h ≡ laid_of q ps room
     unfolding laid_of
-    laid-frame m o = rw (u, ← eh, ← ew, le-ltb h w m, le-ltb room h o)
+    laid_frame m o = rw (u, ← eh, ← ew, le-ltb h w m, le-ltb room h o)
 
 module _ (terms : Terms) (ps : List ℕ) (room : ℕ) where
   abbrev q : ℕ → ℕ
   q = wanted terms ps
 
-  pub build-tables : (r : Refusal) → tables_of terms longest ps [] ≡ found.Refused r → Refused r ≡ buildOf terms ps room
-  unfolding buildOf
-  build-tables r e = rw e
+  pub build_tables : (r : Refusal) → tables_of terms longest ps [] ≡ found.Refused r → Refused r ≡ build_of terms ps room
+  unfolding build_of
+  build_tables r e = rw e
 
-  pub build-laid : tables_of terms longest ps [] ≡ found.Good → (r : Filling) → r ≡ laid_of q ps room → r ≡ buildOf terms ps room
-  unfolding buildOf
-  build-laid e r h = rw e h
+  pub build_laid : tables_of terms longest ps [] ≡ found.Good → (r : Filling) → r ≡ laid_of q ps room → r ≡ build_of terms ps room
+  unfolding build_of
+  build_laid e r h = rw e h
 
-  pub good-few : tables_of terms longest ps [] ≡ found.Good → (terms.granule ≤ mostGranule) × (partitions ps ≤ mostPartitions)
-  good-few e = let g = (good-exactly terms longest ps []).0 e in ((good-granule terms.granule g.granule).1, (counted-few ps [] g).1)
+  pub good-few : tables_of terms longest ps [] ≡ found.Good → (terms.granule ≤ most_granule) × (partitions ps ≤ most_partitions)
+  good-few e = let g = (good_exactly terms longest ps []).0 e in ((good-granule terms.granule g.granule).1, (counted-few ps [] g).1)
 
 -- ---- what an answer says
 
 pub record Laid (terms : Terms) (ps : List ℕ) (room h : ℕ) : Type 0 where
   pub good : GoodTables terms longest ps []
   pub harmonic : unharmonic ps ≡ false
-  pub enough : allWanted (wanted terms ps) ps (frame ps) ≤ frame ps
-  pub is-frame : h ≡ frame ps
+  pub enough : all_wanted (wanted terms ps) ps (frame ps) ≤ frame ps
+  pub is_frame : h ≡ frame ps
   pub fits : h ≤ room
 
 module _ (terms : Terms) (ps : List ℕ) (room : ℕ) where
-  pub laid : (h : ℕ) → buildOf terms ps room ≡ Fills h → Laid terms ps room h
-  unfolding buildOf laid_of
+  pub laid : (h : ℕ) → build_of terms ps room ≡ Fills h → Laid terms ps room h
+  unfolding build_of laid_of
   laid h e =
-      let a = unless-given terms longest ps [] Refused (laid_of (wanted terms ps) ps room) (Fills h) (λ i. no-filling h Edition) (no-filling h Limits) (λ g. no-filling h Granule) (λ k. no-filling h (Partition k)) (λ j. no-filling h (Task (j + 1))) e in
-      let d = pick_second (unharmonic ps) _ _ (Fills h) (no-filling h _) a.1 in
-      let w = pick_second (ltb (frame ps) (allWanted (wanted terms ps) ps (frame ps))) _ _ (Fills h) (no-filling h _) d.1 in
-      let o = pick_second (ltb room (frame ps)) _ _ (Fills h) (no-filling h _) w.1 in
+      let a = unless_given terms longest ps [] Refused (laid_of (wanted terms ps) ps room) (Fills h) (λ i. no_filling h Edition) (no_filling h Limits) (λ g. no_filling h Granule) (λ k. no_filling h (Partition k)) (λ j. no_filling h (Task (j + 1))) e in
+      let d = pick_second (unharmonic ps) _ _ (Fills h) (no_filling h _) a.1 in
+      let w = pick_second (ltb (frame ps) (all_wanted (wanted terms ps) ps (frame ps))) _ _ (Fills h) (no_filling h _) d.1 in
+      let o = pick_second (ltb room (frame ps)) _ _ (Fills h) (no_filling h _) w.1 in
       let eh : h ≡ frame ps = cc o.1 in
       record {
         good = a.0;
         harmonic = d.0;
         enough = ltb-false _ _ w.0;
-        is-frame = eh;
+        is_frame = eh;
         fits = omega (arith, ltb-false room (frame ps) o.0);
       }
 
 pub layable : {terms : Terms} (ps : List ℕ) → GoodTables terms longest ps [] → Layable ps
-layable ps g = record { few = (counted-few ps [] g).1; cycles = λ k l. (good-share longest (cycle ps k) (num ps k) (den ps k) (g.parts k l)).0 }
+layable ps g = record { few = (counted-few ps [] g).1; cycles = λ k l. (good_share_lem longest (cycle ps k) (num ps k) (den ps k) (g.parts k l)).0 }

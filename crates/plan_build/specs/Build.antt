@@ -7,8 +7,8 @@ use Rattle.rules.specs.Terms.{wanted}
 use Rattle.rules.specs.declared.Terms.{Terms}
 use Rattle.tables.specs.Tables.{tables_of, unless}
 use Rattle.rules.specs.declared.Refusal.TheVariants.{Unharmonic, Want, Output}
-use Rattle.theory.specs.Harmonic.{pairs, frame, allWanted, harmonicPlan}
-use Rattle.rules.specs.Filling.{leftBy}
+use Rattle.theory.specs.Harmonic.{pairs, frame, all_wanted, harmonic_plan}
+use Rattle.rules.specs.Filling.{left_by}
 use Rattle.rules.specs.declared.Filling.{Filling}
 use Rattle.rules.specs.declared.Filling.TheVariants.{Fills, Refused}
 
@@ -20,12 +20,12 @@ unharmonic ps = some (λ k. some (fails (pairs ps k)) k) (partitions ps)
 unfoldable pub laid_of : (ℕ → ℕ) → List ℕ → ℕ → Filling
 laid_of q ps room =
     let h = frame ps in
-    pick (unharmonic ps) (Refused Unharmonic) (pick (ltb h (allWanted q ps h)) (Refused Want) (pick (ltb room h) (Refused Output) (Fills h)))
+    pick (unharmonic ps) (Refused Unharmonic) (pick (ltb h (all_wanted q ps h)) (Refused Want) (pick (ltb room h) (Refused Output) (Fills h)))
 
 -- "the builder 3, 6, 10, 11, 12" with "21, after 3"; 2 before them where the terms have an edition
-unfoldable pub buildOf : Terms → List ℕ → ℕ → Filling
-buildOf terms ps room = unless Refused (tables_of terms longest ps []) (laid_of (wanted terms ps) ps room)
+unfoldable pub build_of : Terms → List ℕ → ℕ → Filling
+build_of terms ps room = unless Refused (tables_of terms longest ps []) (laid_of (wanted terms ps) ps room)
 
 -- the answer r of the call, and o what the output then holds
 abbrev pub Builds : Terms → List ℕ → List ℕ → List ℕ → Filling → Type 0
-Builds terms ps out o r = (r ≡ buildOf terms ps (length out)) × (o ≡ leftBy r (harmonicPlan (wanted terms ps) ps) out)
+Builds terms ps out o r = (r ≡ build_of terms ps (length out)) × (o ≡ left_by r (harmonic_plan (wanted terms ps) ps) out)

@@ -1,9 +1,9 @@
 // The builder: the harmonic rule's plan, written into the caller's ticks.
 ghost use Rattle.std.specs.Prelude.{◌≡◌, ◌≤◌};
-ghost use Rattle.rules.specs.Limits.{mostGranule, mostPartitions};
+ghost use Rattle.rules.specs.Limits.{most_granule, most_partitions};
 ghost use Rattle.rules.specs.Table.{partitions};
 ghost use Rattle.rules.specs.Terms.{wanted};
-ghost use Rattle.plan_build.specs.Build.{laid_of, buildOf, Builds};
+ghost use Rattle.plan_build.specs.Build.{laid_of, build_of, Builds};
 
 use rules::limits::LONGEST;
 use rules::{Filling, Finding, Refusal, Terms};
@@ -13,7 +13,7 @@ mod table; // table.rt: what a table asks for
 
 // The answer for a good table and an output of so many ticks.
 fn lay_answer(terms: Terms, parts: &[u16], room: usize) -> Filling
-    requires { (terms.granule ≤ mostGranule) × (partitions parts.now ≤ mostPartitions) }
+    requires { (terms.granule ≤ most_granule) × (partitions parts.now ≤ most_partitions) }
     ensures { result ≡ laid_of (wanted terms parts.now) parts.now room }
 {
     if unharmonic(parts) {
@@ -31,7 +31,7 @@ fn lay_answer(terms: Terms, parts: &[u16], room: usize) -> Filling
 
 // The answer for an output of so many ticks.
 fn build_answer(terms: Terms, parts: &[u16], room: usize) -> Filling
-    ensures { result ≡ buildOf terms parts.now room }
+    ensures { result ≡ build_of terms parts.now room }
 {
     let tables = tables::judge_partitions(terms, LONGEST, parts);
     match tables {

@@ -1,13 +1,13 @@
 // What a table asks for: cycles of which one divides the other, the frame, and the ticks that all want in it.
 ghost use Rattle.std.specs.Prelude.{◌≡◌, ◌%◌, ◌^◌, ◌≤◌, ◌<◌, eqb};
 ghost use Rattle.rules.specs.Walk.{fails};
-ghost use Rattle.rules.specs.Limits.{mostGranule, mostPartitions};
+ghost use Rattle.rules.specs.Limits.{most_granule, most_partitions};
 ghost use Rattle.rules.specs.Table.{partitions};
 ghost use Rattle.rules.specs.Terms.{wanted};
-ghost use Rattle.theory.specs.Harmonic.{pairs, frame, allWanted};
+ghost use Rattle.theory.specs.Harmonic.{pairs, frame, all_wanted};
 ghost use Rattle.plan_build.specs.Build.{unharmonic};
 ghost use Rattle.plan_build.specs.Inner.{clashes};
-ghost use Rattle.theory.specs.Inner.{wantedIn};
+ghost use Rattle.theory.specs.Inner.{wanted_in};
 
 use rules::Terms;
 
@@ -78,8 +78,8 @@ pub fn unharmonic(parts: &[u16]) -> bool
 
 // What place k wants in a frame of h ticks.
 fn wanted_in(terms: Terms, parts: &[u16], h: usize, k: usize) -> usize
-    requires { (terms.granule ≤ mostGranule) × (h < 2 ^ 16) }
-    ensures { (result < 2 ^ 53) × (result ≡ wantedIn (wanted terms parts.now) parts.now h k) }
+    requires { (terms.granule ≤ most_granule) × (h < 2 ^ 16) }
+    ensures { (result < 2 ^ 53) × (result ≡ wanted_in (wanted terms parts.now) parts.now h k) }
 {
     let m = rules::records::cycle(parts, k);
     if m == 0 {
@@ -90,8 +90,8 @@ fn wanted_in(terms: Terms, parts: &[u16], h: usize, k: usize) -> usize
 
 // What all want together in it: the sum of q·H/m.
 pub fn all_wanted(terms: Terms, parts: &[u16], h: usize) -> usize
-    requires { (terms.granule ≤ mostGranule) × (h < 2 ^ 16) × (partitions parts.now ≤ mostPartitions) }
-    ensures { result ≡ allWanted (wanted terms parts.now) parts.now h }
+    requires { (terms.granule ≤ most_granule) × (h < 2 ^ 16) × (partitions parts.now ≤ most_partitions) }
+    ensures { result ≡ all_wanted (wanted terms parts.now) parts.now h }
 {
     let n = rules::records::partitions(parts);
     let mut all = 0;

@@ -8,9 +8,9 @@ use borrow.Author.Tests.{lt-ltb, le-ltb}
 use native.Mathlib.Omega.{arith}
 use Rattle.rules.specs.Walk.{first, some}
 use Rattle.rules.specs.Table.{partitions, cycle}
-use Rattle.rules.specs.Terms.{ruleIn, wanted}
+use Rattle.rules.specs.Terms.{rule_in, wanted}
 use Rattle.rules.specs.declared.Terms.{Terms}
-use Rattle.tables.specs.Tables.{tables_of, ticksJudged}
+use Rattle.tables.specs.Tables.{tables_of, ticks_judged}
 use Rattle.rules.specs.declared.Finding.{Finding}
 use Rattle.rules.specs.declared.Finding.TheVariants.{Good, Refused}
 use Rattle.rules.specs.declared.Refusal.{Refusal}
@@ -18,18 +18,18 @@ use Rattle.rules.specs.declared.Refusal.TheVariants.{Shortfall}
 use Rattle.rules.proofs.First.{first_found, first_done}
 use Rattle.rules.specs.declared.Rule.{Rule}
 use Rattle.theory.specs.Plan.{held}
-use Rattle.plan_check.specs.Check.{short_at, scanOf, planCheckOf, checkOf}
+use Rattle.plan_check.specs.Check.{short_at, scan_of, plan_check_of, check_of}
 
 -- whether a stretch of place k holds too little
-abbrev pub shortIn : Rule → (ℕ → ℕ) → List ℕ → List ℕ → ℕ → Bool
-shortIn rule q plan ps k = some (short_at rule q plan ps k) (length plan)
+abbrev pub short_in : Rule → (ℕ → ℕ) → List ℕ → List ℕ → ℕ → Bool
+short_in rule q plan ps k = some (short_at rule q plan ps k) (length plan)
 
 -- the lowest start of place k that holds too little, the lowest place that has one, and what is told of them
-abbrev pub shortStart : Rule → (ℕ → ℕ) → List ℕ → List ℕ → ℕ → ℕ
-shortStart rule q plan ps k = first (short_at rule q plan ps k) (length plan)
+abbrev pub short_start : Rule → (ℕ → ℕ) → List ℕ → List ℕ → ℕ → ℕ
+short_start rule q plan ps k = first (short_at rule q plan ps k) (length plan)
 
-abbrev pub shortPart : Rule → (ℕ → ℕ) → List ℕ → List ℕ → ℕ
-shortPart rule q plan ps = first (shortIn rule q plan ps) (partitions ps)
+abbrev pub short_part : Rule → (ℕ → ℕ) → List ℕ → List ℕ → ℕ
+short_part rule q plan ps = first (short_in rule q plan ps) (partitions ps)
 
 abbrev pub shortfall : Rule → (ℕ → ℕ) → List ℕ → List ℕ → ℕ → ℕ → Refusal
 shortfall rule q plan ps k s = Shortfall (k + 1) s (held rule plan (k + 1) (cycle ps k) s) (q k)
@@ -37,50 +37,50 @@ shortfall rule q plan ps k s = Shortfall (k + 1) s (held rule plan (k + 1) (cycl
 -- ---- the scan's two loops
 
 module _ (rule : Rule) (q : ℕ → ℕ) (plan ps : List ℕ) (k : ℕ) where
-  pub short-no : (s h m w : ℕ) → m ≡ cycle ps k → w ≡ q k → h ≡ held rule plan (k + 1) m s → w ≤ h → short_at rule q plan ps k s ≡ false
+  pub short_no : (s h m w : ℕ) → m ≡ cycle ps k → w ≡ q k → h ≡ held rule plan (k + 1) m s → w ≤ h → short_at rule q plan ps k s ≡ false
   unfolding short_at
-  short-no s h m w em ew eh l = rw (← ew, ← em, ← eh) (le-ltb h w l)
+  short_no s h m w em ew eh l = rw (← ew, ← em, ← eh) (le-ltb h w l)
 
   -- every start of the partition was tried
-  pub whole : (s : ℕ) → s ≤ length plan → length plan ≤ s → first (short_at rule q plan ps k) s ≡ s → shortIn rule q plan ps k ≡ false
+  pub whole : (s : ℕ) → s ≤ length plan → length plan ≤ s → first (short_at rule q plan ps k) s ≡ s → short_in rule q plan ps k ≡ false
   whole s h l e = rw (first_done _ (length plan) s h l e) (le-ltb (length plan) (length plan) (omega arith))
 
   -- the scan stopped at start s
   pub stopped :
-      (s h m w : ℕ) → k < partitions ps → first (shortIn rule q plan ps) k ≡ k → s < length plan → first (short_at rule q plan ps k) s ≡ s
+      (s h m w : ℕ) → k < partitions ps → first (short_in rule q plan ps) k ≡ k → s < length plan → first (short_at rule q plan ps k) s ≡ s
       → m ≡ cycle ps k → w ≡ q k → h ≡ held rule plan (k + 1) m s → h < w
-      → Refused (Shortfall (k + 1) s h w) ≡ scanOf rule q plan ps
-  unfolding scanOf short_at
+      → Refused (Shortfall (k + 1) s h w) ≡ scan_of rule q plan ps
+  unfolding scan_of short_at
   stopped s h m w lk ek ls es em ew eh l =
       let short : short_at rule q plan ps k s ≡ true = rw (← ew, ← em, ← eh) (lt-ltb h w l) in
-      let start : shortStart rule q plan ps k ≡ s = first_found _ (length plan) s ls es short in
-      let here : shortIn rule q plan ps k ≡ true = rw start (lt-ltb s (length plan) ls) in
-      let part : shortPart rule q plan ps ≡ k = first_found _ (partitions ps) k lk ek here in
+      let start : short_start rule q plan ps k ≡ s = first_found _ (length plan) s ls es short in
+      let here : short_in rule q plan ps k ≡ true = rw start (lt-ltb s (length plan) ls) in
+      let part : short_part rule q plan ps ≡ k = first_found _ (partitions ps) k lk ek here in
       rw (part, lt-ltb k (partitions ps) lk, start, ← ew, ← em, ← eh)
 
 module _ (rule : Rule) (q : ℕ → ℕ) (plan ps : List ℕ) where
   -- the scan ran to its end
-  pub served : (k : ℕ) → k ≤ partitions ps → partitions ps ≤ k → first (shortIn rule q plan ps) k ≡ k → Good ≡ scanOf rule q plan ps
-  unfolding scanOf
+  pub served : (k : ℕ) → k ≤ partitions ps → partitions ps ≤ k → first (short_in rule q plan ps) k ≡ k → Good ≡ scan_of rule q plan ps
+  unfolding scan_of
   served k h l e = rw (first_done _ (partitions ps) k h l e, le-ltb (partitions ps) (partitions ps) (omega arith))
 
   -- ---- 8, then 9
 
-  pub plan-8 : (r : Refusal) → ticksJudged plan ps ≡ Refused r → Refused r ≡ planCheckOf rule q plan ps
-  unfolding planCheckOf
-  plan-8 r e = rw e
+  pub plan_8 : (r : Refusal) → ticks_judged plan ps ≡ Refused r → Refused r ≡ plan_check_of rule q plan ps
+  unfolding plan_check_of
+  plan_8 r e = rw e
 
-  pub plan-9 : ticksJudged plan ps ≡ Good → (r : Finding) → r ≡ scanOf rule q plan ps → r ≡ planCheckOf rule q plan ps
-  unfolding planCheckOf
-  plan-9 e r h = rw e h
+  pub plan_9 : ticks_judged plan ps ≡ Good → (r : Finding) → r ≡ scan_of rule q plan ps → r ≡ plan_check_of rule q plan ps
+  unfolding plan_check_of
+  plan_9 e r h = rw e h
 
 -- ---- 2, 3, 21 and 6, then the plan
 
 module _ (terms : Terms) (plan ps : List ℕ) where
-  pub check-tables : (r : Refusal) → tables_of terms (length plan) ps [] ≡ Refused r → Refused r ≡ checkOf terms plan ps
-  unfolding checkOf
+  pub check-tables : (r : Refusal) → tables_of terms (length plan) ps [] ≡ Refused r → Refused r ≡ check_of terms plan ps
+  unfolding check_of
   check-tables r e = rw e
 
-  pub check-plan : tables_of terms (length plan) ps [] ≡ Good → (r : Finding) → r ≡ planCheckOf (ruleIn terms) (wanted terms ps) plan ps → r ≡ checkOf terms plan ps
-  unfolding checkOf
-  check-plan e r h = rw e h
+  pub check_plan : tables_of terms (length plan) ps [] ≡ Good → (r : Finding) → r ≡ plan_check_of (rule_in terms) (wanted terms ps) plan ps → r ≡ check_of terms plan ps
+  unfolding check_of
+  check_plan e r h = rw e h

@@ -1,32 +1,32 @@
 -- What the checker's answers mean. Assumes nothing.
 use Rattle.std.specs.Prelude.{ℕ, ◌+◌, ◌≤◌, ◌<◌, ◌≡◌, ◌⊎◌, ◌↔◌, List, [], length}
 use Rattle.rules.specs.Walk.{Every}
-use Rattle.rules.specs.Table.{partitions, cycle, goodTick}
-use Rattle.rules.specs.Terms.{granules, filed, ruleIn, wanted}
+use Rattle.rules.specs.Table.{partitions, cycle, good_tick}
+use Rattle.rules.specs.Terms.{granules, filed, rule_in, wanted}
 use Rattle.rules.specs.declared.Terms.{Terms}
 use Rattle.tables.specs.Tables.{GoodTables}
-use Rattle.rules.specs.Refusals.{telling, toldFinding}
+use Rattle.rules.specs.Refusals.{telling, told_finding}
 use Rattle.rules.specs.declared.Told.{Told}
 use Rattle.rules.specs.declared.Finding.{Finding}
 use Rattle.rules.specs.declared.Finding.TheVariants.{Good}
 use Rattle.rules.specs.declared.Rule.{Rule}
 use Rattle.theory.specs.Plan.{held, Serves}
-use Rattle.plan_check.specs.Check.{checkOf, Checks}
+use Rattle.plan_check.specs.Check.{check_of, Checks}
 
 -- accepted exactly when the table is good, each owner is 0 or a partition of it, and "every stretch .., from any start and across the frame's end too, holds at least q ticks"
 abbrev pub CheckServes : Type 0
 CheckServes =
     (terms : Terms) (plan ps : List ℕ)
-    → (checkOf terms plan ps ≡ Good)
-    ↔ (GoodTables terms (length plan) ps [] × Every (goodTick (partitions ps) plan) (length plan) × Serves (ruleIn terms) (wanted terms ps) plan ps)
+    → (check_of terms plan ps ≡ Good)
+    ↔ (GoodTables terms (length plan) ps [] × Every (good_tick (partitions ps) plan) (length plan) × Serves (rule_in terms) (wanted terms ps) plan ps)
 
 -- a plan that is accepted with a granule is accepted without
 abbrev pub AcceptedWithout : Type 0
-AcceptedWithout = (terms : Terms) (plan ps : List ℕ) → checkOf terms plan ps ≡ Good → checkOf (filed terms.edition) plan ps ≡ Good
+AcceptedWithout = (terms : Terms) (plan ps : List ℕ) → check_of terms plan ps ≡ Good → check_of (filed terms.edition) plan ps ≡ Good
 
 -- document 02, ask 6: and one that is accepted in edition 2 is accepted in edition 1
 abbrev pub AcceptedBefore : Type 0
-AcceptedBefore = (terms : Terms) (plan ps : List ℕ) → checkOf terms plan ps ≡ Good → checkOf (granules terms.granule) plan ps ≡ Good
+AcceptedBefore = (terms : Terms) (plan ps : List ℕ) → check_of terms plan ps ≡ Good → check_of (granules terms.granule) plan ps ≡ Good
 
 -- "partition, start, held, wanted": the stretch falls short, and is the lowest partition's lowest start that does
 pub record FallsShort (rule : Rule) (q : ℕ → ℕ) (plan ps : List ℕ) (p s h w : ℕ) : Type 0 where
@@ -38,13 +38,13 @@ pub record FallsShort (rule : Rule) (q : ℕ → ℕ) (plan ps : List ℕ) (p s 
   pub wants : w ≡ q place
   pub short : h < w
   pub lowest_start : (u : ℕ) → u < s → w ≤ held rule plan p (cycle ps place) u
-  pub lowest-partition : (k : ℕ) → k < place → (u : ℕ) → q k ≤ held rule plan (k + 1) (cycle ps k) u
+  pub lowest_partition : (k : ℕ) → k < place → (u : ℕ) → q k ≤ held rule plan (k + 1) (cycle ps k) u
 
 -- 9 and its four values say what stands in the plan
 abbrev pub CheckShort : Type 0
 CheckShort =
-    (terms : Terms) (plan ps : List ℕ) (p s h w : ℕ) → toldFinding (checkOf terms plan ps) ≡ telling 9 p s h w
-    → FallsShort (ruleIn terms) (wanted terms ps) plan ps p s h w
+    (terms : Terms) (plan ps : List ℕ) (p s h w : ℕ) → told_finding (check_of terms plan ps) ≡ telling 9 p s h w
+    → FallsShort (rule_in terms) (wanted terms ps) plan ps p s h w
 
 -- where place k wants more than its cycle has: 9, at start 0 of that partition unless a lower one falls short
 abbrev pub ShortFrom0 : Rule → (ℕ → ℕ) → List ℕ → List ℕ → Told → Type 0
@@ -54,17 +54,17 @@ ShortFrom0 rule q plan ps t =
 
 abbrev pub CheckPastCycle : Type 0
 CheckPastCycle =
-    (terms : Terms) (plan ps : List ℕ) → GoodTables terms (length plan) ps [] → Every (goodTick (partitions ps) plan) (length plan)
-    → ShortFrom0 (ruleIn terms) (wanted terms ps) plan ps (toldFinding (checkOf terms plan ps))
+    (terms : Terms) (plan ps : List ℕ) → GoodTables terms (length plan) ps [] → Every (good_tick (partitions ps) plan) (length plan)
+    → ShortFrom0 (rule_in terms) (wanted terms ps) plan ps (told_finding (check_of terms plan ps))
 
 -- "any two outcomes it permits are equal"
 abbrev pub CheckOne : Type 0
 CheckOne = (terms : Terms) (plan ps : List ℕ) (r r' : Finding) → Checks terms plan ps r → Checks terms plan ps r' → r ≡ r'
 
 pub record Proved : Type 0 where
-  pub check-serves : CheckServes
-  pub accepted-without : AcceptedWithout
-  pub accepted-before : AcceptedBefore
-  pub check-short : CheckShort
-  pub check-past-cycle : CheckPastCycle
-  pub check-one : CheckOne
+  pub check_serves : CheckServes
+  pub accepted_without : AcceptedWithout
+  pub accepted_before : AcceptedBefore
+  pub check_short : CheckShort
+  pub check_past_cycle : CheckPastCycle
+  pub check_one : CheckOne

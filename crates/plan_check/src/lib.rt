@@ -1,14 +1,14 @@
 // The checker: whether every stretch of a plan holds what each partition wants.
 ghost use Rattle.std.specs.Prelude.{◌≡◌};
-ghost use Rattle.rules.specs.Terms.{ruleIn, wanted};
-ghost use Rattle.plan_check.specs.Check.{scanOf, planCheckOf, Checks};
+ghost use Rattle.rules.specs.Terms.{rule_in, wanted};
+ghost use Rattle.plan_check.specs.Check.{scan_of, plan_check_of, Checks};
 
 use rules::{Finding, Refusal, Rule, Terms};
 
 // Refusal 9 alone: the lowest partition's lowest start whose stretch holds too little. It is public for a caller
 // whose plan is judged already, as the listing's is by the reader.
 pub fn scan(rule: Rule, terms: Terms, plan: &[u16], parts: &[u16]) -> Finding
-    ensures { result ≡ scanOf rule (wanted terms parts.now) plan.now parts.now }
+    ensures { result ≡ scan_of rule (wanted terms parts.now) plan.now parts.now }
 {
     let f = plan.len();
     let n = rules::records::partitions(parts);
@@ -37,7 +37,7 @@ pub fn scan(rule: Rule, terms: Terms, plan: &[u16], parts: &[u16]) -> Finding
 
 // Refusals 8 and 9, of tables whose numbers are within their limits.
 pub fn check_plan(terms: Terms, plan: &[u16], parts: &[u16]) -> Finding
-    ensures { result ≡ planCheckOf (ruleIn terms) (wanted terms parts.now) plan.now parts.now }
+    ensures { result ≡ plan_check_of (rule_in terms) (wanted terms parts.now) plan.now parts.now }
 {
     let ticks = tables::judge_ticks(plan, parts);
     match ticks {

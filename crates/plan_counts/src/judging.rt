@@ -1,6 +1,6 @@
 // What tells against a call over running counts, in one order: 3, 6, 8, 8 with place 0, 12, 20, 26.
 ghost use Rattle.std.specs.Prelude.{◌≡◌};
-ghost use Rattle.counts.specs.Counts.{unlessGood, planJudged, listJudged, countsJudged, goodName, goodStretch};
+ghost use Rattle.counts.specs.Counts.{unless_good, plan_judged, list_judged, counts_judged, good_name, good_stretch};
 ghost use Rattle.counts.specs.Inner.{Sized};
 
 use counts_rows::differs;
@@ -10,7 +10,7 @@ use tables::first_found;
 
 // Refused where a test fails.
 pub fn unless_good(good: bool, refusal: Refusal) -> Finding
-    ensures { result ≡ unlessGood good refusal }
+    ensures { result ≡ unless_good good refusal }
 {
     if good {
         return Finding::Good;
@@ -20,7 +20,7 @@ pub fn unless_good(good: bool, refusal: Refusal) -> Finding
 
 // Whether p is a partition of the table; there are no numbers for idle.
 pub fn good_name(parts: usize, p: usize) -> bool
-    ensures { result ≡ goodName parts p }
+    ensures { result ≡ good_name parts p }
 {
     if p < 1 {
         return false;
@@ -30,7 +30,7 @@ pub fn good_name(parts: usize, p: usize) -> bool
 
 // Whether a stretch starts in a frame of f ticks and is no longer.
 pub fn good_stretch(f: usize, s: usize, n: usize) -> bool
-    ensures { result ≡ goodStretch f s n }
+    ensures { result ≡ good_stretch f s n }
 {
     if f <= s {
         return false;
@@ -40,7 +40,7 @@ pub fn good_stretch(f: usize, s: usize, n: usize) -> bool
 
 // 3, 6 and 8: the ticks are walked only where the frame is within its limits.
 pub fn judge_plan(plan: &[u16], parts: &[u16]) -> Finding
-    ensures { result ≡ planJudged plan.now parts.now }
+    ensures { result ≡ plan_judged plan.now parts.now }
 {
     let tables = tables::judge_partitions(rules::filed(1), plan.len(), parts);
     match tables {
@@ -52,7 +52,7 @@ pub fn judge_plan(plan: &[u16], parts: &[u16]) -> Finding
 // 12 and 20.
 fn judge_list(plan: &[u16], parts: &[u16], list: &[u16], enough: bool) -> Finding
     requires { Sized plan.now parts.now }
-    ensures { result ≡ listJudged plan.now parts.now list.now enough }
+    ensures { result ≡ list_judged plan.now parts.now list.now enough }
 {
     let n = partitions(parts);
     if list.len() < n * (plan.len() + 1) {
@@ -77,7 +77,7 @@ pub fn judge_call(
     enough: bool,
     within: Finding,
 ) -> Finding
-    ensures { result ≡ countsJudged plan.now parts.now list.now named enough within }
+    ensures { result ≡ counts_judged plan.now parts.now list.now named enough within }
 {
     let before = first_found(judge_plan(plan, parts), named);
     match before {

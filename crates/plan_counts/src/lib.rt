@@ -1,7 +1,7 @@
 // The running counts kept beside a plan: filled from it, asked for any stretch, and changed with it.
 ghost use Rattle.std.specs.Prelude.{◌≡◌, List, ℕ, ◌*◌, ◌^◌, ◌≤◌, ◌<◌, length, get_or, set};
 ghost use Rattle.rules.specs.Limits.{longest};
-ghost use Rattle.counts.specs.Counts.{rowWidth, fillOf, FillsCounts, HoldsOne, manyOf, HoldsMany, changeOf, Changes};
+ghost use Rattle.counts.specs.Counts.{row_width, fill_of, FillsCounts, HoldsOne, many_of, HoldsMany, change_of, Changes};
 ghost use Rattle.counts.specs.Inner.{Recounted};
 
 use counts_rows::{fill_row, fill_rows, look_up};
@@ -17,7 +17,7 @@ mod questions; // questions.rt: many questions in one lent list
 
 // The answer for a list of so many numbers.
 fn fill_answer(plan: &[u16], parts: &[u16], room: usize) -> Filling
-    ensures { result ≡ fillOf plan.now parts.now room }
+    ensures { result ≡ fill_of plan.now parts.now room }
 {
     let planned = judge_plan(plan, parts);
     match planned {
@@ -61,7 +61,7 @@ pub fn held(plan: &[u16], parts: &[u16], list: &[u16], p: usize, s: usize, n: us
 
 // The answer to many questions, for an output of so many answers.
 fn many_answer(plan: &[u16], parts: &[u16], list: &[u16], asked: &[u16], room: usize) -> Filling
-    ensures { result ≡ manyOf plan.now parts.now list.now asked.now room }
+    ensures { result ≡ many_of plan.now parts.now list.now asked.now room }
 {
     if asked.len() % QUESTION_WIDTH != 0 {
         return Filling::Refused(Refusal::Limits);
@@ -99,7 +99,7 @@ pub fn held_many(
 
 // What tells against a change.
 fn judge_change(plan: &[u16], parts: &[u16], list: &[u16], tick: usize, owner: usize) -> Finding
-    ensures { result ≡ changeOf plan.now parts.now list.now tick owner }
+    ensures { result ≡ change_of plan.now parts.now list.now tick owner }
 {
     let named = unless_good(owner <= partitions(parts), Refusal::Asked(0));
     let within = unless_good(tick < plan.len(), Refusal::Beyond(0));
@@ -109,8 +109,8 @@ fn judge_change(plan: &[u16], parts: &[u16], list: &[u16], tick: usize, owner: u
 // The tick given to its new owner, and both owners' numbers counted again.
 fn give(plan: &mut [u16], list: &mut [u16], tick: usize, owner: usize)
     requires { (tick < length plan.old) × (length plan.old ≤ longest) × (owner < 2 ^ 16)
-        × (owner * rowWidth plan.old ≤ length list.old)
-        × (get_or plan.old tick 0 * rowWidth plan.old ≤ length list.old) }
+        × (owner * row_width plan.old ≤ length list.old)
+        × (get_or plan.old tick 0 * row_width plan.old ≤ length list.old) }
     ensures { (plan.new ≡ set plan.old tick owner)
         × ((between : List ℕ)
         × Recounted plan.new (get_or plan.old tick 0) list.old between

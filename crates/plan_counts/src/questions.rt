@@ -3,7 +3,7 @@ ghost use Rattle.std.specs.Prelude.{◌≡◌, ◌≤◌, ◌<◌, length};
 ghost use Rattle.rules.specs.Inner.{AsNamed};
 ghost use Rattle.rules.specs.declared.Refusal.TheVariants.{Asked, Beyond};
 ghost use Rattle.tables.specs.Tables.{lowest};
-ghost use Rattle.counts.specs.Counts.{asked, start, span, questions, namesOne, withinFrame, answerAt};
+ghost use Rattle.counts.specs.Counts.{asked, start, span, questions, names_one, within_frame, answer_at};
 ghost use Rattle.counts.specs.Inner.{Answerable};
 
 use crate::judging::{good_name, good_stretch};
@@ -42,7 +42,7 @@ pub fn questions(table: &[u16]) -> usize
 
 // The lowest question that names no partition of the table: 8 with place 0.
 pub fn judge_names(table: &[u16], parts: usize) -> Finding
-    ensures { result ≡ lowest Asked (namesOne parts table.now) (questions table.now) }
+    ensures { result ≡ lowest Asked (names_one parts table.now) (questions table.now) }
 {
     let n = questions(table);
     let mut k = 0;
@@ -57,7 +57,7 @@ pub fn judge_names(table: &[u16], parts: usize) -> Finding
 
 // The lowest question that starts outside a frame of f ticks or is longer: 26.
 pub fn judge_stretches(table: &[u16], f: usize) -> Finding
-    ensures { result ≡ lowest Beyond (withinFrame f table.now) (questions table.now) }
+    ensures { result ≡ lowest Beyond (within_frame f table.now) (questions table.now) }
 {
     let n = questions(table);
     let mut k = 0;
@@ -73,7 +73,7 @@ pub fn judge_stretches(table: &[u16], f: usize) -> Finding
 // The answers to the first n questions, for a caller that knows the list to be the plan's.
 pub fn answer_all(plan: &[u16], list: &[u16], table: &[u16], answers: &mut [u16], n: usize)
     requires { Answerable plan.now list.now table.now n × (n ≤ length answers.old) }
-    ensures { AsNamed (answerAt plan.now table.now) n
+    ensures { AsNamed (answer_at plan.now table.now) n
         answers.old answers.new }
 {
     let mut k = 0;

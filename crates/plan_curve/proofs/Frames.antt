@@ -11,8 +11,8 @@ use Rattle.rules.specs.Inner.{AsNamed}
 use Rattle.rules.specs.declared.Rule.{Rule}
 use Rattle.rules.proofs.Named.{named-turn}
 use Rattle.theory.specs.Plan.{service, held, least}
-use Rattle.theory.proofs.Plan.{service-place, held-around, least-is-least, least-attained, least-bounds}
-use Rattle.theory.proofs.Need.{owned-split}
+use Rattle.theory.proofs.Plan.{service-place, held_around, least_is_least, least_attained, least_bounds}
+use Rattle.theory.proofs.Need.{owned_split}
 use Rattle.plan_curve.proofs.Worst.{next}
 
 -- a pass that goes further than the one before it
@@ -35,14 +35,14 @@ module _ (rule : Rule) (plan : List ℕ) (p : ℕ) (pos : 0 < length plan) where
 
   held-frame : (t s : ℕ) → held rule plan p (f + t) s ≡ held rule plan p f 0 + held rule plan p t s
   held-frame t s =
-      let later : held rule plan p t (s + f) ≡ held rule plan p t s = sym (held-around rule plan p t (s + f)) ∙ ap (held rule plan p t) (add-mod_right s f) ∙ held-around rule plan p t s in
-      omega (arith, owned-split (service rule plan) p s f t, later, frame_same s)
+      let later : held rule plan p t (s + f) ≡ held rule plan p t s = sym (held_around rule plan p t (s + f)) ∙ ap (held rule plan p t) (add-mod_right s f) ∙ held_around rule plan p t s in
+      omega (arith, owned_split (service rule plan) p s f t, later, frame_same s)
 
   least-frame : (t : ℕ) → least rule plan p (f + t) ≡ least rule plan p f + least rule plan p t
   least-frame t =
-      let a = least-attained rule plan p (f + t) pos in
-      let b = least-attained rule plan p t pos in
-      let c = least-attained rule plan p f pos in
+      let a = least_attained rule plan p (f + t) pos in
+      let b = least_attained rule plan p t pos in
+      let c = least_attained rule plan p f pos in
       omega (
         arith,
         a.2,
@@ -51,8 +51,8 @@ module _ (rule : Rule) (plan : List ℕ) (p : ℕ) (pos : 0 < length plan) where
         frame_same c.0,
         held-frame t a.0,
         held-frame t b.0,
-        least-is-least rule plan p (f + t) b.0 pos,
-        least-is-least rule plan p t a.0 pos,
+        least_is_least rule plan p (f + t) b.0 pos,
+        least_is_least rule plan p t a.0 pos,
       )
 
   -- one number more: x and y are those a frame before, and of the frame
@@ -66,4 +66,4 @@ module _ (rule : Rule) (plan : List ℕ) (p : ℕ) (pos : 0 < length plan) where
   -- and no more than its ticks
   pub frame_small : (t x y : ℕ) (before cur : List ℕ) → AsNamed (least rule plan p) t before cur → f < t → x ≡ get_or cur (t - f) 0 → y ≡ get_or cur f 0 → x + y ≤ t
   frame_small t x y before cur w l ex ey =
-      omega (arith, w.done (t - f) (omega arith), w.done f l, least-bounds rule plan p (t - f), least-bounds rule plan p f)
+      omega (arith, w.done (t - f) (omega arith), w.done f l, least_bounds rule plan p (t - f), least_bounds rule plan p f)

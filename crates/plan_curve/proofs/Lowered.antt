@@ -14,19 +14,19 @@ use borrow.Author.Tests.{eq-eqb, ne_eqb}
 use Rattle.rules.specs.Walk.{pick}
 use Rattle.rules.specs.Inner.{AsNamed}
 use Rattle.rules.specs.declared.Rule.{Rule}
-use Rattle.rules.proofs.Named.{named-turn, named-as, named-then}
+use Rattle.rules.proofs.Named.{named-turn, named_as, named_then}
 use Rattle.rules.proofs.Least.{smallest-zero}
 use Rattle.theory.specs.Plan.{service, held, least}
-use Rattle.theory.proofs.Plan.{least-is-least, least-attained, least-bounds}
-use Rattle.plan_service.proofs.Turns.{empty-idle, empty-other}
-use Rattle.plan_curve.specs.Curve.{startTried}
-use Rattle.plan_curve.specs.Inner.{most, lowerFrom, LoweredOn, lowerAt}
-use Rattle.plan_curve.proofs.Worst.{worst-start}
+use Rattle.theory.proofs.Plan.{least_is_least, least_attained, least_bounds}
+use Rattle.plan_service.proofs.Turns.{empty-idle, empty_other}
+use Rattle.plan_curve.specs.Curve.{start_tried}
+use Rattle.plan_curve.specs.Inner.{most, lower_from, LoweredOn, lower_at}
+use Rattle.plan_curve.proofs.Worst.{worst_start_lem}
 
 -- number t after the starts before s
 unfoldable pub lowered : Rule → List ℕ → ℕ → ℕ → ℕ → ℕ
 lowered rule plan p zero t = most (length plan) p t
-lowered rule plan p (suc s) t = pick (startTried rule plan p s) (min (lowered rule plan p s t) (held rule plan p t s)) (lowered rule plan p s t)
+lowered rule plan p (suc s) t = pick (start_tried rule plan p s) (min (lowered rule plan p s t) (held rule plan p t s)) (lowered rule plan p s t)
 
 pick-le : (b : Bool) (x y : ℕ) → pick b (min x y) x ≤ x
 pick-le true x y = omega arith
@@ -34,44 +34,44 @@ pick-le false x y = omega arith
 
 module _ (rule : Rule) (plan : List ℕ) (p t : ℕ) where
   -- no more than what a start that counts holds
-  lowered-le : (n c : ℕ) → c < n → startTried rule plan p c ≡ true → lowered rule plan p n t ≤ held rule plan p t c
+  lowered_le : (n c : ℕ) → c < n → start_tried rule plan p c ≡ true → lowered rule plan p n t ≤ held rule plan p t c
   unfolding lowered
-  lowered-le zero c l b = absurd (omega arith)
-  lowered-le (suc n) c l b = go (lowered-le n c) (eq-or-lt_of_le (le_of_suc-le-suc l))
+  lowered_le zero c l b = absurd (omega arith)
+  lowered_le (suc n) c l b = go (lowered_le n c) (eq-or-lt_of_le (le_of_suc-le-suc l))
     where
-      go : (c < n → startTried rule plan p c ≡ true → lowered rule plan p n t ≤ held rule plan p t c) → (c ≡ n) ⊎ (c < n) → pick (startTried rule plan p n) (min (lowered rule plan p n t) (held rule plan p t n)) (lowered rule plan p n t) ≤ held rule plan p t c
+      go : (c < n → start_tried rule plan p c ≡ true → lowered rule plan p n t ≤ held rule plan p t c) → (c ≡ n) ⊎ (c < n) → pick (start_tried rule plan p n) (min (lowered rule plan p n t) (held rule plan p t n)) (lowered rule plan p n t) ≤ held rule plan p t c
       go ih (inl e) = rw (← e, b) (omega arith)
-      go ih (inr m) = omega (arith, ih m b, pick-le (startTried rule plan p n) (lowered rule plan p n t) (held rule plan p t n))
+      go ih (inr m) = omega (arith, ih m b, pick-le (start_tried rule plan p n) (lowered rule plan p n t) (held rule plan p t n))
 
-  most-is : 0 < length plan → most (length plan) p t ≡ t
+  most_is : 0 < length plan → most (length plan) p t ≡ t
   unfolding most
-  most-is h = rw (ne_eqb (length plan) 0 (λ e. absurd (omega arith)))
+  most_is h = rw (ne_eqb (length plan) 0 (λ e. absurd (omega arith)))
 
   -- never less than least service
-  lowered-ge : (n : ℕ) → 0 < length plan → least rule plan p t ≤ lowered rule plan p n t
+  lowered_ge : (n : ℕ) → 0 < length plan → least rule plan p t ≤ lowered rule plan p n t
   unfolding lowered
-  lowered-ge zero h = rw (most-is h) (least-bounds rule plan p t)
-  lowered-ge (suc n) h = or (startTried rule plan p n) (lowered-ge n h)
+  lowered_ge zero h = rw (most_is h) (least_bounds rule plan p t)
+  lowered_ge (suc n) h = or (start_tried rule plan p n) (lowered_ge n h)
     where
       or : (b : Bool) → least rule plan p t ≤ lowered rule plan p n t → least rule plan p t ≤ pick b (min (lowered rule plan p n t) (held rule plan p t n)) (lowered rule plan p n t)
-      or true i = omega (arith, least-is-least rule plan p t n h)
+      or true i = omega (arith, least_is_least rule plan p t n h)
       or false i = i
 
   full : 0 < length plan → lowered rule plan p (length plan) t ≡ least rule plan p t
   full h =
-      let a = least-attained rule plan p t h in
-      let w = worst-start rule plan p t a.0 a.1 in
-      omega (arith, a.2, w.3, lowered-le (length plan) w.0 w.1 w.2, lowered-ge (length plan) h)
+      let a = least_attained rule plan p t h in
+      let w = worst_start_lem rule plan p t a.0 a.1 in
+      omega (arith, a.2, w.3, lowered_le (length plan) w.0 w.1 w.2, lowered_ge (length plan) h)
 
 -- of an empty plan there is no start: every tick is idle
 none : (rule : Rule) (plan : List ℕ) (p t : ℕ) → length plan ≡ 0 → Dec (p ≡ 0) → lowered rule plan p (length plan) t ≡ least rule plan p t
 unfolding lowered least most
 none rule plan p t e (yes z) = rw (e, eq-eqb (length plan) 0 e, eq-eqb p 0 z, smallest-zero) (empty-idle rule plan p 0 t e z)
-none rule plan p t e (no n) = rw (e, eq-eqb (length plan) 0 e, ne_eqb p 0 n, smallest-zero) (empty-other rule plan p 0 t e n)
+none rule plan p t e (no n) = rw (e, eq-eqb (length plan) 0 e, ne_eqb p 0 n, smallest-zero) (empty_other rule plan p 0 t e n)
 
 -- after all starts the numbers are least service
-lowered-all : (rule : Rule) (plan : List ℕ) (p t : ℕ) → lowered rule plan p (length plan) t ≡ least rule plan p t
-lowered-all rule plan p t = go (ℕ_discrete (length plan) 0)
+lowered_all : (rule : Rule) (plan : List ℕ) (p t : ℕ) → lowered rule plan p (length plan) t ≡ least rule plan p t
+lowered_all rule plan p t = go (ℕ_discrete (length plan) 0)
   where
     go : Dec (length plan ≡ 0) → lowered rule plan p (length plan) t ≡ least rule plan p t
     go (yes e) = none rule plan p t e (ℕ_discrete p 0)
@@ -80,22 +80,22 @@ lowered-all rule plan p t = go (ℕ_discrete (length plan) 0)
 -- ---- the laws that the code's proofs cite
 
 module _ (rule : Rule) (plan : List ℕ) (p s : ℕ) where
-  pub tried-first : s ≡ 0 → true ≡ startTried rule plan p s
-  unfolding startTried
-  tried-first e = rw (eq-eqb s 0 e)
+  pub tried_first : s ≡ 0 → true ≡ start_tried rule plan p s
+  unfolding start_tried
+  tried_first e = rw (eq-eqb s 0 e)
 
-  pub within-run : ¬ (s ≡ 0) → service rule plan s ≡ p → false ≡ startTried rule plan p s
-  unfolding startTried
-  within-run n e = rw (ne_eqb s 0 n, eq-eqb (service rule plan s) p e)
+  pub within_run : ¬ (s ≡ 0) → service rule plan s ≡ p → false ≡ start_tried rule plan p s
+  unfolding start_tried
+  within_run n e = rw (ne_eqb s 0 n, eq-eqb (service rule plan s) p e)
 
-  pub tried-behind : ¬ (s ≡ 0) → ¬ (service rule plan s ≡ p) → eqb (service rule plan (s - 1)) p ≡ startTried rule plan p s
-  unfolding startTried
-  tried-behind n h = rw (ne_eqb s 0 n, ne_eqb (service rule plan s) p h)
+  pub tried_behind : ¬ (s ≡ 0) → ¬ (service rule plan s ≡ p) → eqb (service rule plan (s - 1)) p ≡ start_tried rule plan p s
+  unfolding start_tried
+  tried_behind n h = rw (ne_eqb s 0 n, ne_eqb (service rule plan s) p h)
 
   -- one number more
-  lower-turn : (t h v : ℕ) (before cur after : List ℕ) → AsNamed (lowerFrom rule plan p s before) t before cur → t < length before → h ≡ held rule plan p t s
-      → v ≡ min (get_or cur t 0) h → after ≡ set cur t v → AsNamed (lowerFrom rule plan p s before) (t + 1) before after
-  unfolding lowerFrom
+  lower-turn : (t h v : ℕ) (before cur after : List ℕ) → AsNamed (lower_from rule plan p s before) t before cur → t < length before → h ≡ held rule plan p t s
+      → v ≡ min (get_or cur t 0) h → after ≡ set cur t v → AsNamed (lower_from rule plan p s before) (t + 1) before after
+  unfolding lower_from
   lower-turn t h v before cur after w l eh ev ea =
       named-turn _ t v before cur after w l ea (ev ∙ ap₂ min (w.rest t (omega arith)) eh)
 
@@ -107,37 +107,37 @@ module _ (rule : Rule) (plan : List ℕ) (p s : ℕ) where
   row-turn b t h v from cur after w l eh ev ea =
       record { goes_on = λ before u. let z = w.goes_on before u in lower-turn t h v before cur after z (omega (arith, z.as_long)) eh ev ea }
 
-  pub row-all : (b e t : ℕ) (from to : List ℕ) → t ≤ e → e ≤ t → LoweredOn rule plan p s b t from to → LoweredOn rule plan p s b e from to
-  row-all b e t from to l g w = let z : t ≡ e = omega arith in rw z at w
+  pub row_all : (b e t : ℕ) (from to : List ℕ) → t ≤ e → e ≤ t → LoweredOn rule plan p s b t from to → LoweredOn rule plan p s b e from to
+  row_all b e t from to l g w = let z : t ≡ e = omega arith in rw z at w
 
-  pub start-counts : (n : ℕ) (before after : List ℕ) → startTried rule plan p s ≡ true → AsNamed (lowerFrom rule plan p s before) n before after → AsNamed (lowerAt rule plan p s before) n before after
-  unfolding lowerAt
-  start-counts n before after e = named-as _ _ n before after (λ t l. rw e)
+  pub start_counts : (n : ℕ) (before after : List ℕ) → start_tried rule plan p s ≡ true → AsNamed (lower_from rule plan p s before) n before after → AsNamed (lower_at rule plan p s before) n before after
+  unfolding lower_at
+  start_counts n before after e = named_as _ _ n before after (λ t l. rw e)
 
-  pub start_left : (n : ℕ) (l : List ℕ) → startTried rule plan p s ≡ false → AsNamed (lowerAt rule plan p s l) n l l
-  unfolding lowerAt
+  pub start_left : (n : ℕ) (l : List ℕ) → start_tried rule plan p s ≡ false → AsNamed (lower_at rule plan p s l) n l l
+  unfolding lower_at
   start_left n l e = record { as_long = refl; done = λ t h. rw e; rest = λ t h. refl }
 
   -- one start more
-  pub lowered-turn : (n : ℕ) (before cur after : List ℕ) → AsNamed (lowered rule plan p s) n before cur → AsNamed (lowerAt rule plan p s cur) n cur after → AsNamed (lowered rule plan p (s + 1)) n before after
-  unfolding lowered lowerAt lowerFrom
-  lowered-turn n before cur after w v = rw add-one (named-then _ _ n before cur after w (named-as _ _ n cur after (λ t l. rw (w.done t l)) v))
+  pub lowered_turn : (n : ℕ) (before cur after : List ℕ) → AsNamed (lowered rule plan p s) n before cur → AsNamed (lower_at rule plan p s cur) n cur after → AsNamed (lowered rule plan p (s + 1)) n before after
+  unfolding lowered lower_at lower_from
+  lowered_turn n before cur after w v = rw add-one (named_then _ _ n before cur after w (named_as _ _ n cur after (λ t l. rw (w.done t l)) v))
 
 pub lowered_none : (rule : Rule) (plan : List ℕ) (p f n : ℕ) (before after : List ℕ) → f ≡ length plan → AsNamed (most f p) n before after → AsNamed (lowered rule plan p 0) n before after
 unfolding lowered
-lowered_none rule plan p f n before after e w = named-as _ _ n before after (λ t l. rw e) w
+lowered_none rule plan p f n before after e w = named_as _ _ n before after (λ t l. rw e) w
 
-pub lowered-done : (rule : Rule) (plan : List ℕ) (p s n : ℕ) (before after : List ℕ) → s ≤ length plan → length plan ≤ s → AsNamed (lowered rule plan p s) n before after → AsNamed (least rule plan p) n before after
-lowered-done rule plan p s n before after l g w =
+pub lowered_done : (rule : Rule) (plan : List ℕ) (p s n : ℕ) (before after : List ℕ) → s ≤ length plan → length plan ≤ s → AsNamed (lowered rule plan p s) n before after → AsNamed (least rule plan p) n before after
+lowered_done rule plan p s n before after l g w =
     let e : s ≡ length plan = omega arith in
-    named-as _ _ n before after (λ t h. lowered-all rule plan p t) (rw e at w)
+    named_as _ _ n before after (λ t h. lowered_all rule plan p t) (rw e at w)
 
 -- where the frame ends its start follows
 pub row-second : (f s e : ℕ) → s < f → e ≡ f - s → 0 ≡ (s + e) % f
 row-second f s e l d = let z : s + e ≡ f = omega arith in rw z (sym (mod_self f))
 
 -- the place of a tick in its row
-pub place-in-row : (f s b t at : ℕ) → at ≡ (s + b) % f → b ≤ t → at + (t - b) < f → at + (t - b) ≡ (s + t) % f
-place-in-row f s b t at ea l h =
+pub place_in_row : (f s b t at : ℕ) → at ≡ (s + b) % f → b ≤ t → at + (t - b) < f → at + (t - b) ≡ (s + t) % f
+place_in_row f s b t at ea l h =
     let e : s + b + (t - b) ≡ s + t = omega arith in
     sym (mod-eq_of_lt h) ∙ rw ea (mod-add-mod (s + b) f (t - b)) ∙ ap (λ (x : ℕ). x % f) e

@@ -12,12 +12,12 @@ use lib.ListN.{length}
 use borrow.Author.Tests.{eq-eqb, ne_eqb}
 use Rattle.rules.specs.Walk.{only}
 use Rattle.rules.specs.declared.Rule.{Rule}
-use Rattle.rules.proofs.Sum.{only-eq, only-ne, only_self}
+use Rattle.rules.proofs.Sum.{only-eq, only_ne, only_self}
 use Rattle.rules.proofs.Tests.{and_intro, or_left, or_right}
 use Rattle.theory.specs.Plan.{service, held}
-use Rattle.theory.proofs.Plan.{service-place, held-zero, held_more, held-around}
-use Rattle.theory.proofs.Need.{owned-split}
-use Rattle.plan_curve.specs.Curve.{startTried}
+use Rattle.theory.proofs.Plan.{service-place, held-zero, held_more, held_around}
+use Rattle.theory.proofs.Need.{owned_split}
+use Rattle.plan_curve.specs.Curve.{start_tried}
 use Rattle.plan_curve.specs.Theorems.{WorstBehindRun, WorstStart}
 
 module _ (rule : Rule) (plan : List ℕ) (p : ℕ) where
@@ -30,7 +30,7 @@ module _ (rule : Rule) (plan : List ℕ) (p : ℕ) where
       let one : held rule plan p 1 s ≡ only (eqb (who s) p) 1 =
       held_more who p 0 s ∙ omega (arith, held-zero who p s, ap (λ (x : ℕ). only (eqb (who x) p) 1) (add-zero s)) in
       let e : 1 + t ≡ t + 1 = omega arith in
-      omega (arith, one, held_more who p t s, rw (e, add-one s) at (owned-split who p s 1 t))
+      omega (arith, one, held_more who p t s, rw (e, add-one s) at (owned_split who p s 1 t))
 
   -- behind a tick that serves p a stretch holds no more
   later : (t s : ℕ) → who s ≡ p → held rule plan p t (suc s) ≤ held rule plan p t s
@@ -38,21 +38,21 @@ module _ (rule : Rule) (plan : List ℕ) (p : ℕ) where
 
   -- before another tick a stretch holds no more
   earlier : (t s : ℕ) → ¬ (who s ≡ p) → held rule plan p t s ≤ held rule plan p t (suc s)
-  earlier t s h = omega (arith, next t s, only-ne (who s) p 1 h)
+  earlier t s h = omega (arith, next t s, only_ne (who s) p 1 h)
 
-  at_first : startTried rule plan p 0 ≡ true
-  unfolding startTried
+  at_first : start_tried rule plan p 0 ≡ true
+  unfolding start_tried
   at_first = or_left (eqb 0 0) (not (eqb (who 0) p) && eqb (who (0 - 1)) p) (eq-eqb 0 0 refl)
 
-  at-end : (s : ℕ) → ¬ (who (suc s) ≡ p) → who s ≡ p → startTried rule plan p (suc s) ≡ true
-  unfolding startTried
-  at-end s h e =
+  at_end : (s : ℕ) → ¬ (who (suc s) ≡ p) → who s ≡ p → start_tried rule plan p (suc s) ≡ true
+  unfolding start_tried
+  at_end s h e =
       let z : suc s - 1 ≡ s = omega arith in
       or_right (eqb (suc s) 0) (not (eqb (who (suc s)) p) && eqb (who (suc s - 1)) p) (and_intro (not (eqb (who (suc s)) p)) (eqb (who (suc s - 1)) p) (rw (ne_eqb (who (suc s)) p h)) (rw z (eq-eqb (who s) p e)))
 
   -- a start that counts, and holds no more than h
   abbrev Lower : ℕ → ℕ → Type 0
-  Lower t h = (c : ℕ) × (c < length plan) × (startTried rule plan p c ≡ true) × (held rule plan p t c ≤ h)
+  Lower t h = (c : ℕ) × (c < length plan) × (start_tried rule plan p c ≡ true) × (held rule plan p t c ≤ h)
 
   -- back to the run's end before, or to the frame's start
   back : (t s : ℕ) → s < length plan → ¬ (who s ≡ p) → Lower t (held rule plan p t s)
@@ -60,25 +60,25 @@ module _ (rule : Rule) (plan : List ℕ) (p : ℕ) where
   back t (suc s) l h = go (back t s (omega arith)) (ℕ_discrete (who s) p)
     where
       go : (¬ (who s ≡ p) → Lower t (held rule plan p t s)) → Dec (who s ≡ p) → Lower t (held rule plan p t (suc s))
-      go ih (yes e) = (suc s, l, at-end s h e, omega arith)
+      go ih (yes e) = (suc s, l, at_end s h e, omega arith)
       go ih (no n) = let r = ih n in (r.0, r.1, r.2, omega (arith, r.3, earlier t s n))
 
   -- on to the run's end, or to the next frame's start
   on : (g t s : ℕ) → g + suc s ≡ length plan → who s ≡ p → Lower t (held rule plan p t s)
   on zero t s e h =
       let f : suc s ≡ length plan = omega arith in
-      let z : held rule plan p t 0 ≡ held rule plan p t (suc s) = rw f (ap (held rule plan p t) (sym (mod_self (length plan))) ∙ held-around rule plan p t (length plan)) in
+      let z : held rule plan p t 0 ≡ held rule plan p t (suc s) = rw f (ap (held rule plan p t) (sym (mod_self (length plan))) ∙ held_around rule plan p t (length plan)) in
       (0, omega arith, at_first, omega (arith, z, later t s h))
   on (suc g) t s e h = go (on g t (suc s) (omega arith)) (ℕ_discrete (who (suc s)) p)
     where
       go : (who (suc s) ≡ p → Lower t (held rule plan p t (suc s))) → Dec (who (suc s) ≡ p) → Lower t (held rule plan p t s)
       go ih (yes m) = let r = ih m in (r.0, r.1, r.2, omega (arith, r.3, later t s h))
-      go ih (no n) = (suc s, omega arith, at-end s n h, later t s h)
+      go ih (no n) = (suc s, omega arith, at_end s n h, later t s h)
 
-pub worst-start : WorstStart
-worst-start rule plan p t s l = go (ℕ_discrete (service rule plan s) p)
+pub worst_start_lem : WorstStart
+worst_start_lem rule plan p t s l = go (ℕ_discrete (service rule plan s) p)
   where
-    go : Dec (service rule plan s ≡ p) → (c : ℕ) × (c < length plan) × (startTried rule plan p c ≡ true) × (held rule plan p t c ≤ held rule plan p t s)
+    go : Dec (service rule plan s ≡ p) → (c : ℕ) × (c < length plan) × (start_tried rule plan p c ≡ true) × (held rule plan p t c ≤ held rule plan p t s)
     go (yes e) = on rule plan p (length plan - suc s) t s (omega arith) e
     go (no n) = back rule plan p t s l n
 
@@ -96,7 +96,7 @@ module _ (rule : Rule) (plan : List ℕ) (p t : ℕ) where
   service-later k s = sym (service-place rule plan (s + k * f)) ∙ ap runs (add-mul-mod_self_right s k f) ∙ service-place rule plan s
 
   held-later : (k s : ℕ) → held rule plan p t (s + k * f) ≡ held rule plan p t s
-  held-later k s = sym (held-around rule plan p t (s + k * f)) ∙ ap (held rule plan p t) (add-mul-mod_self_right s k f) ∙ held-around rule plan p t s
+  held-later k s = sym (held_around rule plan p t (s + k * f)) ∙ ap (held rule plan p t) (add-mul-mod_self_right s k f) ∙ held_around rule plan p t s
 
   enough : (k : ℕ) → 0 < f → k ≤ k * f
   enough k h = let m : k * 1 ≤ k * f = mul-le-mul_left k h in omega (arith, mul-one k)
@@ -127,8 +127,8 @@ module _ (rule : Rule) (plan : List ℕ) (p t : ℕ) where
       go ih (yes m) = (a + g, m, last, omega arith)
       go ih (no k) = let r = ih k in (r.0, r.1, r.2, omega (arith, r.3, earlier rule plan p t (a + g) k))
 
-pub worst-behind-run : WorstBehindRun
-worst-behind-run rule plan p t s a b pos own other = go (ℕ_discrete (service rule plan s) p)
+pub worst_behind_run : WorstBehindRun
+worst_behind_run rule plan p t s a b pos own other = go (ℕ_discrete (service rule plan s) p)
   where
     go : Dec (service rule plan s ≡ p) → (c : ℕ) × (service rule plan c ≡ p) × ¬ (service rule plan (suc c) ≡ p) × (held rule plan p t (suc c) ≤ held rule plan p t s)
     go (yes e) =

@@ -1,12 +1,12 @@
 -- What is proved of the curve beyond its contract. Assumes nothing.
 use Rattle.std.specs.Prelude.{ℕ, suc, ◌+◌, ◌≤◌, ◌<◌, ◌≡◌, true, false, List, length, get_or}
-use Rattle.rules.specs.Terms.{goodEdition, ruleOf}
+use Rattle.rules.specs.Terms.{good_edition, rule_of}
 use Rattle.rules.specs.declared.Rule.{Rule}
 use Rattle.rules.specs.declared.Refusal.TheVariants.{Edition, Output}
 use Rattle.rules.specs.declared.Filling.{Filling}
 use Rattle.rules.specs.declared.Filling.TheVariants.{Fills, Refused}
 use Rattle.theory.specs.Plan.{service, held, least}
-use Rattle.plan_curve.specs.Curve.{leastCurve, curveOf, DrawsCurve, startTried}
+use Rattle.plan_curve.specs.Curve.{least_curve, curve_of, DrawsCurve, start_tried}
 
 -- "a worst stretch can be taken to start right behind one of the partition's runs": of a partition that some tick serves, and not every tick, any stretch
 -- holds at least as much as one that starts behind a tick that serves it, at one that doesn't
@@ -20,29 +20,29 @@ WorstBehindRun =
 abbrev pub WorstStart : Type 0
 WorstStart =
     (rule : Rule) (plan : List ℕ) (p t s : ℕ) → s < length plan
-    → (c : ℕ) × (c < length plan) × (startTried rule plan p c ≡ true) × (held rule plan p t c ≤ held rule plan p t s)
+    → (c : ℕ) × (c < length plan) × (start_tried rule plan p c ≡ true) × (held rule plan p t c ≤ held rule plan p t s)
 
 -- "each number is `least`": n + 1 numbers
 abbrev pub CurveIs : Type 0
 CurveIs =
     (rule : Rule) (plan : List ℕ) (p n : ℕ)
-    → (length (leastCurve rule plan p n) ≡ n + 1) × ((t : ℕ) → t ≤ n → get_or (leastCurve rule plan p n) t 0 ≡ least rule plan p t)
+    → (length (least_curve rule plan p n) ≡ n + 1) × ((t : ℕ) → t ≤ n → get_or (least_curve rule plan p n) t 0 ≡ least rule plan p t)
 
 -- 2 exactly for another edition, else 12 exactly for a list with fewer numbers; nothing else is refused
 pub data CurveBy (e n room : ℕ) : Filling → Type 0 where
-  curve-edition : goodEdition e ≡ false → CurveBy e n room (Refused Edition)
-  curve-length : goodEdition e ≡ true → room < n + 1 → CurveBy e n room (Refused Output)
-  curve-done : goodEdition e ≡ true → n + 1 ≤ room → CurveBy e n room (Fills (n + 1))
+  curve_edition : good_edition e ≡ false → CurveBy e n room (Refused Edition)
+  curve-length : good_edition e ≡ true → room < n + 1 → CurveBy e n room (Refused Output)
+  curve-done : good_edition e ≡ true → n + 1 ≤ room → CurveBy e n room (Fills (n + 1))
 
 abbrev pub CurveAnswers : Type 0
-CurveAnswers = (e n room : ℕ) → CurveBy e n room (curveOf e n room)
+CurveAnswers = (e n room : ℕ) → CurveBy e n room (curve_of e n room)
 
 -- each number that the call leaves is least service, and the list's tail stays as it was
 abbrev pub CurveLeaves : Type 0
 CurveLeaves =
     (e : ℕ) (plan : List ℕ) (p n m : ℕ) (list o : List ℕ) → DrawsCurve e plan p n list o (Fills m)
     → (m ≡ n + 1) × (length o ≡ length list)
-    × ((t : ℕ) → t ≤ n → get_or o t 0 ≡ least (ruleOf e) plan p t)
+    × ((t : ℕ) → t ≤ n → get_or o t 0 ≡ least (rule_of e) plan p t)
     × ((t : ℕ) → n < t → get_or o t 0 ≡ get_or list t 0)
 
 -- "any two outcomes it permits are equal"
@@ -52,9 +52,9 @@ CurveOne =
     → (r ≡ r') × (o ≡ o')
 
 pub record Proved : Type 0 where
-  pub worst-behind-run : WorstBehindRun
-  pub worst-start : WorstStart
-  pub curve-is : CurveIs
-  pub curve-answers : CurveAnswers
-  pub curve-leaves : CurveLeaves
-  pub curve-one : CurveOne
+  pub worst_behind_run : WorstBehindRun
+  pub worst_start_lem : WorstStart
+  pub curve_is : CurveIs
+  pub curve_answers : CurveAnswers
+  pub curve_leaves : CurveLeaves
+  pub curve_one : CurveOne

@@ -4,8 +4,8 @@
 ghost use Rattle.std.specs.Prelude.{◌≡◌, true, ◌+◌, ◌-◌, ◌%◌, ◌^◌, ◌≤◌, ◌<◌, length};
 ghost use Rattle.rules.specs.Inner.{AsNamed};
 ghost use Rattle.theory.specs.Plan.{held, least};
-ghost use Rattle.plan_curve.specs.Curve.{DrawsCurve, startTried};
-ghost use Rattle.plan_curve.specs.Inner.{most, lowerAt, lowerFrom, LoweredOn, Framed, Repeats};
+ghost use Rattle.plan_curve.specs.Curve.{DrawsCurve, start_tried};
+ghost use Rattle.plan_curve.specs.Inner.{most, lower_at, lower_from, LoweredOn, Framed, Repeats};
 
 use plan_service::{serves_at, service_at};
 use rules::numbers::{smaller, wide, wide32};
@@ -16,7 +16,7 @@ const FEW: usize = 64; // numbers; a frame within the limits has fewer divisors
 // Whether stretches from tick s on are tried: it is the frame's first tick, or stands right behind ticks that serve p.
 fn start_tried(rule: Rule, plan: &[u16], p: usize, s: usize) -> bool
     requires { s < length plan.now }
-    ensures { result ≡ startTried rule plan.now p s }
+    ensures { result ≡ start_tried rule plan.now p s }
 {
     if s == 0 {
         return true;
@@ -81,7 +81,7 @@ fn lower_row(
 // up to the frame's end, and on from its start.
 fn lower_from(rule: Rule, plan: &[u16], p: usize, s: usize, list: &mut [u32], n: usize)
     requires { (s < length plan.now) × (n ≤ length plan.now + 1) × (n ≤ 2 ^ 32) × (n ≤ length list.old) }
-    ensures { AsNamed (lowerFrom rule plan.now p s list.old) n
+    ensures { AsNamed (lower_from rule plan.now p s list.old) n
         list.old list.new }
 {
     let e = smaller(n, plan.len() - s);
@@ -94,7 +94,7 @@ fn lower_from(rule: Rule, plan: &[u16], p: usize, s: usize, list: &mut [u32], n:
 // The same, where a worst stretch may start at s.
 fn lower_at(rule: Rule, plan: &[u16], p: usize, s: usize, list: &mut [u32], n: usize)
     requires { (s < length plan.now) × (n ≤ length plan.now + 1) × (n ≤ 2 ^ 32) × (n ≤ length list.old) }
-    ensures { AsNamed (lowerAt rule plan.now p s list.old) n
+    ensures { AsNamed (lower_at rule plan.now p s list.old) n
         list.old list.new }
 {
     if start_tried(rule, plan, p, s) {

@@ -5,7 +5,7 @@ ghost use Rattle.rules.specs.Table.{partitions};
 ghost use Rattle.rules.specs.Terms.{wanted};
 ghost use Rattle.rules.specs.Inner.{AsNamed};
 ghost use Rattle.theory.specs.Harmonic.{give, turn, planned};
-ghost use Rattle.plan_lay.specs.Inner.{tickOf, givenTick, Layable};
+ghost use Rattle.plan_lay.specs.Inner.{tick_of, given_tick, Layable};
 ghost use Rattle.theory.specs.Inner.{idle};
 
 use order::taken;
@@ -29,8 +29,8 @@ fn clear(out: &mut [u16], h: usize)
 // The answer: the idle ticks up to it.
 fn give_tick(out: &mut [u16], t: usize, p: u16, q: usize, seen: usize) -> usize
     requires { (t < length out.old) × (seen ≤ t) }
-    ensures { (result ≡ seen + only (eqb (tickOf out.old t) 0) 1)
-        × (out.new ≡ set out.old t (givenTick p q seen (tickOf out.old t))) }
+    ensures { (result ≡ seen + only (eqb (tick_of out.old t) 0) 1)
+        × (out.new ≡ set out.old t (given_tick p q seen (tick_of out.old t))) }
 {
     if out[t] != 0 {
         return seen;
@@ -52,7 +52,7 @@ fn seen_from(at: usize, seen: usize) -> usize
 // In each cycle of m, counted from tick 0, p gets the q earliest idle ticks.
 fn give(out: &mut [u16], h: usize, p: u16, q: usize, m: usize)
     requires { (h ≤ length out.old) × (0 < m) }
-    ensures { AsNamed (give p q m (tickOf out.old)) h out.old out.new }
+    ensures { AsNamed (give p q m (tick_of out.old)) h out.old out.new }
 {
     let mut seen = 0;
     let mut at = 0;
@@ -69,7 +69,7 @@ fn give(out: &mut [u16], h: usize, p: u16, q: usize, m: usize)
 fn turn(terms: Terms, parts: &[u16], out: &mut [u16], h: usize, r: usize)
     requires { Layable parts.now × (r < partitions parts.now) × (h ≤ length out.old) }
     ensures { AsNamed
-        (turn (wanted terms parts.now) parts.now r (tickOf out.old)) h
+        (turn (wanted terms parts.now) parts.now r (tick_of out.old)) h
         out.old out.new }
 {
     let k = taken(parts, r);

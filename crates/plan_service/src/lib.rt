@@ -1,7 +1,7 @@
 // The service of a plan, by a rule of which owned ticks serve: what a stretch holds, and the least over all stretches.
 ghost use Rattle.std.specs.Prelude.{◌≡◌, ◌+◌, ◌%◌, ◌^◌, ◌≤◌, ◌<◌, eqb, length};
 ghost use Rattle.rules.specs.Walk.{only};
-ghost use Rattle.theory.specs.Plan.{service, held, HeldIs, least, LeastIs, worstStart};
+ghost use Rattle.theory.specs.Plan.{service, held, HeldIs, least, LeastIs, worst_start};
 
 use rules::numbers::wide;
 use rules::{Holding, Refusal, Rule};
@@ -179,7 +179,7 @@ pub fn least_by(rule: Rule, plan: &[u16], p: u16, t: u32) -> usize
 // The lowest start from which t ticks hold no more than `low`, which is the least.
 pub fn worst_start(rule: Rule, plan: &[u16], p: usize, t: usize, low: usize) -> usize
     requires { (t < 2 ^ 32) × (low ≡ least rule plan.now p t) }
-    ensures { (result ≤ length plan.now) × (result ≡ worstStart rule plan.now p t) }
+    ensures { (result ≤ length plan.now) × (result ≡ worst_start rule plan.now p t) }
 {
     let frame = plan.len();
     let mut stretch = stretch_from(rule, plan, p, t, 0);

@@ -6,5 +6,5 @@ use Rattle.rules.specs.declared.Refusal.{Refusal}
 use Rattle.rules.specs.declared.Filling.TheVariants.{Fills, Refused}
 
 -- a refusal is no filling
-pub no-filling : (n : ℕ) (x : Refusal) → ¬ (Refused x ≡ Fills n)
-no-filling n x e = let z : ◌≡◌ {A = ℕ} 0 1 = cc in absurd (omega arith)
+pub no_filling : (n : ℕ) (x : Refusal) → ¬ (Refused x ≡ Fills n)
+no_filling n x e = let z : ◌≡◌ {A = ℕ} 0 1 = cc in absurd (omega arith)

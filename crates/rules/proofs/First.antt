@@ -24,14 +24,14 @@ pub gathered-zero : (f : ℕ → List ℕ) → gathered f 0 ≡ []
 unfolding gathered
 gathered-zero f = refl
 
-pub gathered-more : (f : ℕ → List ℕ) (i : ℕ) → gathered f (i + 1) ≡ gathered f i ++ f i
+pub gathered_more : (f : ℕ → List ℕ) (i : ℕ) → gathered f (i + 1) ≡ gathered f i ++ f i
 unfolding gathered
-gathered-more f i = rw add-one
+gathered_more f i = rw add-one
 
-pub gathered-ext : (n : ℕ) (f g : ℕ → List ℕ) → ((k : ℕ) → k < n → f k ≡ g k) → gathered f n ≡ gathered g n
+pub gathered_ext : (n : ℕ) (f g : ℕ → List ℕ) → ((k : ℕ) → k < n → f k ≡ g k) → gathered f n ≡ gathered g n
 unfolding gathered
-gathered-ext zero f g h = refl
-gathered-ext (suc n) f g h = rw (gathered-ext n f g (λ k l. h k (omega arith)), h n (omega arith))
+gathered_ext zero f g h = refl
+gathered_ext (suc n) f g h = rw (gathered_ext n f g (λ k l. h k (omega arith)), h n (omega arith))
 
 module _ (p : ℕ → Bool) where
   pub first-zero : first p 0 ≡ 0
@@ -82,10 +82,10 @@ module _ (p : ℕ → Bool) where
           ⊎_elim (λ e. rw e eb) (λ (h : k < n). ih (omega (arith, ltb-false (first p n) n ea))) (eq-or-lt_of_le (le_of_suc-le-suc l))
 
   -- an answer below n passes
-  pub first-at : (n : ℕ) → first p n < n → p (first p n) ≡ true
+  pub first_at : (n : ℕ) → first p n < n → p (first p n) ≡ true
   unfolding first
-  first-at zero l = absurd (not-suc-le-zero l)
-  first-at (suc n) l = step (λ h. first-at n h) (ltb (first p n) n) (p n) refl refl l
+  first_at zero l = absurd (not-suc-le-zero l)
+  first_at (suc n) l = step (λ h. first_at n h) (ltb (first p n) n) (p n) refl refl l
     where
       step : (first p n < n → p (first p n) ≡ true) → (a b : Bool) → ltb (first p n) n ≡ a → p n ≡ b → pick a (first p n) (pick b n (suc n)) < suc n → p (pick a (first p n) (pick b n (suc n))) ≡ true
       step ih true b ea eb l = ih (ltb-true (first p n) n ea)
@@ -103,7 +103,7 @@ module _ (p : ℕ → Bool) where
   -- nothing passes below n, said both ways
   pub first-none : (n : ℕ) → ((k : ℕ) → k < n → p k ≡ false) → first p n ≡ n
   first-none n h =
-      ⊎_elim (λ e. e) (λ (l : first p n < n). absurd (true≢false (sym (first-at n l) ∙ h (first p n) l))) (eq-or-lt_of_le (first-le n))
+      ⊎_elim (λ e. e) (λ (l : first p n < n). absurd (true≢false (sym (first_at n l) ∙ h (first p n) l))) (eq-or-lt_of_le (first-le n))
 
   pub first-all : (n : ℕ) → first p n ≡ n → (k : ℕ) → k < n → p k ≡ false
   first-all n e k l = first-before n k (rw e l)
@@ -128,12 +128,12 @@ pub every_first : (p : ℕ → Bool) (n : ℕ) → Every p n → first (fails p)
 unfolding fails
 every_first p n g = first-none (fails p) n (λ k l. rw (g k l))
 
-pub first-every : (p : ℕ → Bool) (n : ℕ) → n ≤ first (fails p) n → Every p n
+pub first_every : (p : ℕ → Bool) (n : ℕ) → n ≤ first (fails p) n → Every p n
 unfolding fails
-first-every p n h k l = not-false _ (first_past (fails p) n h k l)
+first_every p n h k l = not-false _ (first_past (fails p) n h k l)
 
 -- two tests that agree below n find the same
-pub first-ext : (n : ℕ) (p q : ℕ → Bool) → ((k : ℕ) → k < n → p k ≡ q k) → first p n ≡ first q n
+pub first_ext : (n : ℕ) (p q : ℕ → Bool) → ((k : ℕ) → k < n → p k ≡ q k) → first p n ≡ first q n
 unfolding first
-first-ext zero p q h = refl
-first-ext (suc n) p q h = rw (first-ext n p q (λ k l. h k (omega arith)), h n (omega arith))
+first_ext zero p q h = refl
+first_ext (suc n) p q h = rw (first_ext n p q (λ k l. h k (omega arith)), h n (omega arith))

@@ -1,4 +1,4 @@
--- Laws of `firstLeast`: what a loop from the end downwards says, and what is known of the answer. Assumes nothing.
+-- Laws of `first_least`: what a loop from the end downwards says, and what is known of the answer. Assumes nothing.
 use Prim.Native.Nat.{ℕ, zero, suc, ◌+◌, ◌≤◌, ◌<◌}
 use mathlib.Core.Path.{◌≡◌, refl, sym, ap, ap₂, subst, ◌∙◌}
 use mathlib.Core.Bool.{Bool, true, false, true≢false, not, ◌&&◌}
@@ -7,8 +7,8 @@ use native.Mathlib.Decide.{ℕ_discrete}
 use native.Mathlib.Omega.{arith}
 use lib.Dec.{leb, ltb}
 use borrow.Author.Tests.{lt-ltb, le-ltb, leb-true, leb-false}
-use Rattle.rules.specs.Walk.{pick, some, undercuts, leastAt, firstLeast}
-use Rattle.rules.proofs.First.{first_found, first-none, first-ext, some_at}
+use Rattle.rules.specs.Walk.{pick, some, undercuts, least_at, first_least}
+use Rattle.rules.proofs.First.{first_found, first-none, first_ext, some_at}
 use Rattle.rules.proofs.Sum.{le-or-lt}
 
 -- of those from a to n - 1 that pass, i is the lowest of those with the smallest f
@@ -20,11 +20,11 @@ pub record FirstFrom (p : ℕ → Bool) (f : ℕ → ℕ) (a n i : ℕ) : Type 0
   pub lower : (k : ℕ) → a ≤ k → k < i → p k ≡ true → f i < f k
 
 -- two tests and two numbers that agree below n
-pub first-least-ext : (n : ℕ) (p q : ℕ → Bool) (f g : ℕ → ℕ) → ((k : ℕ) → k < n → p k ≡ q k) → ((k : ℕ) → k < n → f k ≡ g k) → firstLeast p f n ≡ firstLeast q g n
-unfolding firstLeast leastAt undercuts
-first-least-ext n p q f g e h =
-    first-ext n _ _ (λ i l. ap₂ ◌&&◌ (e i l)
-    (ap (λ (r : ℕ). not (ltb r n)) (first-ext n _ _ (λ k m. ap₂ ◌&&◌ (e k m) (ap₂ ltb (h k m) (h i l))))))
+pub first-least_ext : (n : ℕ) (p q : ℕ → Bool) (f g : ℕ → ℕ) → ((k : ℕ) → k < n → p k ≡ q k) → ((k : ℕ) → k < n → f k ≡ g k) → first_least p f n ≡ first_least q g n
+unfolding first_least least_at undercuts
+first-least_ext n p q f g e h =
+    first_ext n _ _ (λ i l. ap₂ ◌&&◌ (e i l)
+    (ap (λ (r : ℕ). not (ltb r n)) (first_ext n _ _ (λ k m. ap₂ ◌&&◌ (e k m) (ap₂ ltb (h k m) (h i l))))))
 
 module _ (p : ℕ → Bool) (f : ℕ → ℕ) where
   none-undercuts : (n i k : ℕ) → FirstFrom p f 0 n i → k < n → undercuts p f (f i) k ≡ false
@@ -35,12 +35,12 @@ module _ (p : ℕ → Bool) (f : ℕ → ℕ) where
       go true e = le-ltb (f k) (f i) (w.smallest k (omega arith) l e)
       go false e = refl
 
-  least-here : (n i : ℕ) → FirstFrom p f 0 n i → leastAt p f n i ≡ true
-  unfolding leastAt
-  least-here n i w = rw (w.passes, first-none (undercuts p f (f i)) n (λ k l. none-undercuts n i k w l), le-ltb n n (omega arith))
+  least_here : (n i : ℕ) → FirstFrom p f 0 n i → least_at p f n i ≡ true
+  unfolding least_at
+  least_here n i w = rw (w.passes, first-none (undercuts p f (f i)) n (λ k l. none-undercuts n i k w l), le-ltb n n (omega arith))
 
-  not_lower : (n i k : ℕ) → FirstFrom p f 0 n i → k < i → leastAt p f n k ≡ false
-  unfolding leastAt undercuts
+  not_lower : (n i k : ℕ) → FirstFrom p f 0 n i → k < i → least_at p f n k ≡ false
+  unfolding least_at undercuts
   not_lower n i k w l = go (p k) refl
     where
       go : (b : Bool) → p k ≡ b → (b && not (some (undercuts p f (f k)) n)) ≡ false
@@ -50,9 +50,9 @@ module _ (p : ℕ → Bool) (f : ℕ → ℕ) where
           rw found
       go false e = refl
 
-  pub first-least-is : (n i : ℕ) → FirstFrom p f 0 n i → firstLeast p f n ≡ i
-  unfolding firstLeast
-  first-least-is n i w = first_found _ n i w.below (first-none _ i (λ k l. not_lower n i k w l)) (least-here n i w)
+  pub first-least_is : (n i : ℕ) → FirstFrom p f 0 n i → first_least p f n ≡ i
+  unfolding first_least
+  first-least_is n i w = first_found _ n i w.below (first-none _ i (λ k l. not_lower n i k w l)) (least_here n i w)
 
   -- ---- from the end downwards
 
@@ -153,9 +153,9 @@ module _ (p : ℕ → Bool) (f : ℕ → ℕ) where
       go false e (inl h) = inl (λ k l. at (λ x. p x ≡ false) k l e (λ m. h k m))
       go false e (inr w) = inr (w.0, stays w.0 w.1 (λ g. absurd (true≢false (sym g ∙ e))))
 
-  pub first-least-has : (n k : ℕ) → k < n → p k ≡ true → FirstFrom p f 0 n (firstLeast p f n)
-  first-least-has n k l e = go (exists n)
+  pub first-least_has : (n k : ℕ) → k < n → p k ≡ true → FirstFrom p f 0 n (first_least p f n)
+  first-least_has n k l e = go (exists n)
     where
-      go : ((k : ℕ) → k < n → p k ≡ false) ⊎ ((i : ℕ) × FirstFrom p f 0 n i) → FirstFrom p f 0 n (firstLeast p f n)
+      go : ((k : ℕ) → k < n → p k ≡ false) ⊎ ((i : ℕ) × FirstFrom p f 0 n i) → FirstFrom p f 0 n (first_least p f n)
       go (inl h) = absurd (true≢false (sym e ∙ h k l))
-      go (inr w) = subst (λ (x : ℕ). FirstFrom p f 0 n x) (sym (first-least-is n w.0 w.1)) w.1
+      go (inr w) = subst (λ (x : ℕ). FirstFrom p f 0 n x) (sym (first-least_is n w.0 w.1)) w.1

@@ -4,7 +4,7 @@ use mathlib.Core.Path.{◌≡◌, refl, sym, ap, ◌∙◌}
 use native.Mathlib.Omega.{arith}
 use lib.Dec.{eqb}
 use Rattle.rules.specs.Walk.{pick}
-use Rattle.rules.specs.Refusals.{placed, told, toldFinding, toldFilling, Tells}
+use Rattle.rules.specs.Refusals.{placed, told, told_finding, told_filling, Tells}
 use Rattle.rules.specs.declared.Told.{Told}
 use Rattle.rules.specs.declared.Refusal.{Refusal}
 use Rattle.rules.specs.declared.Refusal.TheVariants.{Short, Edition, Limits, Offset, Length, Partition, Task, Tick, Asked, Shortfall, Unharmonic, Want, Output, Rules, Numbers, Past, Busy, Full, NoPlace, Counts, Granule, Beyond}
@@ -55,41 +55,41 @@ told_named Granule h = refl
 told_named (Beyond k) h = refl
 
 -- the refusal that is told as t
-pub by-told : (r : Refusal) (t : Told) → ¬ (t.number ≡ 8) → told r ≡ t → r ≡ named t.number t.first t.second t.third t.fourth
-by-told r t h e = told_named r (λ q. h (sym (ap (λ (u : Told). u.number) e) ∙ q)) ∙ ap (λ (u : Told). named u.number u.first u.second u.third u.fourth) e
+pub by_told : (r : Refusal) (t : Told) → ¬ (t.number ≡ 8) → told r ≡ t → r ≡ named t.number t.first t.second t.third t.fourth
+by_told r t h e = told_named r (λ q. h (sym (ap (λ (u : Told). u.number) e) ∙ q)) ∙ ap (λ (u : Told). named u.number u.first u.second u.third u.fourth) e
 
 -- the refusal of a number, for those told without values
 pub by_number : (r : Refusal) (n : ℕ) → ¬ (n ≡ 8) → (told r).number ≡ n → r ≡ named n (told r).first (told r).second (told r).third (told r).fourth
 by_number r n h e = told_named r (λ q. h (sym e ∙ q)) ∙ ap (λ (m : ℕ). named m (told r).first (told r).second (told r).third (told r).fourth) e
 
 -- no refusal has number 0
-pub not-0 : (r : Refusal) → ¬ ((told r).number ≡ 0)
-not-0 r e = let z : (told r).number ≡ 26 = ap (λ (x : Refusal). (told x).number) (by_number r 0 (λ q. absurd (omega arith)) e) in absurd (omega arith)
+pub not_0 : (r : Refusal) → ¬ ((told r).number ≡ 0)
+not_0 r e = let z : (told r).number ≡ 26 = ap (λ (x : Refusal). (told x).number) (by_number r 0 (λ q. absurd (omega arith)) e) in absurd (omega arith)
 
 -- ---- what is told of findings and fillings
 
-pub found-good : (f : Finding) → (toldFinding f).number ≡ 0 → f ≡ found.Good
+pub found-good : (f : Finding) → (told_finding f).number ≡ 0 → f ≡ found.Good
 found-good found.Good e = refl
-found-good (found.Refused r) e = absurd (not-0 r e)
+found-good (found.Refused r) e = absurd (not_0 r e)
 
-pub found-refused : (f : Finding) (t : Told) → 1 ≤ t.number → ¬ (t.number ≡ 8) → toldFinding f ≡ t
+pub found-refused : (f : Finding) (t : Told) → 1 ≤ t.number → ¬ (t.number ≡ 8) → told_finding f ≡ t
     → f ≡ found.Refused (named t.number t.first t.second t.third t.fourth)
 found-refused found.Good t h g e = let z : 0 ≡ t.number = ap (λ (u : Told). u.number) e in absurd (omega arith)
-found-refused (found.Refused r) t h g e = ap found.Refused (by-told r t g e)
+found-refused (found.Refused r) t h g e = ap found.Refused (by_told r t g e)
 
-pub filling-fills : (f : Filling) → (toldFilling f).number ≡ 0 → f ≡ filling.Fills (toldFilling f).first
-filling-fills (filling.Fills n) e = refl
-filling-fills (filling.Refused r) e = absurd (not-0 r e)
+pub filling_fills : (f : Filling) → (told_filling f).number ≡ 0 → f ≡ filling.Fills (told_filling f).first
+filling_fills (filling.Fills n) e = refl
+filling_fills (filling.Refused r) e = absurd (not_0 r e)
 
-pub filling-as : (f : Filling) (n : ℕ) → toldFilling f ≡ placed 0 n → f ≡ filling.Fills n
-filling-as f n e = filling-fills f (ap (λ (u : Told). u.number) e) ∙ ap (λ (u : Told). filling.Fills u.first) e
+pub filling_as : (f : Filling) (n : ℕ) → told_filling f ≡ placed 0 n → f ≡ filling.Fills n
+filling_as f n e = filling_fills f (ap (λ (u : Told). u.number) e) ∙ ap (λ (u : Told). filling.Fills u.first) e
 
-pub filling-refused : (f : Filling) (n : ℕ) → 1 ≤ n → (toldFilling f).number ≡ n → (r : Refusal) × (f ≡ filling.Refused r) × ((told r).number ≡ n)
-filling-refused (filling.Fills m) n h e = absurd (omega arith)
-filling-refused (filling.Refused r) n h e = (r, refl, e)
+pub filling_refused : (f : Filling) (n : ℕ) → 1 ≤ n → (told_filling f).number ≡ n → (r : Refusal) × (f ≡ filling.Refused r) × ((told r).number ≡ n)
+filling_refused (filling.Fills m) n h e = absurd (omega arith)
+filling_refused (filling.Refused r) n h e = (r, refl, e)
 
 -- ---- a call's answer
 
 -- a call that tells what is told of the one answer f
-pub tells-one : {A : Type 0} (tell : A → Told) (Answers : A → Type 0) (f : A) → ((r : A) → Answers r → r ≡ f) → (t : Told) → Tells tell Answers t → t ≡ tell f
-tells-one tell Answers f one t (r, p, e) = e ∙ ap tell (one r p)
+pub tells_one : {A : Type 0} (tell : A → Told) (Answers : A → Type 0) (f : A) → ((r : A) → Answers r → r ≡ f) → (t : Told) → Tells tell Answers t → t ≡ tell f
+tells_one tell Answers f one t (r, p, e) = e ∙ ap tell (one r p)

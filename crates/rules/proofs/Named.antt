@@ -24,8 +24,8 @@ listed_at o zero t h = absurd (omega arith)
 listed_at o (suc n) zero h = refl
 listed_at o (suc n) (suc t) h = listed_at (λ k. o (suc k)) n t (omega arith)
 
-pub listed-past : (o : ℕ → ℕ) (n t : ℕ) → n ≤ t → get_or (listed o n) t 0 ≡ 0
-listed-past o n t h = get_or-eq_default (listed o n) 0 {n = t} (omega (arith, listed-length o n))
+pub listed_past : (o : ℕ → ℕ) (n t : ℕ) → n ≤ t → get_or (listed o n) t 0 ≡ 0
+listed_past o n t h = get_or-eq_default (listed o n) 0 {n = t} (omega (arith, listed-length o n))
 
 -- ---- a pass
 
@@ -51,27 +51,27 @@ pub named_end : (o : ℕ → ℕ) (t h : ℕ) (before after : List ℕ) → t �
 named_end o t h before after l g w = let e : t ≡ h = omega arith in rw e at w
 
 -- another namer that agrees on the first h numbers
-pub named-as : (o o' : ℕ → ℕ) (h : ℕ) (before after : List ℕ) → ((t : ℕ) → t < h → o t ≡ o' t) → AsNamed o h before after → AsNamed o' h before after
-named-as o o' h before after e w = record { as_long = w.as_long; done = λ t l. w.done t l ∙ e t l; rest = w.rest }
+pub named_as : (o o' : ℕ → ℕ) (h : ℕ) (before after : List ℕ) → ((t : ℕ) → t < h → o t ≡ o' t) → AsNamed o h before after → AsNamed o' h before after
+named_as o o' h before after e w = record { as_long = w.as_long; done = λ t l. w.done t l ∙ e t l; rest = w.rest }
 
 -- one pass after another
-pub named-then : (o o' : ℕ → ℕ) (h : ℕ) (before cur after : List ℕ) → AsNamed o h before cur → AsNamed o' h cur after → AsNamed o' h before after
-named-then o o' h before cur after v w = record { as_long = w.as_long ∙ v.as_long; done = w.done; rest = λ t l. w.rest t l ∙ v.rest t l }
+pub named_then : (o o' : ℕ → ℕ) (h : ℕ) (before cur after : List ℕ) → AsNamed o h before cur → AsNamed o' h cur after → AsNamed o' h before after
+named_then o o' h before cur after v w = record { as_long = w.as_long ∙ v.as_long; done = w.done; rest = λ t l. w.rest t l ∙ v.rest t l }
 
 -- what a pass left, as it stands
 pub named_self : (o : ℕ → ℕ) (h : ℕ) (before after : List ℕ) → AsNamed o h before after → AsNamed o h after after
 named_self o h before after w = record { as_long = refl; done = w.done; rest = λ t l. refl }
 
 -- new numbers in front leave what stands behind them
-behind-new : (new old : List ℕ) (n t : ℕ) → length new ≡ n → n ≤ t → get_or (new ++ drop n old) t 0 ≡ get_or old t 0
-behind-new new old n t m l =
+behind_new : (new old : List ℕ) (n t : ℕ) → length new ≡ n → n ≤ t → get_or (new ++ drop n old) t 0 ≡ get_or old t 0
+behind_new new old n t m l =
     let e : t ≡ length new + (t - n) = omega arith in
     let s : n + (t - n) ≡ t = omega arith in
     ap (λ (x : ℕ). get_or (new ++ drop n old) x 0) e ∙ get_or-append-add new (drop n old) (t - n) 0 ∙ get_or-drop n old (t - n) 0 ∙ ap (λ (x : ℕ). get_or old x 0) s
 
 -- what new numbers leave of an output behind them
-pub new-tail : (new old o : List ℕ) (n : ℕ) → o ≡ new ++ drop n old → length new ≡ n → n ≤ length old → (length o ≡ length old) × ((i : ℕ) → n ≤ i → get_or o i 0 ≡ get_or old i 0)
-new-tail new old o n e m l = (long, λ i h. ap (λ (x : List ℕ). get_or x i 0) e ∙ behind-new new old n i m h)
+pub new_tail : (new old o : List ℕ) (n : ℕ) → o ≡ new ++ drop n old → length new ≡ n → n ≤ length old → (length o ≡ length old) × ((i : ℕ) → n ≤ i → get_or o i 0 ≡ get_or old i 0)
+new_tail new old o n e m l = (long, λ i h. ap (λ (x : List ℕ). get_or x i 0) e ∙ behind_new new old n i m h)
   where
     long : length o ≡ length old
     long = let z : length o ≡ length new + length (drop n old) = ap length e ∙ length-append new (drop n old) in omega (arith, z, length-drop n old)
@@ -86,4 +86,4 @@ named-list o h before after l w =
   where
     at : (t : ℕ) → (h ≤ t) ⊎ (t < h) → get_or after t 0 ≡ get_or (listed o h ++ drop h before) t 0
     at t (inr g) = w.done t g ∙ sym (get_or-append (listed o h) (drop h before) 0 t (omega (arith, listed-length o h)) ∙ listed_at o h t g)
-    at t (inl g) = w.rest t g ∙ sym (behind-new (listed o h) before h t (listed-length o h) g)
+    at t (inl g) = w.rest t g ∙ sym (behind_new (listed o h) before h t (listed-length o h) g)

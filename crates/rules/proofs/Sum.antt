@@ -19,13 +19,13 @@ le-or-lt a b = go (dec_le a b)
 
 -- ---- x where a test holds
 
-pub only-true : (b : Bool) (x : ℕ) → b ≡ true → only b x ≡ x
+pub only_true : (b : Bool) (x : ℕ) → b ≡ true → only b x ≡ x
 unfolding only
-only-true b x e = rw e
+only_true b x e = rw e
 
-pub only-false : (b : Bool) (x : ℕ) → b ≡ false → only b x ≡ 0
+pub only_false : (b : Bool) (x : ℕ) → b ≡ false → only b x ≡ 0
 unfolding only
-only-false b x e = rw e
+only_false b x e = rw e
 
 pub only-T : (b : Bool) (x : ℕ) → T b → only b x ≡ x
 unfolding only
@@ -37,10 +37,10 @@ unfolding only
 only-F true x h = absurd (h tt)
 only-F false x h = refl
 
-pub only-pos : (b : Bool) (x : ℕ) → 0 < only b x → T b
+pub only_pos : (b : Bool) (x : ℕ) → 0 < only b x → T b
 unfolding only
-only-pos true x h = tt
-only-pos false x h = absurd (omega arith)
+only_pos true x h = tt
+only_pos false x h = absurd (omega arith)
 
 pub only_self : (b : Bool) (x : ℕ) → only b x ≤ x
 unfolding only
@@ -66,9 +66,9 @@ only-lt false x y h = (omega arith, omega arith)
 pub only-eq : (x y z : ℕ) → x ≡ y → only (eqb x y) z ≡ z
 only-eq x y z e = only-T (eqb x y) z (subst (λ (k : ℕ). T (eqb x k)) e (eqb_refl x))
 
-pub only-ne : (x y z : ℕ) → ¬ (x ≡ y) → only (eqb x y) z ≡ 0
+pub only_ne : (x y z : ℕ) → ¬ (x ≡ y) → only (eqb x y) z ≡ 0
 unfolding only
-only-ne x y z h = go (eqb x y) refl
+only_ne x y z h = go (eqb x y) refl
   where
     go : (b : Bool) → eqb x y ≡ b → only b z ≡ 0
     go true e = absurd (h (eqb→eq x y (subst T (sym e) tt)))
@@ -84,13 +84,13 @@ pub sum_more : (f : ℕ → ℕ) (i : ℕ) → sum f (i + 1) ≡ sum f i + f i
 unfolding sum
 sum_more f i = rw add-one
 
-pub sum-ext : (n : ℕ) (f g : ℕ → ℕ) → ((k : ℕ) → k < n → f k ≡ g k) → sum f n ≡ sum g n
+pub sum_ext : (n : ℕ) (f g : ℕ → ℕ) → ((k : ℕ) → k < n → f k ≡ g k) → sum f n ≡ sum g n
 unfolding sum
-sum-ext zero f g h = refl
-sum-ext (suc n) f g h = ap₂ ◌+◌ (sum-ext n f g (λ k l. h k (omega arith))) (h n (omega arith))
+sum_ext zero f g h = refl
+sum_ext (suc n) f g h = ap₂ ◌+◌ (sum_ext n f g (λ k l. h k (omega arith))) (h n (omega arith))
 
 pub sum-eq : (n : ℕ) (f g : ℕ → ℕ) → ((k : ℕ) → f k ≡ g k) → sum f n ≡ sum g n
-sum-eq n f g h = sum-ext n f g (λ k l. h k)
+sum-eq n f g h = sum_ext n f g (λ k l. h k)
 
 pub sum-le : (n : ℕ) (f g : ℕ → ℕ) → ((k : ℕ) → k < n → f k ≤ g k) → sum f n ≤ sum g n
 unfolding sum
@@ -115,19 +115,19 @@ unfolding sum
 sum-add zero f g = refl
 sum-add (suc n) f g = omega (arith, sum-add n f g)
 
-pub sum-split : (a b : ℕ) (f : ℕ → ℕ) → sum f (a + b) ≡ sum f a + sum (λ k. f (a + k)) b
+pub sum_split : (a b : ℕ) (f : ℕ → ℕ) → sum f (a + b) ≡ sum f a + sum (λ k. f (a + k)) b
 unfolding sum
-sum-split a zero f = rw (add-zero a, add-zero (sum f a))
-sum-split a (suc b) f = rw add-suc (omega (arith, sum-split a b f))
+sum_split a zero f = rw (add-zero a, add-zero (sum f a))
+sum_split a (suc b) f = rw add-suc (omega (arith, sum_split a b f))
 
 pub sum_mono : (f : ℕ → ℕ) {a b : ℕ} → a ≤ b → sum f a ≤ sum f b
 sum_mono f {a} {b} h =
     let e : a + (b - a) ≡ b = omega arith in
-    rw (← e) (omega (arith, sum-split a (b - a) f))
+    rw (← e) (omega (arith, sum_split a (b - a) f))
 
-pub sum-term : (n : ℕ) (f : ℕ → ℕ) (k : ℕ) → k < n → f k ≤ sum f n
+pub sum_term : (n : ℕ) (f : ℕ → ℕ) (k : ℕ) → k < n → f k ≤ sum f n
 unfolding sum
-sum-term n f k h = omega (arith, sum_mono f {a = suc k} {b = n} h)
+sum_term n f k h = omega (arith, sum_mono f {a = suc k} {b = n} h)
 
 pub sum_first : (n : ℕ) (f : ℕ → ℕ) → sum f (suc n) ≡ f 0 + sum (λ k. f (suc k)) n
 unfolding sum
@@ -150,10 +150,10 @@ sum-none zero = refl
 sum-none (suc n) = omega (arith, sum-none n)
 
 -- sums of sums, in either order
-pub sum-swap : (m n : ℕ) (f : ℕ → ℕ → ℕ) → sum (λ i. sum (f i) n) m ≡ sum (λ k. sum (λ i. f i k) m) n
+pub sum_swap : (m n : ℕ) (f : ℕ → ℕ → ℕ) → sum (λ i. sum (f i) n) m ≡ sum (λ k. sum (λ i. f i k) m) n
 unfolding sum
-sum-swap zero n f = sym (sum-none n)
-sum-swap (suc m) n f = ap (λ (x : ℕ). x + sum (f m) n) (sum-swap m n f) ∙ sym (sum-add n (λ k. sum (λ i. f i k) m) (f m))
+sum_swap zero n f = sym (sum-none n)
+sum_swap (suc m) n f = ap (λ (x : ℕ). x + sum (f m) n) (sum_swap m n f) ∙ sym (sum-add n (λ k. sum (λ i. f i k) m) (f m))
 
 -- x is at most one of the n numbers of an injective f
 pub sum_one : (n x : ℕ) (f : ℕ → ℕ) → ((i j : ℕ) → i < n → j < n → f i ≡ f j → i ≡ j) → (z : ℕ) → sum (λ k. only (eqb x (f k)) z) n ≤ z
@@ -164,9 +164,9 @@ sum_one (suc n) x f inj z = go (sum_one n x f (λ i j l m e. inj i j (omega arit
     go : sum (λ k. only (eqb x (f k)) z) n ≤ z → Dec (x ≡ f n) → sum (λ k. only (eqb x (f k)) z) n + only (eqb x (f n)) z ≤ z
     go ih (yes e) =
         let none : sum (λ k. only (eqb x (f k)) z) n ≤ sum (λ k. 0) n =
-        sum-le n _ _ (λ k h. omega (arith, only-ne x (f k) z (λ c. absurd (let q : k ≡ n = inj k n (omega arith) (omega arith) (sym c ∙ e) in omega arith)))) in
+        sum-le n _ _ (λ k h. omega (arith, only_ne x (f k) z (λ c. absurd (let q : k ≡ n = inj k n (omega arith) (omega arith) (sym c ∙ e) in omega arith)))) in
         omega (arith, sum-none n, only-eq x (f n) z e)
-    go ih (no h) = omega (arith, only-ne x (f n) z h)
+    go ih (no h) = omega (arith, only_ne x (f n) z h)
 
 -- ---- counts
 
@@ -174,15 +174,15 @@ pub count-zero : (p : ℕ → Bool) → count p 0 ≡ 0
 unfolding count sum
 count-zero p = refl
 
-pub count-more : (p : ℕ → Bool) (i : ℕ) → count p (i + 1) ≡ count p i + only (p i) 1
+pub count_more : (p : ℕ → Bool) (i : ℕ) → count p (i + 1) ≡ count p i + only (p i) 1
 unfolding count
-count-more p i = sum_more (λ k. only (p k) 1) i
+count_more p i = sum_more (λ k. only (p k) 1) i
 
 pub count-le : (p : ℕ → Bool) (n : ℕ) → count p n ≤ n
 unfolding count sum
 count-le p zero = zero-le
 count-le p (suc n) = omega (arith, count-le p n, only_self (p n) 1)
 
-pub count-ext : (n : ℕ) (p q : ℕ → Bool) → ((k : ℕ) → k < n → p k ≡ q k) → count p n ≡ count q n
+pub count_ext : (n : ℕ) (p q : ℕ → Bool) → ((k : ℕ) → k < n → p k ≡ q k) → count p n ≡ count q n
 unfolding count
-count-ext n p q h = sum-ext n (λ k. only (p k) 1) (λ k. only (q k) 1) (λ k l. ap (λ (b : Bool). only b 1) (h k l))
+count_ext n p q h = sum_ext n (λ k. only (p k) 1) (λ k. only (q k) 1) (λ k l. ap (λ (b : Bool). only b 1) (h k l))

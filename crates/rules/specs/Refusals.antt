@@ -26,30 +26,30 @@ abbrev pub questioned : ℕ → ℕ → Told
 questioned n question = telling n 0 question 0 0
 
 -- "whether the request's own deadline or a listed job's binds it": 1 or 2, and that job, else 0
-abbrev pub bindingKind : Binding → ℕ
-bindingKind Own = 1
-bindingKind (Listed job) = 2
+abbrev pub binding_kind : Binding → ℕ
+binding_kind Own = 1
+binding_kind (Listed job) = 2
 
-abbrev pub bindingJob : Binding → ℕ
-bindingJob Own = 0
-bindingJob (Listed job) = job
+abbrev pub binding_job : Binding → ℕ
+binding_job Own = 0
+binding_job (Listed job) = job
 
 -- "the lowest place with the largest room, that room", and what binds it; "If there is none .. say so": zeros
-abbrev pub roomiestPlace : Explanation → ℕ
-roomiestPlace Nowhere = 0
-roomiestPlace (Roomiest place room binding) = place
+abbrev pub roomiest_place : Explanation → ℕ
+roomiest_place Nowhere = 0
+roomiest_place (Roomiest place room binding) = place
 
-abbrev pub roomiestRoom : Explanation → ℕ
-roomiestRoom Nowhere = 0
-roomiestRoom (Roomiest place room binding) = room
+abbrev pub roomiest_room : Explanation → ℕ
+roomiest_room Nowhere = 0
+roomiest_room (Roomiest place room binding) = room
 
-abbrev pub roomiestKind : Explanation → ℕ
-roomiestKind Nowhere = 0
-roomiestKind (Roomiest place room binding) = bindingKind binding
+abbrev pub roomiest_kind : Explanation → ℕ
+roomiest_kind Nowhere = 0
+roomiest_kind (Roomiest place room binding) = binding_kind binding
 
-abbrev pub roomiestJob : Explanation → ℕ
-roomiestJob Nowhere = 0
-roomiestJob (Roomiest place room binding) = bindingJob binding
+abbrev pub roomiest_job : Explanation → ℕ
+roomiest_job Nowhere = 0
+roomiest_job (Roomiest place room binding) = binding_job binding
 
 abbrev pub told : Refusal → Told
 told Short = placed 1 0
@@ -71,7 +71,7 @@ told Numbers = placed 14 0
 told Past = placed 15 0
 told Busy = placed 16 0
 told Full = placed 17 0
-told (NoPlace why) = telling 18 (roomiestPlace why) (roomiestRoom why) (roomiestKind why) (roomiestJob why)
+told (NoPlace why) = telling 18 (roomiest_place why) (roomiest_room why) (roomiest_kind why) (roomiest_job why)
 -- 19, "a move would exceed a job's x", is gone: "The number isn't used again."
 -- "a list that disagrees with the plan is 20"
 told Counts = placed 20 0
@@ -81,19 +81,19 @@ told Granule = placed 21 0
 told (Beyond question) = questioned 26 question
 
 -- 0 where nothing tells against the call
-abbrev pub toldFinding : Finding → Told
-toldFinding found.Good = placed 0 0
-toldFinding (found.Refused r) = told r
+abbrev pub told_finding : Finding → Told
+told_finding found.Good = placed 0 0
+told_finding (found.Refused r) = told r
 
 -- 0 and the frame, the length of the file or text, or how many counts or answers
-abbrev pub toldFilling : Filling → Told
-toldFilling (filling.Fills n) = placed 0 n
-toldFilling (filling.Refused r) = told r
+abbrev pub told_filling : Filling → Told
+told_filling (filling.Fills n) = placed 0 n
+told_filling (filling.Refused r) = told r
 
 -- 0 and the count
-abbrev pub toldHolding : Holding → Told
-toldHolding (holding.Holds n) = placed 0 n
-toldHolding (holding.Refused r) = told r
+abbrev pub told_holding : Holding → Told
+told_holding (holding.Holds n) = placed 0 n
+told_holding (holding.Refused r) = told r
 
 -- a call tells t: what its rule permits as the answer, told so
 abbrev pub Tells : {A : Type 0} → (A → Told) → (A → Type 0) → Told → Type 0

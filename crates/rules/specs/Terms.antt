@@ -1,6 +1,6 @@
 -- The terms of a call: what is given with it besides its tables and its plan. Assumes nothing.
 use Rattle.std.specs.Prelude.{ℕ, List, Bool, ◌&&◌, leb, eqb}
-use Rattle.rules.specs.Limits.{mostGranule, newestEdition}
+use Rattle.rules.specs.Limits.{most_granule, newest_edition}
 use Rattle.rules.specs.Walk.{pick}
 use Rattle.rules.specs.Table.{cycle, num, den, wants}
 use Rattle.rules.specs.declared.Terms.{Terms}
@@ -8,16 +8,16 @@ use Rattle.rules.specs.declared.Rule.{Rule}
 use Rattle.rules.specs.declared.Rule.TheVariants.{Own, Switching}
 
 -- document 02, ask 6: "2 now means neither 1 nor 2, in a call too"
-unfoldable pub goodEdition : ℕ → Bool
-goodEdition e = leb 1 e && leb e newestEdition
+unfoldable pub good_edition : ℕ → Bool
+good_edition e = leb 1 e && leb e newest_edition
 
 -- "Files say edition 2; edition 1 files keep their rule for good"
-abbrev pub ruleOf : ℕ → Rule
-ruleOf e = pick (eqb e 1) Own Switching
+abbrev pub rule_of : ℕ → Rule
+rule_of e = pick (eqb e 1) Own Switching
 
 -- document 02, ask 5: "g from 1 to 16, given with the call"
-unfoldable pub goodGranule : ℕ → Bool
-goodGranule g = leb 1 g && leb g mostGranule
+unfoldable pub good_granule : ℕ → Bool
+good_granule g = leb 1 g && leb g most_granule
 
 -- given with a call: edition e, granule g
 abbrev pub given : ℕ → ℕ → Terms
@@ -36,8 +36,8 @@ abbrev pub usual : Terms
 usual = given 1 1
 
 -- which owned ticks serve in a call
-abbrev pub ruleIn : Terms → Rule
-ruleIn terms = ruleOf terms.edition
+abbrev pub rule_in : Terms → Rule
+rule_in terms = rule_of terms.edition
 
 -- what the partition at place k wants
 abbrev pub wanted : Terms → List ℕ → ℕ → ℕ

@@ -52,12 +52,12 @@ unfoldable pub undercuts : (ℕ → Bool) → (ℕ → ℕ) → ℕ → ℕ → 
 undercuts p f h k = p k && ltb (f k) h
 
 -- i passes the test, and no k < n that passes has a smaller f
-unfoldable pub leastAt : (ℕ → Bool) → (ℕ → ℕ) → ℕ → ℕ → Bool
-leastAt p f n i = p i && not (some (undercuts p f (f i)) n)
+unfoldable pub least_at : (ℕ → Bool) → (ℕ → ℕ) → ℕ → ℕ → Bool
+least_at p f n i = p i && not (some (undercuts p f (f i)) n)
 
 -- of the i < n that pass the test the one with the smallest f, the lowest on equals; n where none passes
-unfoldable pub firstLeast : (ℕ → Bool) → (ℕ → ℕ) → ℕ → ℕ
-firstLeast p f n = first (leastAt p f n) n
+unfoldable pub first_least : (ℕ → Bool) → (ℕ → ℕ) → ℕ → ℕ
+first_least p f n = first (least_at p f n) n
 
 -- n steps from x, at 0, 1, .., n - 1
 unfoldable pub walk : {A : Type 0} → (ℕ → A → A) → A → ℕ → A

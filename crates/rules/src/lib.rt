@@ -1,8 +1,8 @@
 // The rules that every call shares: limits, tables behind accessors, the terms of a call, and why it refuses.
 ghost use Rattle.std.specs.Prelude.{◌≡◌};
-ghost use Rattle.rules.specs.Refusals.{told, telling, placed, questioned, bindingKind, bindingJob};
+ghost use Rattle.rules.specs.Refusals.{told, telling, placed, questioned, binding_kind, binding_job};
 ghost use Rattle.rules.specs.declared.Refusal.TheVariants.{NoPlace};
-ghost use Rattle.rules.specs.Terms.{goodEdition, ruleOf, filed};
+ghost use Rattle.rules.specs.Terms.{good_edition, rule_of, filed};
 
 use limits::NEWEST_EDITION;
 
@@ -108,7 +108,7 @@ pub enum Holding {
 }
 
 pub fn good_edition(edition: usize) -> bool
-    ensures { result ≡ goodEdition edition }
+    ensures { result ≡ good_edition edition }
 {
     if edition < 1 {
         return false;
@@ -118,7 +118,7 @@ pub fn good_edition(edition: usize) -> bool
 
 // Which owned ticks serve, by an edition.
 pub fn rule_of(edition: usize) -> Rule
-    ensures { result ≡ ruleOf edition }
+    ensures { result ≡ rule_of edition }
 {
     if edition == 1 {
         return Rule::Own;
@@ -191,7 +191,7 @@ fn numbered(number: usize, place: usize) -> Told
 
 // What binds the room of a place: 1 the request's own deadline, 2 a listed job's, with that job.
 fn bound(place: usize, room: usize, binding: Binding) -> Told
-    ensures { result ≡ telling 18 place room (bindingKind binding) (bindingJob binding) }
+    ensures { result ≡ telling 18 place room (binding_kind binding) (binding_job binding) }
 {
     match binding {
         Binding::Own => telling(18, place, room, 1, 0),

@@ -6,13 +6,13 @@ use Rattle.share_line.specs.declared.What.{What}
 use Rattle.share_line.specs.declared.What.TheVariants.{Record, Number, Slash, End, EarlyGranule}
 
 -- what was expected, and the newline
-abbrev pub whatText : What → List ℕ
-whatText Record = bytes "`granule`, `partition` or `task`\n"
-whatText Number = bytes "a number from 0 to 65535\n"
-whatText Slash = bytes "`/`\n"
-whatText End = bytes "the end of the line\n"
-whatText EarlyGranule = bytes "`granule` once, before the partitions\n"
+abbrev pub what_text : What → List ℕ
+what_text Record = bytes "`granule`, `partition` or `task`\n"
+what_text Number = bytes "a number from 0 to 65535\n"
+what_text Slash = bytes "`/`\n"
+what_text End = bytes "the end of the line\n"
+what_text EarlyGranule = bytes "`granule` once, before the partitions\n"
 
 -- line K: expected ..
-unfoldable pub expectedLine : ℕ → What → List ℕ
-expectedLine k what = bytes "line " ++ decimal k ++ bytes ": expected " ++ whatText what
+unfoldable pub expected_line : ℕ → What → List ℕ
+expected_line k what = bytes "line " ++ decimal k ++ bytes ": expected " ++ what_text what

@@ -13,43 +13,43 @@ use Rattle.share_words.specs.Words.{found, word_at, ends_at, rest_of, same, high
 abbrev pub number_at : List ℕ → ℕ → ℕ
 number_at l k = numeral (word_at l k)
 
-abbrev pub noneAt : List ℕ → ℕ → Bool
-noneAt l k = ltb highest (number_at l k)
+abbrev pub none_at : List ℕ → ℕ → Bool
+none_at l k = ltb highest (number_at l k)
 
 -- `G`, behind the word `granule`
-unfoldable pub granuleRow : List ℕ → Row
-granuleRow l = pick (noneAt l 0) (Wrong Number) (pick (ends_at l 1) (Granule (number_at l 0)) (Wrong End))
+unfoldable pub granule_row : List ℕ → Row
+granule_row l = pick (none_at l 0) (Wrong Number) (pick (ends_at l 1) (Granule (number_at l 0)) (Wrong End))
 
 -- `CYCLE NUM/DEN`, behind the word `partition`
-unfoldable pub partRow : List ℕ → Row
-partRow l =
-    pick (noneAt l 0) (Wrong Number)
-    (pick (noneAt l 1) (Wrong Number)
+unfoldable pub part_row : List ℕ → Row
+part_row l =
+    pick (none_at l 0) (Wrong Number)
+    (pick (none_at l 1) (Wrong Number)
     (pick (not (same (word_at l 2) (bytes "/"))) (Wrong Slash)
-    (pick (noneAt l 3) (Wrong Number)
+    (pick (none_at l 3) (Wrong Number)
     (pick (ends_at l 4) (Partition (number_at l 0) (number_at l 1) (number_at l 3)) (Wrong End)))))
 
 -- `PARTITION C D T`, behind the word `task`
-unfoldable pub taskRow : List ℕ → Row
-taskRow l =
-    pick (noneAt l 0) (Wrong Number)
-    (pick (noneAt l 1) (Wrong Number)
-    (pick (noneAt l 2) (Wrong Number)
-    (pick (noneAt l 3) (Wrong Number)
+unfoldable pub task_row : List ℕ → Row
+task_row l =
+    pick (none_at l 0) (Wrong Number)
+    (pick (none_at l 1) (Wrong Number)
+    (pick (none_at l 2) (Wrong Number)
+    (pick (none_at l 3) (Wrong Number)
     (pick (ends_at l 4) (Task (number_at l 0) (number_at l 1) (number_at l 2) (number_at l 3)) (Wrong End)))))
 
 -- a line of words: none, or the record that its first word names
-unfoldable pub recordOf : List ℕ → Row
-recordOf l =
+unfoldable pub record_of : List ℕ → Row
+record_of l =
     pick (ends_at l 0) Nothing
-    (pick (same (word_at l 0) (bytes "granule")) (granuleRow (rest_of l))
-    (pick (same (word_at l 0) (bytes "partition")) (partRow (rest_of l))
-    (pick (same (word_at l 0) (bytes "task")) (taskRow (rest_of l))
+    (pick (same (word_at l 0) (bytes "granule")) (granule_row (rest_of l))
+    (pick (same (word_at l 0) (bytes "partition")) (part_row (rest_of l))
+    (pick (same (word_at l 0) (bytes "task")) (task_row (rest_of l))
     (Wrong Record))))
 
 -- a comment goes from `#` to the end of its line
 unfoldable pub row_of : List ℕ → Row
-row_of line = recordOf (take (found Comment line) line)
+row_of line = record_of (take (found Comment line) line)
 
 -- the granule is given once, before the partitions: behind such a line it comes too late
 abbrev pub closes : Row → Bool
@@ -60,17 +60,17 @@ closes (Task p c d t) = false
 closes (Wrong w) = false
 
 -- a line that can't be read, or that gives the granule behind a line that closes it
-abbrev pub isWrong : Bool → Row → Bool
-isWrong closed Nothing = false
-isWrong closed (Granule g) = closed
-isWrong closed (Partition m n d) = false
-isWrong closed (Task p c d t) = false
-isWrong closed (Wrong w) = true
+abbrev pub is_wrong : Bool → Row → Bool
+is_wrong closed Nothing = false
+is_wrong closed (Granule g) = closed
+is_wrong closed (Partition m n d) = false
+is_wrong closed (Task p c d t) = false
+is_wrong closed (Wrong w) = true
 
 -- what was expected in a line that is wrong
-abbrev pub whatOf : Row → What
-whatOf Nothing = End
-whatOf (Granule g) = EarlyGranule
-whatOf (Partition m n d) = End
-whatOf (Task p c d t) = End
-whatOf (Wrong w) = w
+abbrev pub what_of : Row → What
+what_of Nothing = End
+what_of (Granule g) = EarlyGranule
+what_of (Partition m n d) = End
+what_of (Task p c d t) = End
+what_of (Wrong w) = w

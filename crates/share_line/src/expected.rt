@@ -1,15 +1,15 @@
 // The line that says what was expected where.
 ghost use Rattle.std.specs.Prelude.{◌+◌, ◌≤◌, ◌<◌, ◌^◌};
 ghost use Rattle.output.specs.Put.{Put};
-ghost use Rattle.rules.specs.Limits.{longestLine};
-ghost use Rattle.share_line.specs.Expected.{whatText, expectedLine};
+ghost use Rattle.rules.specs.Limits.{longest_line};
+ghost use Rattle.share_line.specs.Expected.{what_text, expected_line};
 
 use crate::What;
 use output::{put_field, put_text};
 
 fn put_what(out: &mut [u8], at: usize, what: What) -> usize
     requires { at < 2 ^ 40 }
-    ensures { Put out.old at (whatText what) result out.new × (result ≤ at + 64) }
+    ensures { Put out.old at (what_text what) result out.new × (result ≤ at + 64) }
 {
     match what {
         What::Record => put_text(out, at, b"`granule`, `partition` or `task`\n"),
@@ -21,8 +21,8 @@ fn put_what(out: &mut [u8], at: usize, what: What) -> usize
 }
 
 pub fn put_expected(out: &mut [u8], line: usize, what: What) -> usize
-    ensures { Put out.old 0 (expectedLine line what) result out.new
-        × (result ≤ longestLine) }
+    ensures { Put out.old 0 (expected_line line what) result out.new
+        × (result ≤ longest_line) }
 {
     let a = put_field(out, 0, b"line ", line);
     let b = put_text(out, a, b": expected ");

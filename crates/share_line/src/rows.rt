@@ -1,7 +1,7 @@
 // The record that a line says, or what was expected in it first.
 ghost use Rattle.std.specs.Prelude.{◌≡◌, ◌||◌};
-ghost use Rattle.share_line.specs.Rows.{granuleRow, partRow, taskRow, recordOf, row_of, closes, isWrong, whatOf};
-ghost use Rattle.share_line.specs.Inner.{shareRow, timesRow};
+ghost use Rattle.share_line.specs.Rows.{granule_row, part_row, task_row, record_of, row_of, closes, is_wrong, what_of};
+ghost use Rattle.share_line.specs.Inner.{share_row, times_row};
 
 use crate::{Row, What};
 use share_words::Mark;
@@ -10,7 +10,7 @@ use share_words::words::{after_word, begins_with, find, no_word};
 
 // `G`, behind the word `granule`.
 fn granule_row(l: &[u8]) -> Row
-    ensures { result ≡ granuleRow l.now }
+    ensures { result ≡ granule_row l.now }
 {
     let granule = first_number(l);
     if HIGHEST < granule {
@@ -24,7 +24,7 @@ fn granule_row(l: &[u8]) -> Row
 
 // `NUM/DEN`, behind a cycle.
 fn share_row(cycle: u16, l: &[u8]) -> Row
-    ensures { result ≡ shareRow cycle l.now }
+    ensures { result ≡ share_row cycle l.now }
 {
     let num = first_number(l);
     if HIGHEST < num {
@@ -50,7 +50,7 @@ fn share_row(cycle: u16, l: &[u8]) -> Row
 }
 
 fn part_row(l: &[u8]) -> Row
-    ensures { result ≡ partRow l.now }
+    ensures { result ≡ part_row l.now }
 {
     let cycle = first_number(l);
     if HIGHEST < cycle {
@@ -61,7 +61,7 @@ fn part_row(l: &[u8]) -> Row
 
 // `D T`, behind a partition and C.
 fn times_row(partition: u16, budget: u16, l: &[u8]) -> Row
-    ensures { result ≡ timesRow partition budget l.now }
+    ensures { result ≡ times_row partition budget l.now }
 {
     let deadline = first_number(l);
     if HIGHEST < deadline {
@@ -84,7 +84,7 @@ fn times_row(partition: u16, budget: u16, l: &[u8]) -> Row
 }
 
 fn task_row(l: &[u8]) -> Row
-    ensures { result ≡ taskRow l.now }
+    ensures { result ≡ task_row l.now }
 {
     let partition = first_number(l);
     if HIGHEST < partition {
@@ -100,7 +100,7 @@ fn task_row(l: &[u8]) -> Row
 
 // A line of words: none, or the record that its first word names.
 fn record_of(l: &[u8]) -> Row
-    ensures { result ≡ recordOf l.now }
+    ensures { result ≡ record_of l.now }
 {
     if no_word(l) {
         return Row::Nothing;
@@ -147,7 +147,7 @@ pub fn closed_behind(closed: bool, row: Row) -> bool
 }
 
 pub fn is_wrong(closed: bool, row: Row) -> bool
-    ensures { result ≡ isWrong closed row }
+    ensures { result ≡ is_wrong closed row }
 {
     match row {
         Row::Nothing => false,
@@ -169,7 +169,7 @@ pub fn is_wrong(closed: bool, row: Row) -> bool
 
 // What was expected in a wrong row.
 pub fn what_of(row: Row) -> What
-    ensures { result ≡ whatOf row }
+    ensures { result ≡ what_of row }
 {
     match row {
         Row::Nothing => What::End,

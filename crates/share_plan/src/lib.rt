@@ -1,7 +1,7 @@
 // From a share table as text to the bytes of its plan file, in the edition asked for, or to one line that says why there is none.
 ghost use Rattle.std.specs.Prelude.{◌≡◌, ◌≤◌, max, length};
-ghost use Rattle.rules.specs.Limits.{longestLine};
-ghost use Rattle.share_plan.specs.Answer.{Plans, editionAsked};
+ghost use Rattle.rules.specs.Limits.{longest_line};
+ghost use Rattle.share_plan.specs.Answer.{Plans, edition_asked};
 
 use output::put_refusal;
 use plan_file::put_file_or_line;
@@ -14,7 +14,7 @@ mod plan_file; // plan_file.rt: the plan file of two tables, or the line of its 
 // Puts what the program writes at the start of `out`, as far as there is room. The answer is its length.
 pub fn plan(edition: usize, text: &[u8], out: &mut [u8]) -> usize
     ensures plans { Plans edition text.now out.old out.new result }
-    ensures upper_bound { result ≤ max longestLine (length out.old) }
+    ensures upper_bound { result ≤ max longest_line (length out.old) }
 {
     if !rules::good_edition(edition) {
         return put_refusal(out, Refusal::Edition);
@@ -37,7 +37,7 @@ pub fn plan(edition: usize, text: &[u8], out: &mut [u8]) -> usize
 
 // The edition that a program of so many words, its own name among them, is asked for by the one behind its name.
 pub fn edition_asked(words: usize, word: &[u8]) -> usize
-    ensures { result ≡ editionAsked words word.now }
+    ensures { result ≡ edition_asked words word.now }
 {
     if words == 1 {
         return 1;

@@ -2,11 +2,11 @@
 ghost use Rattle.std.specs.Prelude.{◌≡◌, ◌≤◌, max, length};
 ghost use Rattle.rules.specs.Limits.{longest};
 ghost use Rattle.output.specs.Put.{Put};
-ghost use Rattle.rules.specs.Limits.{longestLine};
-ghost use Rattle.rules.specs.Filling.{leftBy};
-ghost use Rattle.file_write.specs.Writer.{fileOf, writeOf};
-ghost use Rattle.file_runs.specs.Ticks.{runsOf};
-ghost use Rattle.share_plan.specs.Answer.{checkedWrite, writeBuiltOf, writePlanOf, planFile, shortLine, whyLine, fileOrLine};
+ghost use Rattle.rules.specs.Limits.{longest_line};
+ghost use Rattle.rules.specs.Filling.{left_by};
+ghost use Rattle.file_write.specs.Writer.{file_of, write_of};
+ghost use Rattle.file_runs.specs.Ticks.{runs_of};
+ghost use Rattle.share_plan.specs.Answer.{checked_write, write_built_of, write_plan_of, plan_file, short_line, why_line, file_or_line};
 
 use output::{put_field, put_refusal, put_text};
 use rules::limits::{LONGEST, RUN_NUMBERS};
@@ -22,10 +22,10 @@ fn write_ticks(
     out: &mut [u8],
 ) -> Filling
     requires { length plan.now ≤ longest }
-    ensures { (result ≡ writeOf edition frame parts.now tasks.now (runsOf plan.now)
+    ensures { (result ≡ write_of edition frame parts.now tasks.now (runs_of plan.now)
         (length out.old))
-        × (out.new ≡ leftBy result (fileOf edition frame parts.now tasks.now
-        (runsOf plan.now)) out.old) }
+        × (out.new ≡ left_by result (file_of edition frame parts.now tasks.now
+        (runs_of plan.now)) out.old) }
 {
     let mut runs = [0u16; RUN_NUMBERS];
     let n = file_runs::runs_of(plan, &mut runs);
@@ -42,10 +42,10 @@ fn write_checked(
     out: &mut [u8],
 ) -> Filling
     requires { length plan.now ≤ longest }
-    ensures { (result ≡ checkedWrite terms frame parts.now tasks.now plan.now
+    ensures { (result ≡ checked_write terms frame parts.now tasks.now plan.now
         (length out.old))
-        × (out.new ≡ leftBy result (fileOf terms.edition frame parts.now tasks.now
-        (runsOf plan.now)) out.old) }
+        × (out.new ≡ left_by result (file_of terms.edition frame parts.now tasks.now
+        (runs_of plan.now)) out.old) }
 {
     let checked = plan_check::check(terms, plan, parts);
     match checked {
@@ -56,8 +56,8 @@ fn write_checked(
 
 // The builder's plan as a file.
 fn write_built(terms: Terms, parts: &[u16], tasks: &[u16], out: &mut [u8]) -> Filling
-    ensures { (result ≡ writeBuiltOf terms parts.now tasks.now (length out.old))
-        × (out.new ≡ leftBy result (planFile terms parts.now tasks.now) out.old) }
+    ensures { (result ≡ write_built_of terms parts.now tasks.now (length out.old))
+        × (out.new ≡ left_by result (plan_file terms parts.now tasks.now) out.old) }
 {
     let mut plan = [0u16; LONGEST];
     let built = plan_build::build(terms, parts, &mut plan);
@@ -68,8 +68,8 @@ fn write_built(terms: Terms, parts: &[u16], tasks: &[u16], out: &mut [u8]) -> Fi
 }
 
 fn write_plan(terms: Terms, parts: &[u16], tasks: &[u16], out: &mut [u8]) -> Filling
-    ensures { (result ≡ writePlanOf terms parts.now tasks.now (length out.old))
-        × (out.new ≡ leftBy result (planFile terms parts.now tasks.now) out.old) }
+    ensures { (result ≡ write_plan_of terms parts.now tasks.now (length out.old))
+        × (out.new ≡ left_by result (plan_file terms parts.now tasks.now) out.old) }
 {
     let judged = tables::judge_tables(terms, LONGEST, parts, tasks);
     match judged {
@@ -80,8 +80,8 @@ fn write_plan(terms: Terms, parts: &[u16], tasks: &[u16], out: &mut [u8]) -> Fil
 
 // The line of 9, which says what is short.
 fn put_short(out: &mut [u8], partition: usize, start: usize, held: usize, wanted: usize) -> usize
-    ensures { Put out.old 0 (shortLine partition start held wanted) result out.new
-        × (result ≤ longestLine) }
+    ensures { Put out.old 0 (short_line partition start held wanted) result out.new
+        × (result ≤ longest_line) }
 {
     let a = put_field(out, 0, b"refused 9 partition ", partition);
     let b = put_field(out, a, b" start ", start);
@@ -92,8 +92,8 @@ fn put_short(out: &mut [u8], partition: usize, start: usize, held: usize, wanted
 
 // The line of a refusal.
 fn put_why(out: &mut [u8], refusal: Refusal) -> usize
-    ensures { Put out.old 0 (whyLine refusal) result out.new
-        × (result ≤ longestLine) }
+    ensures { Put out.old 0 (why_line refusal) result out.new
+        × (result ≤ longest_line) }
 {
     let t = rules::tell(refusal);
     if t.number == 9 {
@@ -104,9 +104,9 @@ fn put_why(out: &mut [u8], refusal: Refusal) -> usize
 
 pub fn put_file_or_line(terms: Terms, parts: &[u16], tasks: &[u16], out: &mut [u8]) -> usize
     ensures { Put out.old 0
-        (fileOrLine terms parts.now tasks.now (length out.old))
+        (file_or_line terms parts.now tasks.now (length out.old))
         result out.new
-        × (result ≤ max longestLine (length out.old)) }
+        × (result ≤ max longest_line (length out.old)) }
 {
     let w = write_plan(terms, parts, tasks, out);
     match w {

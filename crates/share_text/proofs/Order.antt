@@ -16,7 +16,7 @@ use Rattle.rules.specs.declared.Refusal.TheVariants.{Limits}
 use Rattle.rules.specs.Walk.{pick, first, some, gathered}
 use Rattle.rules.proofs.Sum.{le-or-lt}
 use Rattle.rules.proofs.Tests.{pick_second}
-use Rattle.rules.proofs.First.{first-zero, first_more, first-at, first-none, some-none, some_at, gathered-more}
+use Rattle.rules.proofs.First.{first-zero, first_more, first_at, first-none, some-none, some_at, gathered_more}
 use Rattle.output.specs.Put.{Put}
 use Rattle.output.proofs.Put.{and_then}
 use Rattle.share_words.specs.declared.Mark.TheVariants as mark
@@ -30,39 +30,39 @@ use Rattle.share_line.specs.declared.Row.TheVariants.{Nothing, Wrong}
 use Rattle.share_text.specs.declared.TableReading.{TableReading}
 use Rattle.share_text.specs.declared.TableReading.TheVariants.{Numbers, Refused}
 use Rattle.share_words.specs.Words.{found, width, word_of}
-use Rattle.share_line.specs.Rows.{recordOf, row_of, closes, isWrong, whatOf}
-use Rattle.share_text.specs.Table.{line_of, afterLine, fromLine, row_at, closes_at, closedAt, wrongAt, firstWrong, numsIn, numsAt, recordsOf, granuleOf, longestText, seenOf, sizedOf, read_by, readTextOf}
+use Rattle.share_line.specs.Rows.{record_of, row_of, closes, is_wrong, what_of}
+use Rattle.share_text.specs.Table.{line_of, after_line, from_line, row_at, closes_at, closed_at, wrong_at, first_wrong, nums_in, nums_at, records_of, granule_of, longest_text, seen_of, sized_of, read_by, read_text_of}
 
 -- the line that begins at a place, and where the next one does
-pub line-is : (t : List ℕ) (at e : ℕ) → e ≡ found mark.Line (take (length t - at) (drop at t)) → take e (take (length t - at) (drop at t)) ≡ line_of (drop at t)
+pub line_is : (t : List ℕ) (at e : ℕ) → e ≡ found mark.Line (take (length t - at) (drop at t)) → take e (take (length t - at) (drop at t)) ≡ line_of (drop at t)
 unfolding line_of
-line-is t at e h = let f : e ≡ found mark.Line (drop at t) = rw (tail at t) at h in rw (tail at t, ← f)
+line_is t at e h = let f : e ≡ found mark.Line (drop at t) = rw (tail at t) at h in rw (tail at t, ← f)
 
-pub after-some : (t : List ℕ) (at e : ℕ) → e ≡ found mark.Line (take (length t - at) (drop at t)) → drop (at + (e + 1)) t ≡ afterLine (drop at t)
-unfolding afterLine
+pub after-some : (t : List ℕ) (at e : ℕ) → e ≡ found mark.Line (take (length t - at) (drop at t)) → drop (at + (e + 1)) t ≡ after_line (drop at t)
+unfolding after_line
 after-some t at e h = let f : e ≡ found mark.Line (drop at t) = rw (tail at t) at h in rw (← f) (sym (drop-drop (e + 1) at t))
 
-pub after_none : (t : List ℕ) (at e : ℕ) → e ≡ found mark.Line (take (length t - at) (drop at t)) → length (take (length t - at) (drop at t)) ≤ e → drop (length t) t ≡ afterLine (drop at t)
-unfolding afterLine
+pub after_none : (t : List ℕ) (at e : ℕ) → e ≡ found mark.Line (take (length t - at) (drop at t)) → length (take (length t - at) (drop at t)) ≤ e → drop (length t) t ≡ after_line (drop at t)
+unfolding after_line
 after_none t at e h l =
     let f : e ≡ found mark.Line (drop at t) = rw (tail at t) at h in
     let m : length (drop at t) ≤ e = rw (tail at t) at l in
     drop-length t ∙ sym (rw (← f) (drop_of_length-le (drop at t) {i = e + 1} (omega arith)))
 
-from_more : (t : List ℕ) (k : ℕ) → fromLine t (k + 1) ≡ afterLine (fromLine t k)
-unfolding fromLine
+from_more : (t : List ℕ) (k : ℕ) → from_line t (k + 1) ≡ after_line (from_line t k)
+unfolding from_line
 from_more t k = rw add-one
 
 -- a loop over the lines, at line k and its place in the text
 pub record Reached (t : List ℕ) (at k : ℕ) : Type 0 where
   pub within : k ≤ at
-  pub from : drop at t ≡ fromLine t k
+  pub from : drop at t ≡ from_line t k
 
 pub reached-start : (t : List ℕ) → Reached t 0 0
-unfolding fromLine
+unfolding from_line
 reached-start t = record { within = omega arith; from = refl }
 
-pub reached-next : {t : List ℕ} {at k : ℕ} (r : ℕ) → Reached t at k → at < r → drop r t ≡ afterLine (drop at t) → Reached t r (k + 1)
+pub reached-next : {t : List ℕ} {at k : ℕ} (r : ℕ) → Reached t at k → at < r → drop r t ≡ after_line (drop at t) → Reached t r (k + 1)
 reached-next {t} {at} {k} r a l e = record { within = omega (arith, a.within); from = e ∙ rw (a.from, from_more t k) }
 
 pub reached-row : {t : List ℕ} {at k : ℕ} {row : Row} → Reached t at k → row ≡ row_of (line_of (drop at t)) → row ≡ row_at t k
@@ -71,22 +71,22 @@ reached-row a e = e ∙ rw a.from
 
 -- nothing is left behind the end
 empty-row : row_of (line_of []) ≡ Nothing
-unfolding row_of line_of recordOf word_of width first
+unfolding row_of line_of record_of word_of width first
 empty-row = refl
 
-after-empty : afterLine [] ≡ []
-unfolding afterLine first
+after-empty : after_line [] ≡ []
+unfolding after_line first
 after-empty = refl
 
-left-empty : (t : List ℕ) (k j : ℕ) → k ≤ j → fromLine t k ≡ [] → fromLine t j ≡ []
-unfolding fromLine
-left-empty t k j h e = le_ind {n = k} (λ m. fromLine t m ≡ []) e (λ m l i. ap afterLine i ∙ after-empty) j h
+left-empty : (t : List ℕ) (k j : ℕ) → k ≤ j → from_line t k ≡ [] → from_line t j ≡ []
+unfolding from_line
+left-empty t k j h e = le_ind {n = k} (λ m. from_line t m ≡ []) e (λ m l i. ap after_line i ∙ after-empty) j h
 
-row-empty : (t : List ℕ) (k j : ℕ) → k ≤ j → fromLine t k ≡ [] → row_at t j ≡ Nothing
+row-empty : (t : List ℕ) (k j : ℕ) → k ≤ j → from_line t k ≡ [] → row_at t j ≡ Nothing
 unfolding row_at
 row-empty t k j h e = rw (left-empty t k j h e) empty-row
 
-past : {t : List ℕ} {at k : ℕ} → Reached t at k → length t ≤ at → fromLine t k ≡ []
+past : {t : List ℕ} {at k : ℕ} → Reached t at k → length t ≤ at → from_line t k ≡ []
 past {t} {at} a l = sym a.from ∙ drop_of_length-le t l
 
 -- ---- wrong lines
@@ -94,18 +94,18 @@ past {t} {at} a l = sym a.from ∙ drop_of_length-le t l
 first_rest : (p : ℕ → Bool) (k n : ℕ) → k ≤ n → first p k ≡ k → ((j : ℕ) → k ≤ j → p j ≡ false) → first p n ≡ n
 first_rest p k n h e f = le_ind {n = k} (λ m. first p m ≡ m) e (λ m l i. sym (ap (first p) (add-one m)) ∙ first_more p m i (f m l) ∙ add-one m) n h
 
-pub none-wrong : {t : List ℕ} {at k : ℕ} → Reached t at k → at ≤ length t → length t ≤ at → first (wrongAt t) k ≡ k → Good ≡ seenOf t
-unfolding seenOf wrongAt
-none-wrong {t} {at} {k} a h l e =
-    rw (first_rest (wrongAt t) k (length t) (omega (arith, a.within)) e (λ j m. rw (row-empty t k j m (past a l))), le-ltb (length t) (length t) (omega arith))
+pub none_wrong : {t : List ℕ} {at k : ℕ} → Reached t at k → at ≤ length t → length t ≤ at → first (wrong_at t) k ≡ k → Good ≡ seen_of t
+unfolding seen_of wrong_at
+none_wrong {t} {at} {k} a h l e =
+    rw (first_rest (wrong_at t) k (length t) (omega (arith, a.within)) e (λ j m. rw (row-empty t k j m (past a l))), le-ltb (length t) (length t) (omega arith))
 
-pub some-wrong : (t : List ℕ) (k : ℕ) (row : Row) → k < length t → firstWrong t ≡ k → row ≡ row_at t k → Line (k + 1) (whatOf row) ≡ seenOf t
-unfolding seenOf
-some-wrong t k row l e r = rw (e, lt-ltb k (length t) l, r)
+pub some_wrong : (t : List ℕ) (k : ℕ) (row : Row) → k < length t → first_wrong t ≡ k → row ≡ row_at t k → Line (k + 1) (what_of row) ≡ seen_of t
+unfolding seen_of
+some_wrong t k row l e r = rw (e, lt-ltb k (length t) l, r)
 
-pub wrong-is : (t : List ℕ) (k : ℕ) {row : Row} {closed r b : Bool} → row ≡ row_at t k → closed ≡ closedAt t k → r ≡ isWrong closed row → r ≡ b → wrongAt t k ≡ b
-unfolding wrongAt
-wrong-is t k e c f g = rw (← e, ← c) (sym f ∙ g)
+pub wrong_is : (t : List ℕ) (k : ℕ) {row : Row} {closed r b : Bool} → row ≡ row_at t k → closed ≡ closed_at t k → r ≡ is_wrong closed row → r ≡ b → wrong_at t k ≡ b
+unfolding wrong_at
+wrong_is t k e c f g = rw (← e, ← c) (sym f ∙ g)
 
 -- ---- lines that close the granule
 
@@ -118,84 +118,84 @@ some_more p k = at (p k) (some p k) refl refl
 
     at : (a b : Bool) → p k ≡ a → some p k ≡ b → a || b ≡ some p (k + 1)
     at true b e f = sym (some_at p (k + 1) k (omega arith) e)
-    at false true e f = let l : first p k < k = ltb-true _ _ f in sym (some_at p (k + 1) (first p k) (omega arith) (first-at p k l))
+    at false true e f = let l : first p k < k = ltb-true _ _ f in sym (some_at p (k + 1) (first p k) (omega arith) (first_at p k l))
     at false false e f = sym (rw (first-none p (k + 1) (λ j m. below e f j (le-or-lt k j) m)) (le-ltb (k + 1) (k + 1) (omega arith)))
 
-pub closed_none : (t : List ℕ) → false ≡ closedAt t 0
+pub closed_none : (t : List ℕ) → false ≡ closed_at t 0
 closed_none t = rw (first-zero (closes_at t)) (sym (le-ltb 0 0 (omega arith)))
 
-pub closed-more : (t : List ℕ) (k : ℕ) {row : Row} {closed r : Bool} → row ≡ row_at t k → closed ≡ closedAt t k → r ≡ closes row || closed → r ≡ closedAt t (k + 1)
+pub closed_more : (t : List ℕ) (k : ℕ) {row : Row} {closed r : Bool} → row ≡ row_at t k → closed ≡ closed_at t k → r ≡ closes row || closed → r ≡ closed_at t (k + 1)
 unfolding closes_at
-closed-more t k e c f = f ∙ rw (e, c) (some_more (closes_at t) k)
+closed_more t k e c f = f ∙ rw (e, c) (some_more (closes_at t) k)
 
 -- ---- what is gathered
 
-pub nums-nothing : (kind : Kind) → numsIn kind Nothing ≡ []
-nums-nothing Granules = refl
-nums-nothing Partitions = refl
-nums-nothing Tasks = refl
+pub nums_nothing : (kind : Kind) → nums_in kind Nothing ≡ []
+nums_nothing Granules = refl
+nums_nothing Partitions = refl
+nums_nothing Tasks = refl
 
-pub nums-wrong : (kind : Kind) (w : What) → numsIn kind (Wrong w) ≡ []
-nums-wrong Granules w = refl
-nums-wrong Partitions w = refl
-nums-wrong Tasks w = refl
+pub nums_wrong : (kind : Kind) (w : What) → nums_in kind (Wrong w) ≡ []
+nums_wrong Granules w = refl
+nums_wrong Partitions w = refl
+nums_wrong Tasks w = refl
 
 gathered-rest : (f : ℕ → List ℕ) (k n : ℕ) → k ≤ n → ((j : ℕ) → k ≤ j → f j ≡ []) → gathered f n ≡ gathered f k
 unfolding gathered
 gathered-rest f k n h g = le_ind {n = k} (λ m. gathered f m ≡ gathered f k) refl (λ m l i. ap (λ (x : List ℕ). gathered f m ++ x) (g m l) ∙ append-nil (gathered f m) ∙ i) n h
 
-pub gather-turn : (kind : Kind) (t : List ℕ) (k : ℕ) {out m o : List ℕ} {i r : ℕ} {row : Row} → row ≡ row_at t k → Put out 0 (gathered (numsAt kind t) k) i m → Put m i (numsIn kind row) r o
-    → Put out 0 (gathered (numsAt kind t) (k + 1)) r o
-unfolding numsAt
-gather-turn kind t k e p q = rw (gathered-more (numsAt kind t) k, ← e) (and_then p q)
+pub gather_turn : (kind : Kind) (t : List ℕ) (k : ℕ) {out m o : List ℕ} {i r : ℕ} {row : Row} → row ≡ row_at t k → Put out 0 (gathered (nums_at kind t) k) i m → Put m i (nums_in kind row) r o
+    → Put out 0 (gathered (nums_at kind t) (k + 1)) r o
+unfolding nums_at
+gather_turn kind t k e p q = rw (gathered_more (nums_at kind t) k, ← e) (and_then p q)
 
-pub gather-end : (kind : Kind) {t : List ℕ} {at k : ℕ} → Reached t at k → at ≤ length t → length t ≤ at → gathered (numsAt kind t) k ≡ recordsOf kind t
-unfolding recordsOf numsAt
-gather-end kind {t} {at} {k} a h l = sym (gathered-rest (numsAt kind t) k (length t) (omega (arith, a.within)) (λ j m. ap (numsIn kind) (row-empty t k j m (past a l)) ∙ nums-nothing kind))
+pub gather_end : (kind : Kind) {t : List ℕ} {at k : ℕ} → Reached t at k → at ≤ length t → length t ≤ at → gathered (nums_at kind t) k ≡ records_of kind t
+unfolding records_of nums_at
+gather_end kind {t} {at} {k} a h l = sym (gathered-rest (nums_at kind t) k (length t) (omega (arith, a.within)) (λ j m. ap (nums_in kind) (row-empty t k j m (past a l)) ∙ nums_nothing kind))
 
 -- ---- what an answer of numbers says
 
 -- the text is no longer than a text may be, its granule is told, and both tables fit
 pub record Fits (t : List ℕ) (parts tasks g p q : ℕ) : Type 0 where
-  pub short : length t ≤ longestText
-  pub granule-is : g ≡ granuleOf t
-  pub parts_are : p ≡ length (recordsOf Partitions t)
-  pub parts-fit : p ≤ parts
-  pub tasks-are : q ≡ length (recordsOf Tasks t)
-  pub tasks-fit : q ≤ tasks
+  pub short : length t ≤ longest_text
+  pub granule_is : g ≡ granule_of t
+  pub parts_are : p ≡ length (records_of Partitions t)
+  pub parts_fit : p ≤ parts
+  pub tasks_are : q ≡ length (records_of Tasks t)
+  pub tasks_fit : q ≤ tasks
 
 module _ (g p q : ℕ) where
-  seen-good : (s : Seen) (x : TableReading) → read_by s x ≡ Numbers g p q → x ≡ Numbers g p q
-  seen-good Good x e = e
-  seen-good (Line number what) x e = let z : ◌≡◌ {A = ℕ} 0 1 = cc in absurd (omega arith)
+  seen_good : (s : Seen) (x : TableReading) → read_by s x ≡ Numbers g p q → x ≡ Numbers g p q
+  seen_good Good x e = e
+  seen_good (Line number what) x e = let z : ◌≡◌ {A = ℕ} 0 1 = cc in absurd (omega arith)
 
   not-refused : ¬ (Refused Limits ≡ Numbers g p q)
   not-refused e = let z : ◌≡◌ {A = ℕ} 0 1 = cc in omega arith
 
-pub fits : (t : List ℕ) (parts tasks g p q : ℕ) → readTextOf t parts tasks ≡ Numbers g p q → Fits t parts tasks g p q
-unfolding readTextOf sizedOf
+pub fits : (t : List ℕ) (parts tasks g p q : ℕ) → read_text_of t parts tasks ≡ Numbers g p q → Fits t parts tasks g p q
+unfolding read_text_of sized_of
 fits t parts tasks g p q e =
-    let n = length (recordsOf Partitions t) in
-    let m = length (recordsOf Tasks t) in
-    let all : TableReading = Numbers (granuleOf t) n m in
+    let n = length (records_of Partitions t) in
+    let m = length (records_of Tasks t) in
+    let all : TableReading = Numbers (granule_of t) n m in
     let z : TableReading = Numbers g p q in
     let no = not-refused g p q in
     let y2 : TableReading = pick (ltb tasks m) (Refused Limits) all in
     let y1 : TableReading = pick (ltb parts n) (Refused Limits) y2 in
-    let e1 = pick_second (ltb longestText (length t)) (Refused Limits) (read_by (seenOf t) y1) z no e in
-    let e2 = pick_second (ltb parts n) (Refused Limits) y2 z no (seen-good g p q (seenOf t) y1 e1.1) in
+    let e1 = pick_second (ltb longest_text (length t)) (Refused Limits) (read_by (seen_of t) y1) z no e in
+    let e2 = pick_second (ltb parts n) (Refused Limits) y2 z no (seen_good g p q (seen_of t) y1 e1.1) in
     let e3 = pick_second (ltb tasks m) (Refused Limits) all z no e2.1 in
-    let f : Numbers (granuleOf t) n m ≡ Numbers g p q = e3.1 in
-    let eg : g ≡ granuleOf t = cc in
+    let f : Numbers (granule_of t) n m ≡ Numbers g p q = e3.1 in
+    let eg : g ≡ granule_of t = cc in
     let ep : p ≡ n = cc in
     let eq : q ≡ m = cc in
     record {
       short = ltb-false _ _ e1.0;
-      granule-is = eg;
+      granule_is = eg;
       parts_are = ep;
-      parts-fit = rw ep (ltb-false _ _ e2.0);
-      tasks-are = eq;
-      tasks-fit = rw eq (ltb-false _ _ e3.0);
+      parts_fit = rw ep (ltb-false _ _ e2.0);
+      tasks_are = eq;
+      tasks_fit = rw eq (ltb-false _ _ e3.0);
     }
 
 -- ---- the granule, put in front of a 1

@@ -1,7 +1,7 @@
 // The lines of a text in order, and the first that is wrong.
 ghost use Rattle.std.specs.Prelude.{◌≡◌, ◌≤◌, ◌<◌, length, drop};
 ghost use Rattle.share_line.specs.Rows.{row_of};
-ghost use Rattle.share_text.specs.Table.{line_of, afterLine, seenOf};
+ghost use Rattle.share_text.specs.Table.{line_of, after_line, seen_of};
 
 use crate::Seen;
 use share_line::Row;
@@ -23,7 +23,7 @@ pub fn row_at(text: &[u8], at: usize) -> Row
 pub fn next_line(text: &[u8], at: usize) -> usize
     requires { at < length text.now }
     ensures { (at < result) × (result ≤ length text.now)
-        × (drop result text.now ≡ afterLine (drop at text.now)) }
+        × (drop result text.now ≡ after_line (drop at text.now)) }
 {
     let rest = &text[at..];
     let e = find(rest, Mark::Line);
@@ -34,7 +34,7 @@ pub fn next_line(text: &[u8], at: usize) -> usize
 }
 
 pub fn first_wrong(text: &[u8]) -> Seen
-    ensures { result ≡ seenOf text.now }
+    ensures { result ≡ seen_of text.now }
 {
     let n = text.len();
     let mut closed = false;

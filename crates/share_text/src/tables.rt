@@ -1,8 +1,8 @@
 // The numbers of each kind: gathered, counted, and held to the lent tables' room.
 ghost use Rattle.std.specs.Prelude.{◌≡◌, [], ◌∷◌, ◌+◌, ◌≤◌, ◌<◌, ◌^◌, length};
-ghost use Rattle.rules.specs.Limits.{taskWidth};
+ghost use Rattle.rules.specs.Limits.{task_width};
 ghost use Rattle.output.specs.Put.{Put};
-ghost use Rattle.share_text.specs.Table.{numsIn, recordsOf, granuleOf, longestText, sizedOf, readTextOf};
+ghost use Rattle.share_text.specs.Table.{nums_in, records_of, granule_of, longest_text, sized_of, read_text_of};
 
 use crate::lines::{first_wrong, next_line, row_at};
 use crate::{Kind, LONGEST_TEXT, Seen, TableReading};
@@ -23,7 +23,7 @@ fn put_three(out: &mut [u16], at: usize, x: u16, y: u16, z: u16) -> usize
 // A row's numbers, where it is of this kind; the answer is the place behind them.
 fn put_row(out: &mut [u16], at: usize, kind: Kind, row: Row) -> usize
     requires { at < 2 ^ 40 }
-    ensures { Put out.old at (numsIn kind row) result out.new × (result ≤ at + taskWidth) }
+    ensures { Put out.old at (nums_in kind row) result out.new × (result ≤ at + task_width) }
 {
     match row {
         Row::Granule(granule) => match kind {
@@ -56,8 +56,8 @@ fn put_row(out: &mut [u16], at: usize, kind: Kind, row: Row) -> usize
 
 // The numbers of every row of a kind, as far as there is room. The answer is how many there are.
 pub fn gather(text: &[u8], kind: Kind, out: &mut [u16]) -> usize
-    requires { length text.now ≤ longestText }
-    ensures { Put out.old 0 (recordsOf kind text.now) result out.new }
+    requires { length text.now ≤ longest_text }
+    ensures { Put out.old 0 (records_of kind text.now) result out.new }
 {
     let n = text.len();
     let mut put = 0;
@@ -71,8 +71,8 @@ pub fn gather(text: &[u8], kind: Kind, out: &mut [u16]) -> usize
 
 // How many numbers the rows of a kind have.
 fn numbers_in(text: &[u8], kind: Kind) -> usize
-    requires { length text.now ≤ longestText }
-    ensures { result ≡ length (recordsOf kind text.now) }
+    requires { length text.now ≤ longest_text }
+    ensures { result ≡ length (records_of kind text.now) }
 {
     let mut none = [0u16; 1];
     gather(text, kind, &mut none)
@@ -80,8 +80,8 @@ fn numbers_in(text: &[u8], kind: Kind) -> usize
 
 // The granule that a line gives, or 1.
 fn granule_of(text: &[u8]) -> usize
-    requires { length text.now ≤ longestText }
-    ensures { result ≡ granuleOf text.now }
+    requires { length text.now ≤ longest_text }
+    ensures { result ≡ granule_of text.now }
 {
     let mut granule = [1u16; 1];
     gather(text, Kind::Granules, &mut granule);
@@ -90,8 +90,8 @@ fn granule_of(text: &[u8]) -> usize
 
 // The granule, and how many numbers there are of each kind, where the lent tables have room for them.
 fn sized(text: &[u8], parts: usize, tasks: usize) -> TableReading
-    requires { length text.now ≤ longestText }
-    ensures { result ≡ sizedOf text.now parts tasks }
+    requires { length text.now ≤ longest_text }
+    ensures { result ≡ sized_of text.now parts tasks }
 {
     let p = numbers_in(text, Kind::Partitions);
     if parts < p {
@@ -110,7 +110,7 @@ fn sized(text: &[u8], parts: usize, tasks: usize) -> TableReading
 
 // What `read` answers, for lent tables of so many numbers.
 pub fn read_of(text: &[u8], parts: usize, tasks: usize) -> TableReading
-    ensures { result ≡ readTextOf text.now parts tasks }
+    ensures { result ≡ read_text_of text.now parts tasks }
 {
     if LONGEST_TEXT < text.len() {
         return TableReading::Refused(Refusal::Limits);

@@ -16,19 +16,19 @@ use Prim.Native.Char.{code}
 use Rattle.output.specs.Decimal.{value}
 use Rattle.output.proofs.Decimal.{value-append}
 use Rattle.share_words.specs.declared.Mark.TheVariants.{Solid, Break, NoDigit}
-use Rattle.share_words.specs.Words.{found, width, word_of, rest_of, differs, same, is_number, numeral, highest, noNumber}
+use Rattle.share_words.specs.Words.{found, width, word_of, rest_of, differs, same, is_number, numeral, highest, no_number}
 
 -- a part up to the end
 pub tail : (a : ℕ) (l : List ℕ) → take (length l - a) (drop a l) ≡ drop a l
 tail a l = take_all (length l - a) (drop a l) (simp length-drop (omega arith))
 
-pub word-is : (l : List ℕ) (a w : ℕ) → a ≡ found Solid l → w ≡ width (take (length l - a) (drop a l)) → take w (take (length l - a) (drop a l)) ≡ word_of l
+pub word_is : (l : List ℕ) (a w : ℕ) → a ≡ found Solid l → w ≡ width (take (length l - a) (drop a l)) → take w (take (length l - a) (drop a l)) ≡ word_of l
 unfolding word_of
-word-is l a w ea ew = let e : w ≡ width (drop a l) = rw (tail a l) at ew in rw (tail a l, ← ea, ← e)
+word_is l a w ea ew = let e : w ≡ width (drop a l) = rw (tail a l) at ew in rw (tail a l, ← ea, ← e)
 
-pub rest-is : (l x : List ℕ) (a w : ℕ) → x ≡ take (length l - a) (drop a l) → a ≡ found Solid l → w ≡ width x → take (length x - w) (drop w x) ≡ rest_of l
+pub rest_is : (l x : List ℕ) (a w : ℕ) → x ≡ take (length l - a) (drop a l) → a ≡ found Solid l → w ≡ width x → take (length x - w) (drop w x) ≡ rest_of l
 unfolding rest_of
-rest-is l x a w ex ea ew = let e : w ≡ width (drop a l) = ew ∙ ap width (ex ∙ tail a l) in rw (tail w x, ex, tail a l, ← ea, ← e)
+rest_is l x a w ex ea ew = let e : w ≡ width (drop a l) = ew ∙ ap width (ex ∙ tail a l) in rw (tail w x, ex, tail a l, ← ea, ← e)
 
 -- no word at the end
 pub width-none : (l : List ℕ) → length l < 1 → width l ≡ 0
@@ -36,13 +36,13 @@ unfolding width first
 width-none [] h = refl
 width-none (b ∷ l) h = absurd (omega arith)
 
-pub width-slash : (l : List ℕ) → get_or l 0 0 ≡ (code "/") → width l ≡ 1
+pub width_slash : (l : List ℕ) → get_or l 0 0 ≡ (code "/") → width l ≡ 1
 unfolding width
-width-slash l e = rw e
+width_slash l e = rw e
 
-pub width-more : (l : List ℕ) (r : ℕ) → (get_or l 0 0 ≡ (code "/") → ⊥) → r ≡ found Break l → r ≡ width l
+pub width_more : (l : List ℕ) (r : ℕ) → (get_or l 0 0 ≡ (code "/") → ⊥) → r ≡ found Break l → r ≡ width l
 unfolding width
-width-more l r h e = rw (ne_eqb (get_or l 0 0) (code "/") h) e
+width_more l r h e = rw (ne_eqb (get_or l 0 0) (code "/") h) e
 
 -- two words of other lengths, with another byte at k, and neither
 pub same-long : (a b : List ℕ) → (length a ≡ length b → ⊥) → same a b ≡ false
@@ -57,40 +57,40 @@ pub same-all : (a b : List ℕ) → length a ≡ length b → first (differs a b
 unfolding same
 same-all a b e f = rw (f, eq-eqb (length a) (length b) e, le-leb (length a) (length a) (omega arith))
 
-pub differs_at : (a b : List ℕ) (k : ℕ) → (get_or a k 0 ≡ get_or b k 0 → ⊥) → differs a b k ≡ true
+pub differs_at_lem : (a b : List ℕ) (k : ℕ) → (get_or a k 0 ≡ get_or b k 0 → ⊥) → differs a b k ≡ true
 unfolding differs
-differs_at a b k h = rw (ne_eqb (get_or a k 0) (get_or b k 0) h)
+differs_at_lem a b k h = rw (ne_eqb (get_or a k 0) (get_or b k 0) h)
 
-pub agrees_at : (a b : List ℕ) (k : ℕ) → get_or a k 0 ≡ get_or b k 0 → differs a b k ≡ false
+pub agrees_at_lem : (a b : List ℕ) (k : ℕ) → get_or a k 0 ≡ get_or b k 0 → differs a b k ≡ false
 unfolding differs
-agrees_at a b k h = rw (eq-eqb (get_or a k 0) (get_or b k 0) h)
+agrees_at_lem a b k h = rw (eq-eqb (get_or a k 0) (get_or b k 0) h)
 
 -- a turn over the digits: one more of them
-value-more : (w : List ℕ) (k : ℕ) → k < length w → value (take (k + 1) w) 0 ≡ value (take k w) 0 * 10 + (get_or w k 0 - code "0")
+value_more : (w : List ℕ) (k : ℕ) → k < length w → value (take (k + 1) w) 0 ≡ value (take k w) 0 * 10 + (get_or w k 0 - code "0")
 unfolding value
-value-more w k h = rw (add-one k, take-suc w k 0 h) (value-append (take k w) (get_or w k 0 ∷ []) 0)
+value_more w k h = rw (add-one k, take-suc w k 0 h) (value-append (take k w) (get_or w k 0 ∷ []) 0)
 
-cut : (x d : ℕ) → min (min x noNumber * 10 + d) noNumber ≡ min (x * 10 + d) noNumber
+cut : (x d : ℕ) → min (min x no_number * 10 + d) no_number ≡ min (x * 10 + d) no_number
 cut x d = omega arith
 
-pub digits_more : (w : List ℕ) (k v d r : ℕ) → k < length w → v ≡ min (value (take k w) 0) noNumber → d ≡ get_or w k 0 - code "0" → r ≡ min (v * 10 + d) noNumber
-    → r ≡ min (value (take (k + 1) w) 0) noNumber
-digits_more w k v d r h ev ed er = er ∙ rw (ev, ed, value-more w k h) (cut (value (take k w) 0) (get_or w k 0 - code "0"))
+pub digits_more : (w : List ℕ) (k v d r : ℕ) → k < length w → v ≡ min (value (take k w) 0) no_number → d ≡ get_or w k 0 - code "0" → r ≡ min (v * 10 + d) no_number
+    → r ≡ min (value (take (k + 1) w) 0) no_number
+digits_more w k v d r h ev ed er = er ∙ rw (ev, ed, value_more w k h) (cut (value (take k w) 0) (get_or w k 0 - code "0"))
 
 -- no number: nothing, or a byte that is no digit
-pub numeral-none : (w : List ℕ) → length w < 1 → noNumber ≡ numeral w
+pub numeral-none : (w : List ℕ) → length w < 1 → no_number ≡ numeral w
 unfolding numeral is_number
 numeral-none w h = rw (le-ltb 0 (length w) (omega arith))
 
-pub numeral-odd : (w : List ℕ) → 1 ≤ length w → found NoDigit w < length w → noNumber ≡ numeral w
+pub numeral_odd : (w : List ℕ) → 1 ≤ length w → found NoDigit w < length w → no_number ≡ numeral w
 unfolding numeral is_number
-numeral-odd w l h = rw (lt-ltb 0 (length w) (omega arith), lt-leb (length w) (found NoDigit w) h)
+numeral_odd w l h = rw (lt-ltb 0 (length w) (omega arith), lt-leb (length w) (found NoDigit w) h)
 
 -- digits alone
-pub numeral-all : (w : List ℕ) (r : ℕ) → 1 ≤ length w → length w ≤ found NoDigit w → r ≡ min (value w 0) noNumber → r ≡ numeral w
+pub numeral-all : (w : List ℕ) (r : ℕ) → 1 ≤ length w → length w ≤ found NoDigit w → r ≡ min (value w 0) no_number → r ≡ numeral w
 unfolding numeral is_number
 numeral-all w r l h e = rw (lt-ltb 0 (length w) (omega arith), le-leb (length w) (found NoDigit w) h) (step (le-or-lt (value w 0) highest))
   where
-    step : (value w 0 ≤ highest) ⊎ (highest < value w 0) → r ≡ pick (leb (value w 0) highest) (value w 0) noNumber
+    step : (value w 0 ≤ highest) ⊎ (highest < value w 0) → r ≡ pick (leb (value w 0) highest) (value w 0) no_number
     step (inl m) = rw (le-leb (value w 0) highest m) (omega arith)
     step (inr m) = rw (lt-leb (value w 0) highest m) (omega arith)

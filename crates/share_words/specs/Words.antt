@@ -18,12 +18,12 @@ stops Comment b = eqb b (code "#")
 stops Line b = eqb b (code "\n")
 stops NoDigit b = not (leb (code "0") b && leb b (code "9"))
 
-unfoldable pub stopsAt : Mark → List ℕ → ℕ → Bool
-stopsAt m l k = stops m (get_or l k 0)
+unfoldable pub stops_at : Mark → List ℕ → ℕ → Bool
+stops_at m l k = stops m (get_or l k 0)
 
 -- the first place where it stops, or the end
 abbrev pub found : Mark → List ℕ → ℕ
-found m l = first (stopsAt m l) (length l)
+found m l = first (stops_at m l) (length l)
 
 -- words stand apart, and `/` is a word by itself
 unfoldable pub width : List ℕ → ℕ
@@ -59,8 +59,8 @@ same a b = eqb (length a) (length b) && leb (length a) (first (differs a b) (len
 abbrev pub highest : ℕ
 highest = 65535
 
-abbrev pub noNumber : ℕ
-noNumber = highest + 1
+abbrev pub no_number : ℕ
+no_number = highest + 1
 
 -- a number: digits alone, at least one, and at most the highest
 unfoldable pub is_number : List ℕ → Bool
@@ -68,4 +68,4 @@ is_number w = ltb 0 (length w) && leb (length w) (found NoDigit w) && leb (value
 
 -- what a number says; any other word says more than a number can
 unfoldable pub numeral : List ℕ → ℕ
-numeral w = pick (is_number w) (value w 0) noNumber
+numeral w = pick (is_number w) (value w 0) no_number

@@ -2,7 +2,7 @@
 ghost use Rattle.std.specs.Prelude.{◌≡◌, ◌+◌, ◌-◌, ◌*◌, ◌≤◌, ◌<◌, min};
 ghost use Rattle.output.specs.Inner.{byte};
 ghost use Rattle.output.specs.Decimal.{value};
-ghost use Rattle.share_words.specs.Words.{word_of, noNumber, numeral};
+ghost use Rattle.share_words.specs.Words.{word_of, no_number, numeral};
 
 use crate::Mark;
 use crate::words::{find, first_word};
@@ -22,8 +22,8 @@ fn digit_value(b: u8) -> u32
 
 // One digit more; past the highest number it stays at what is none.
 fn with_digit(v: u32, d: u32) -> u32
-    requires { (v ≤ noNumber) × (d < 256) }
-    ensures { (result ≤ noNumber) × (result ≡ min (v * 10 + d) noNumber) }
+    requires { (v ≤ no_number) × (d < 256) }
+    ensures { (result ≤ no_number) × (result ≡ min (v * 10 + d) no_number) }
 {
     let next = v * 10 + d;
     if next < NO_NUMBER {
@@ -33,7 +33,7 @@ fn with_digit(v: u32, d: u32) -> u32
 }
 
 fn value_of(w: &[u8]) -> u32
-    ensures { result ≡ min (value w.now 0) noNumber }
+    ensures { result ≡ min (value w.now 0) no_number }
 {
     let n = w.len();
     let mut v = 0;

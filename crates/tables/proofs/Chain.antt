@@ -9,95 +9,95 @@ use native.Mathlib.Omega.{arith}
 use lib.ListN.{length}
 use lib.Dec.{ltb, leb, eqb}
 use borrow.Author.Tests.{lt-ltb, le-ltb, ltb-true, ltb-false, le-leb, leb-true, eqb-true, eq-eqb, not-true, not-false}
-use Rattle.rules.specs.Limits.{mostPartitions, mostTasks, longest, finestShare, part_width, taskWidth}
+use Rattle.rules.specs.Limits.{most_partitions, most_tasks, longest, finest_share, part_width, task_width}
 use Rattle.rules.specs.Walk.{pick, first, fails, Every}
-use Rattle.rules.specs.Terms.{goodEdition, goodGranule, granules, filed}
+use Rattle.rules.specs.Terms.{good_edition, good_granule, granules, filed}
 use Rattle.rules.specs.declared.Terms.{Terms}
-use Rattle.rules.specs.Table.{partitions, cycle, num, den, tasks, goodShare, goodPart, goodTask}
-use Rattle.tables.specs.Inner.{firstBadPart, firstBadTask, firstBadTick}
-use Rattle.tables.specs.Tables.{countedIn, withinLimits, lowest, unless, editionJudged, granuleJudged, recordsJudged, inEdition, tables_of, ticksJudged, GoodTables}
+use Rattle.rules.specs.Table.{partitions, cycle, num, den, tasks, good_share, good_part, good_task}
+use Rattle.tables.specs.Inner.{first_bad_part, first_bad_task, first_bad_tick}
+use Rattle.tables.specs.Tables.{counted_in, within_limits, lowest, unless, edition_judged, granule_judged, records_judged, in_edition, tables_of, ticks_judged, GoodTables}
 use Rattle.rules.specs.declared.Refusal.{Refusal}
 use Rattle.rules.specs.declared.Refusal.TheVariants.{Edition, Limits, Granule, Partition, Task, Tick}
 use Rattle.rules.specs.declared.Finding.{Finding}
 use Rattle.rules.specs.declared.Finding.TheVariants.{Good, Refused}
-use Rattle.rules.proofs.First.{first_found, first_done, first-at, first-before, every_first, first-every}
-use Rattle.rules.proofs.Tests.{pick_first, pick_second, and_parts, good-share}
+use Rattle.rules.proofs.First.{first_found, first_done, first_at, first-before, every_first, first_every}
+use Rattle.rules.proofs.Tests.{pick_first, pick_second, and_parts, good_share_lem}
 
 -- ---- the limits
 
 -- their order: the frame, the partitions, the tasks; r, q and u are the tests' results
-module _ (frame p t : ℕ) (r : Bool) (e : r ≡ countedIn 1 longest 1 frame) where
-  pub limits-frame : not r ≡ true → false ≡ withinLimits frame p t
-  unfolding withinLimits
+module _ (frame p t : ℕ) (r : Bool) (e : r ≡ counted_in 1 longest 1 frame) where
+  pub limits-frame : not r ≡ true → false ≡ within_limits frame p t
+  unfolding within_limits
   limits-frame n = rw (← e, not-true r n)
 
-  module _ (q : Bool) (h : q ≡ countedIn 1 mostPartitions part_width p) where
-    pub limits-parts : not r ≡ false → not q ≡ true → false ≡ withinLimits frame p t
-    unfolding withinLimits
+  module _ (q : Bool) (h : q ≡ counted_in 1 most_partitions part_width p) where
+    pub limits-parts : not r ≡ false → not q ≡ true → false ≡ within_limits frame p t
+    unfolding within_limits
     limits-parts y n = rw (← e, not-false r y, ← h, not-true q n)
 
-    pub limits-tasks : (u : Bool) → not r ≡ false → not q ≡ false → u ≡ countedIn 0 mostTasks taskWidth t → u ≡ withinLimits frame p t
-    unfolding withinLimits
+    pub limits-tasks : (u : Bool) → not r ≡ false → not q ≡ false → u ≡ counted_in 0 most_tasks task_width t → u ≡ within_limits frame p t
+    unfolding within_limits
     limits-tasks u y z w = rw (← e, not-false r y, ← h, not-false q z) w
 
-pub counted-parts : (low high width n : ℕ) → countedIn low high width n ≡ true → (n % width ≡ 0) × (low ≤ n / width) × (n / width ≤ high)
-unfolding countedIn
+pub counted-parts : (low high width n : ℕ) → counted_in low high width n ≡ true → (n % width ≡ 0) × (low ≤ n / width) × (n / width ≤ high)
+unfolding counted_in
 counted-parts low high width n e =
     let a = and_parts (eqb (n % width) 0 && leb low (n / width)) (leb (n / width) high) e in
     let b = and_parts (eqb (n % width) 0) (leb low (n / width)) a.0 in
     (eqb-true (n % width) 0 b.0, leb-true low (n / width) b.1, leb-true (n / width) high a.1)
 
-frame-range : (f : ℕ) → countedIn 1 longest 1 f ≡ true → (1 ≤ f) × (f ≤ longest)
-frame-range f e = let a = counted-parts 1 longest 1 f e in (omega (arith, a.1), omega (arith, a.2))
+frame_range : (f : ℕ) → counted_in 1 longest 1 f ≡ true → (1 ≤ f) × (f ≤ longest)
+frame_range f e = let a = counted-parts 1 longest 1 f e in (omega (arith, a.1), omega (arith, a.2))
 
 -- what the limits say of a frame and of tables of p and t numbers
 pub record Within (frame p t : ℕ) : Type 0 where
-  pub some-frame : 1 ≤ frame
-  pub longest-frame : frame ≤ longest
+  pub some_frame : 1 ≤ frame
+  pub longest_frame : frame ≤ longest
   pub whole_parts : p % part_width ≡ 0
-  pub some-part : 1 ≤ p / part_width
-  pub few-parts : p / part_width ≤ mostPartitions
-  pub whole-tasks : t % taskWidth ≡ 0
-  pub few-tasks : t / taskWidth ≤ mostTasks
+  pub some_part : 1 ≤ p / part_width
+  pub few_parts : p / part_width ≤ most_partitions
+  pub whole_tasks : t % task_width ≡ 0
+  pub few_tasks : t / task_width ≤ most_tasks
 
-pub within : (frame p t : ℕ) → withinLimits frame p t ≡ true → Within frame p t
-unfolding withinLimits
+pub within : (frame p t : ℕ) → within_limits frame p t ≡ true → Within frame p t
+unfolding within_limits
 within frame p t e =
-    let a = and_parts (countedIn 1 longest 1 frame) (countedIn 1 mostPartitions part_width p && countedIn 0 mostTasks taskWidth t) e in
-    let b = and_parts (countedIn 1 mostPartitions part_width p) (countedIn 0 mostTasks taskWidth t) a.1 in
-    let f = frame-range frame a.0 in
-    let q = counted-parts 1 mostPartitions part_width p b.0 in
-    let u = counted-parts 0 mostTasks taskWidth t b.1 in
+    let a = and_parts (counted_in 1 longest 1 frame) (counted_in 1 most_partitions part_width p && counted_in 0 most_tasks task_width t) e in
+    let b = and_parts (counted_in 1 most_partitions part_width p) (counted_in 0 most_tasks task_width t) a.1 in
+    let f = frame_range frame a.0 in
+    let q = counted-parts 1 most_partitions part_width p b.0 in
+    let u = counted-parts 0 most_tasks task_width t b.1 in
     record {
-      some-frame = f.0;
-      longest-frame = f.1;
+      some_frame = f.0;
+      longest_frame = f.1;
       whole_parts = q.0;
-      some-part = q.1;
-      few-parts = q.2;
-      whole-tasks = u.0;
-      few-tasks = u.2;
+      some_part = q.1;
+      few_parts = q.2;
+      whole_tasks = u.0;
+      few_tasks = u.2;
     }
 
-framed : (f : ℕ) → 1 ≤ f → f ≤ longest → countedIn 1 longest 1 f ≡ true
-unfolding countedIn
+framed : (f : ℕ) → 1 ≤ f → f ≤ longest → counted_in 1 longest 1 f ≡ true
+unfolding counted_in
 framed f l m = rw (eq-eqb (f % 1) 0 (omega arith), le-leb 1 (f / 1) (omega arith), le-leb (f / 1) longest (omega arith))
 
 -- the limits of the tables don't hang on the frame
-within-frame : (f g p t : ℕ) → withinLimits f p t ≡ true → countedIn 1 longest 1 g ≡ true → withinLimits g p t ≡ true
-unfolding withinLimits
+within-frame : (f g p t : ℕ) → within_limits f p t ≡ true → counted_in 1 longest 1 g ≡ true → within_limits g p t ≡ true
+unfolding within_limits
 within-frame f g p t e h =
-    let a = and_parts (countedIn 1 longest 1 f) (countedIn 1 mostPartitions part_width p && countedIn 0 mostTasks taskWidth t) e in rw h a.1
+    let a = and_parts (counted_in 1 longest 1 f) (counted_in 1 most_partitions part_width p && counted_in 0 most_tasks task_width t) e in rw h a.1
 
-within_none : (f p t : ℕ) → withinLimits f p t ≡ true → withinLimits f p 0 ≡ true
-unfolding withinLimits countedIn
+within_none : (f p t : ℕ) → within_limits f p t ≡ true → within_limits f p 0 ≡ true
+unfolding within_limits counted_in
 within_none f p t e =
-    let a = and_parts (countedIn 1 longest 1 f) (countedIn 1 mostPartitions part_width p && countedIn 0 mostTasks taskWidth t) e in
-    let c = and_parts (countedIn 1 mostPartitions part_width p) (countedIn 0 mostTasks taskWidth t) a.1 in rw (a.0, c.0)
+    let a = and_parts (counted_in 1 longest 1 f) (counted_in 1 most_partitions part_width p && counted_in 0 most_tasks task_width t) e in
+    let c = and_parts (counted_in 1 most_partitions part_width p) (counted_in 0 most_tasks task_width t) a.1 in rw (a.0, c.0)
 
-share-within : (f g m n d : ℕ) → goodShare f m n d ≡ true → m ≤ g → goodShare g m n d ≡ true
-unfolding goodShare
-share-within f g m n d e h =
-    let a = good-share f m n d e in rw (le-leb 1 m a.0, le-leb m g h, le-leb 1 n a.2, le-leb n d a.3, le-leb d finestShare a.4)
+share_within : (f g m n d : ℕ) → good_share f m n d ≡ true → m ≤ g → good_share g m n d ≡ true
+unfolding good_share
+share_within f g m n d e h =
+    let a = good_share_lem f m n d e in rw (le-leb 1 m a.0, le-leb m g h, le-leb 1 n a.2, le-leb n d a.3, le-leb d finest_share a.4)
 
 -- good tables are good for every frame that no cycle is longer than
 pub other-frame :
@@ -107,13 +107,13 @@ other-frame f g ps ts a l m h = record {
   limits = within-frame f g (length ps) (length ts) a.limits (framed g l m);
   edition = a.edition;
   granule = a.granule;
-  parts = λ k i. share-within f g (cycle ps k) (num ps k) (den ps k) (a.parts k i) (h k i);
+  parts = λ k i. share_within f g (cycle ps k) (num ps k) (den ps k) (a.parts k i) (h k i);
   tasks = a.tasks;
 }
 
 -- and without their tasks
-pub without-tasks : {terms : Terms} (f : ℕ) (ps ts : List ℕ) → GoodTables terms f ps ts → GoodTables terms f ps []
-without-tasks f ps ts a = record {
+pub without_tasks : {terms : Terms} (f : ℕ) (ps ts : List ℕ) → GoodTables terms f ps ts → GoodTables terms f ps []
+without_tasks f ps ts a = record {
   limits = within_none f (length ps) (length ts) a.limits;
   edition = a.edition;
   granule = a.granule;
@@ -127,20 +127,20 @@ pub not_good : (r : Refusal) → ¬ (◌≡◌ {A = Finding} (Refused r) Good)
 not_good r e = let z : ◌≡◌ {A = ℕ} 0 1 = cc in absurd (omega arith)
 
 -- a find and what follows it, as one choice
-pub found-then : {A : Type 0} (b : Bool) (refused : Refusal → A) (r : Refusal) (next : A)
+pub found_then : {A : Type 0} (b : Bool) (refused : Refusal → A) (r : Refusal) (next : A)
     → unless refused (pick b (Refused r) Good) next ≡ pick b (refused r) next
-found-then true refused r next = refl
-found-then false refused r next = refl
+found_then true refused r next = refl
+found_then false refused r next = refl
 
 -- both are good, where nothing tells against the call
-pub both-good : (f next : Finding) → unless Refused f next ≡ Good → (f ≡ Good) × (next ≡ Good)
-both-good Good next e = (refl, e)
-both-good (Refused r) next e = absurd (not_good r e)
+pub both_good : (f next : Finding) → unless Refused f next ≡ Good → (f ≡ Good) × (next ≡ Good)
+both_good Good next e = (refl, e)
+both_good (Refused r) next e = absurd (not_good r e)
 
 -- one behind the other: what follows both follows the second
-pub in-turn : {A : Type 0} (refused : Refusal → A) (f g : Finding) (next : A) → unless refused (unless Refused f g) next ≡ unless refused f (unless refused g next)
-in-turn refused Good g next = refl
-in-turn refused (Refused r) g next = refl
+pub in_turn : {A : Type 0} (refused : Refusal → A) (f g : Finding) (next : A) → unless refused (unless Refused f g) next ≡ unless refused f (unless refused g next)
+in_turn refused Good g next = refl
+in_turn refused (Refused r) g next = refl
 
 -- what is no refusal of the lowest place comes behind good records
 module _ (refusal : ℕ → Refusal) (good : ℕ → Bool) (n : ℕ) where
@@ -151,129 +151,129 @@ module _ (refusal : ℕ → Refusal) (good : ℕ → Bool) (n : ℕ) where
       → unless refused (lowest refusal good n) next ≡ z → Every good n × (next ≡ z)
   lowest-none refused next z other e =
       let b = ltb (first (fails good) n) n in
-      let w = pick_second b (refused at_first) next z other (sym (found-then b refused at_first next) ∙ e) in
-      (first-every good n (ltb-false _ _ w.0), w.1)
+      let w = pick_second b (refused at_first) next z other (sym (found_then b refused at_first next) ∙ e) in
+      (first_every good n (ltb-false _ _ w.0), w.1)
 
   -- a loop's find and its end
   pub lowest-found : (k : ℕ) → k < n → first (fails good) k ≡ k → fails good k ≡ true → Refused (refusal (k + 1)) ≡ lowest refusal good n
   lowest-found k l e h = rw (first_found (fails good) n k l e h, lt-ltb k n l)
 
-  pub lowest-end : (k : ℕ) → k ≤ n → n ≤ k → first (fails good) k ≡ k → Good ≡ lowest refusal good n
-  lowest-end k h l e = rw (first_done (fails good) n k h l e, le-ltb n n (omega arith))
+  pub lowest_end : (k : ℕ) → k ≤ n → n ≤ k → first (fails good) k ≡ k → Good ≡ lowest refusal good n
+  lowest_end k h l e = rw (first_done (fails good) n k h l e, le-ltb n n (omega arith))
 
   -- a refusal is that of the first which isn't good: it fails, and each one before it passes
-  pub lowest-at : (r : Refusal) → lowest refusal good n ≡ Refused r
+  pub lowest_at : (r : Refusal) → lowest refusal good n ≡ Refused r
       → (k : ℕ) × (r ≡ refusal (k + 1)) × (k < n) × (good k ≡ false) × ((j : ℕ) → j < k → good j ≡ true)
   unfolding fails
-  lowest-at r e =
+  lowest_at r e =
       let k = first (fails good) n in
       let a = pick_first (ltb k n) (Refused at_first) Good (Refused r) (λ q. not_good r (sym q)) e in
       let z : at_first ≡ r = cc a.1 in
       let l : k < n = ltb-true k n a.0 in
-      (k, sym z, l, not-true (good k) (first-at (fails good) n l), λ j h. not-false (good j) (first-before (fails good) n j h))
+      (k, sym z, l, not-true (good k) (first_at (fails good) n l), λ j h. not-false (good j) (first-before (fails good) n j h))
 
   pub lowest-good : lowest refusal good n ≡ Good → Every good n
-  lowest-good e = first-every good n (ltb-false _ _ (pick_second (ltb (first (fails good) n) n) (Refused at_first) Good Good (not_good at_first) e).0)
+  lowest-good e = first_every good n (ltb-false _ _ (pick_second (ltb (first (fails good) n) n) (Refused at_first) Good Good (not_good at_first) e).0)
 
   pub good-lowest : Every good n → lowest refusal good n ≡ Good
   good-lowest h = rw (every_first good n h, le-ltb n n (omega arith))
 
 -- 8 of a plan's ticks
-module _ (plan ps : List ℕ) (t : ℕ) (et : t ≡ firstBadTick (partitions ps) plan) where
-  pub ticks-8 : t < length plan → Refused (Tick (t + 1)) ≡ ticksJudged plan ps
-  ticks-8 h = rw (← et, lt-ltb t (length plan) h)
+module _ (plan ps : List ℕ) (t : ℕ) (et : t ≡ first_bad_tick (partitions ps) plan) where
+  pub ticks_8 : t < length plan → Refused (Tick (t + 1)) ≡ ticks_judged plan ps
+  ticks_8 h = rw (← et, lt-ltb t (length plan) h)
 
-  pub ticks-good : length plan ≤ t → Good ≡ ticksJudged plan ps
+  pub ticks-good : length plan ≤ t → Good ≡ ticks_judged plan ps
   ticks-good h = rw (← et, le-ltb t (length plan) h)
 
 module _ (terms : Terms) (frame : ℕ) (ps ts : List ℕ) where
   abbrev within_all : Bool
-  within_all = withinLimits frame (length ps) (length ts)
+  within_all = within_limits frame (length ps) (length ts)
 
-  abbrev good-terms : Bool
-  good-terms = goodGranule terms.granule
+  abbrev good_terms : Bool
+  good_terms = good_granule terms.granule
 
   abbrev good-edition : Bool
-  good-edition = goodEdition terms.edition
+  good-edition = good_edition terms.edition
 
-  pub tables-2 : good-edition ≡ false → Refused Edition ≡ tables_of terms frame ps ts
+  pub tables_2 : good-edition ≡ false → Refused Edition ≡ tables_of terms frame ps ts
   unfolding tables_of
-  tables-2 e = rw e
+  tables_2 e = rw e
 
-  pub tables-on : good-edition ≡ true → inEdition terms frame ps ts ≡ tables_of terms frame ps ts
+  pub tables_on : good-edition ≡ true → in_edition terms frame ps ts ≡ tables_of terms frame ps ts
   unfolding tables_of
-  tables-on e = rw e
+  tables_on e = rw e
 
-  pub tables-3 : within_all ≡ false → Refused Limits ≡ inEdition terms frame ps ts
-  unfolding inEdition
-  tables-3 e = rw e
+  pub tables_3 : within_all ≡ false → Refused Limits ≡ in_edition terms frame ps ts
+  unfolding in_edition
+  tables_3 e = rw e
 
-  pub tables-21 : within_all ≡ true → good-terms ≡ false → Refused Granule ≡ inEdition terms frame ps ts
-  unfolding inEdition
-  tables-21 w e = rw (w, e)
+  pub tables_21 : within_all ≡ true → good_terms ≡ false → Refused Granule ≡ in_edition terms frame ps ts
+  unfolding in_edition
+  tables_21 w e = rw (w, e)
 
-  module _ (w : within_all ≡ true) (g : good-terms ≡ true) (k : ℕ) (ek : k ≡ firstBadPart frame ps) where
-    pub tables-6 : k < partitions ps → Refused (Partition (k + 1)) ≡ inEdition terms frame ps ts
-    unfolding inEdition
-    tables-6 h = rw (w, g, ← ek, lt-ltb k (partitions ps) h)
+  module _ (w : within_all ≡ true) (g : good_terms ≡ true) (k : ℕ) (ek : k ≡ first_bad_part frame ps) where
+    pub tables_6 : k < partitions ps → Refused (Partition (k + 1)) ≡ in_edition terms frame ps ts
+    unfolding in_edition
+    tables_6 h = rw (w, g, ← ek, lt-ltb k (partitions ps) h)
 
-    module _ (hk : partitions ps ≤ k) (j : ℕ) (ej : j ≡ firstBadTask (partitions ps) ts) where
-      pub tables-7 : j < tasks ts → Refused (Task (j + 1)) ≡ inEdition terms frame ps ts
-      unfolding inEdition
-      tables-7 h = rw (w, g, ← ek, le-ltb k (partitions ps) hk, ← ej, lt-ltb j (tasks ts) h)
+    module _ (hk : partitions ps ≤ k) (j : ℕ) (ej : j ≡ first_bad_task (partitions ps) ts) where
+      pub tables_7 : j < tasks ts → Refused (Task (j + 1)) ≡ in_edition terms frame ps ts
+      unfolding in_edition
+      tables_7 h = rw (w, g, ← ek, le-ltb k (partitions ps) hk, ← ej, lt-ltb j (tasks ts) h)
 
-      pub tables-good : tasks ts ≤ j → Good ≡ inEdition terms frame ps ts
-      unfolding inEdition
+      pub tables-good : tasks ts ≤ j → Good ≡ in_edition terms frame ps ts
+      unfolding in_edition
       tables-good h = rw (w, g, ← ek, le-ltb k (partitions ps) hk, ← ej, le-ltb j (tasks ts) h)
 
   -- ---- what it means
 
   good_of : tables_of terms frame ps ts ≡ Good → GoodTables terms frame ps ts
-  unfolding tables_of inEdition
+  unfolding tables_of in_edition
   good_of e =
-      let i = both-good (editionJudged terms.edition) (inEdition terms frame ps ts) e in
+      let i = both_good (edition_judged terms.edition) (in_edition terms frame ps ts) e in
       let d = pick_first good-edition Good (Refused Edition) Good (not_good Edition) i.0 in
       let a = pick_first within_all _ _ Good (not_good Limits) i.1 in
-      let t = both-good (granuleJudged terms.granule) (recordsJudged frame ps ts) a.1 in
-      let g = pick_first good-terms Good (Refused Granule) Good (not_good Granule) t.0 in
-      let b = lowest-none Partition (goodPart frame ps) (partitions ps) Refused (lowest Task (goodTask (partitions ps) ts) (tasks ts)) Good (not_good _) t.1 in
-      record { edition = d.0; limits = a.0; granule = g.0; parts = b.0; tasks = lowest-good Task (goodTask (partitions ps) ts) (tasks ts) b.1 }
+      let t = both_good (granule_judged terms.granule) (records_judged frame ps ts) a.1 in
+      let g = pick_first good_terms Good (Refused Granule) Good (not_good Granule) t.0 in
+      let b = lowest-none Partition (good_part frame ps) (partitions ps) Refused (lowest Task (good_task (partitions ps) ts) (tasks ts)) Good (not_good _) t.1 in
+      record { edition = d.0; limits = a.0; granule = g.0; parts = b.0; tasks = lowest-good Task (good_task (partitions ps) ts) (tasks ts) b.1 }
 
-  of-good : GoodTables terms frame ps ts → tables_of terms frame ps ts ≡ Good
-  unfolding tables_of inEdition
-  of-good g =
-      let p : firstBadPart frame ps ≡ partitions ps = every_first (goodPart frame ps) (partitions ps) g.parts in
-      let t : firstBadTask (partitions ps) ts ≡ tasks ts = every_first (goodTask (partitions ps) ts) (tasks ts) g.tasks in
+  of_good : GoodTables terms frame ps ts → tables_of terms frame ps ts ≡ Good
+  unfolding tables_of in_edition
+  of_good g =
+      let p : first_bad_part frame ps ≡ partitions ps = every_first (good_part frame ps) (partitions ps) g.parts in
+      let t : first_bad_task (partitions ps) ts ≡ tasks ts = every_first (good_task (partitions ps) ts) (tasks ts) g.tasks in
       rw (g.edition, g.limits, g.granule, p, le-ltb (partitions ps) (partitions ps) (omega arith), t, le-ltb (tasks ts) (tasks ts) (omega arith))
 
   -- nothing is refused exactly where terms and tables are good
-  pub good-exactly : (tables_of terms frame ps ts ≡ Good) ↔ GoodTables terms frame ps ts
-  good-exactly = (good_of, of-good)
+  pub good_exactly : (tables_of terms frame ps ts ≡ Good) ↔ GoodTables terms frame ps ts
+  good_exactly = (good_of, of_good)
 
   -- what holds of 2 where the edition is bad, of 3, of 21 where the granule is bad, of any 6 and of any 7 with a place from 1 on holds of the chain's refusal
-  pub refusals : (P : Refusal → Type 0) → (good-edition ≡ false → P Edition) → P Limits → (good-terms ≡ false → P Granule) → ((k : ℕ) → P (Partition k)) → ((j : ℕ) → P (Task (j + 1)))
+  pub refusals : (P : Refusal → Type 0) → (good-edition ≡ false → P Edition) → P Limits → (good_terms ≡ false → P Granule) → ((k : ℕ) → P (Partition k)) → ((j : ℕ) → P (Task (j + 1)))
       → (r : Refusal) → tables_of terms frame ps ts ≡ Refused r → P r
-  unfolding tables_of inEdition
+  unfolding tables_of in_edition
   refusals P two three twenty-one six seven r e =
-      at good-edition within_all good-terms (ltb (firstBadPart frame ps) (partitions ps)) (ltb (firstBadTask (partitions ps) ts) (tasks ts)) refl refl e
+      at good-edition within_all good_terms (ltb (first_bad_part frame ps) (partitions ps)) (ltb (first_bad_task (partitions ps) ts) (tasks ts)) refl refl e
     where
       same : (q : Refusal) → P q → ◌≡◌ {A = Finding} (Refused q) (Refused r) → P r
       same q h e = let z : q ≡ r = cc in subst P z h
 
-      at : (d a g b c : Bool) → good-edition ≡ d → good-terms ≡ g
-          → unless Refused (pick d Good (Refused Edition)) (pick a (unless Refused (pick g Good (Refused Granule)) (unless Refused (pick b (Refused (Partition (firstBadPart frame ps + 1))) Good) (pick c (Refused (Task (firstBadTask (partitions ps) ts + 1))) Good))) (Refused Limits)) ≡ Refused r
+      at : (d a g b c : Bool) → good-edition ≡ d → good_terms ≡ g
+          → unless Refused (pick d Good (Refused Edition)) (pick a (unless Refused (pick g Good (Refused Granule)) (unless Refused (pick b (Refused (Partition (first_bad_part frame ps + 1))) Good) (pick c (Refused (Task (first_bad_task (partitions ps) ts + 1))) Good))) (Refused Limits)) ≡ Refused r
           → P r
       at false a g b c i h e = same Edition (two i) e
       at true false g b c i h e = same Limits three e
       at true true false b c i h e = same Granule (twenty-one h) e
-      at true true true true c i h e = same (Partition (firstBadPart frame ps + 1)) (six _) e
-      at true true true false true i h e = same (Task (firstBadTask (partitions ps) ts + 1)) (seven _) e
+      at true true true true c i h e = same (Partition (first_bad_part frame ps + 1)) (six _) e
+      at true true true false true i h e = same (Task (first_bad_task (partitions ps) ts + 1)) (seven _) e
       at true true true false false i h e = let z : ◌≡◌ {A = ℕ} 0 1 = cc in absurd (omega arith)
 
   -- a call's answer is what follows good tables, or the chain's refusal
-  pub unless-cases : {A : Type 0} (refused : Refusal → A) (next z : A) → unless refused (tables_of terms frame ps ts) next ≡ z
+  pub unless_cases : {A : Type 0} (refused : Refusal → A) (next z : A) → unless refused (tables_of terms frame ps ts) next ≡ z
       → (GoodTables terms frame ps ts × (next ≡ z)) ⊎ ((r : Refusal) × (tables_of terms frame ps ts ≡ Refused r) × (refused r ≡ z))
-  unless-cases refused next z e = go (tables_of terms frame ps ts) refl e
+  unless_cases refused next z e = go (tables_of terms frame ps ts) refl e
     where
       go : (t : Finding) → tables_of terms frame ps ts ≡ t → unless refused t next ≡ z
           → (GoodTables terms frame ps ts × (next ≡ z)) ⊎ ((r : Refusal) × (tables_of terms frame ps ts ≡ Refused r) × (refused r ≡ z))
@@ -281,15 +281,15 @@ module _ (terms : Terms) (frame : ℕ) (ps ts : List ℕ) where
       go (Refused r) h e = inr (r, h, e)
 
   -- one that is no refusal of the chain is what follows
-  pub unless-given : {A : Type 0} (refused : Refusal → A) (next z : A)
-      → (good-edition ≡ false → ¬ (refused Edition ≡ z)) → ¬ (refused Limits ≡ z) → (good-terms ≡ false → ¬ (refused Granule ≡ z)) → ((k : ℕ) → ¬ (refused (Partition k) ≡ z)) → ((j : ℕ) → ¬ (refused (Task (j + 1)) ≡ z))
+  pub unless_given : {A : Type 0} (refused : Refusal → A) (next z : A)
+      → (good-edition ≡ false → ¬ (refused Edition ≡ z)) → ¬ (refused Limits ≡ z) → (good_terms ≡ false → ¬ (refused Granule ≡ z)) → ((k : ℕ) → ¬ (refused (Partition k) ≡ z)) → ((j : ℕ) → ¬ (refused (Task (j + 1)) ≡ z))
       → unless refused (tables_of terms frame ps ts) next ≡ z → GoodTables terms frame ps ts × (next ≡ z)
-  unless-given refused next z two three twenty-one six seven e =
-      ⊎_elim (λ g. g) (λ h. absurd (refusals (λ r. ¬ (refused r ≡ z)) two three twenty-one six seven h.0 h.1 h.2)) (unless-cases refused next z e)
+  unless_given refused next z two three twenty-one six seven e =
+      ⊎_elim (λ g. g) (λ h. absurd (refusals (λ r. ¬ (refused r ≡ z)) two three twenty-one six seven h.0 h.1 h.2)) (unless_cases refused next z e)
 
   -- what holds of the answers to 2 where the edition is bad, to 3, to 21 where the granule is bad, to any 6 and 7 and of what follows holds of the answer
   pub unless_holds : {A : Type 0} (P : A → Type 0) (refused : Refusal → A) (next : A)
-      → (good-edition ≡ false → P (refused Edition)) → P (refused Limits) → (good-terms ≡ false → P (refused Granule)) → ((k : ℕ) → P (refused (Partition k))) → ((j : ℕ) → P (refused (Task (j + 1)))) → P next
+      → (good-edition ≡ false → P (refused Edition)) → P (refused Limits) → (good_terms ≡ false → P (refused Granule)) → ((k : ℕ) → P (refused (Partition k))) → ((j : ℕ) → P (refused (Task (j + 1)))) → P next
       → P (unless refused (tables_of terms frame ps ts) next)
   unless_holds P refused next two three twenty-one six seven h = go (tables_of terms frame ps ts) refl
     where
@@ -298,20 +298,20 @@ module _ (terms : Terms) (frame : ℕ) (ps ts : List ℕ) where
       go (Refused r) e = refusals (λ r. P (refused r)) two three twenty-one six seven r e
 
   -- and of good tables it is what follows
-  pub unless-good : {A : Type 0} (refused : Refusal → A) (next : A) → GoodTables terms frame ps ts → unless refused (tables_of terms frame ps ts) next ≡ next
-  unless-good refused next g = rw (of-good g)
+  pub unless_good_lem : {A : Type 0} (refused : Refusal → A) (next : A) → GoodTables terms frame ps ts → unless refused (tables_of terms frame ps ts) next ≡ next
+  unless_good_lem refused next g = rw (of_good g)
 
 -- without tasks there is no 7
-pub unless-parts-hold : (terms : Terms) (frame : ℕ) (ps : List ℕ) {A : Type 0} (P : A → Type 0) (refused : Refusal → A) (next : A)
-    → (goodEdition terms.edition ≡ false → P (refused Edition)) → P (refused Limits)
-    → (goodGranule terms.granule ≡ false → P (refused Granule)) → ((k : ℕ) → P (refused (Partition k))) → P next
+pub unless-parts_hold : (terms : Terms) (frame : ℕ) (ps : List ℕ) {A : Type 0} (P : A → Type 0) (refused : Refusal → A) (next : A)
+    → (good_edition terms.edition ≡ false → P (refused Edition)) → P (refused Limits)
+    → (good_granule terms.granule ≡ false → P (refused Granule)) → ((k : ℕ) → P (refused (Partition k))) → P next
     → P (unless refused (tables_of terms frame ps []) next)
-unfolding tables_of inEdition first
-unless-parts-hold terms frame ps P refused next two three twenty-one six h =
-    at (goodEdition terms.edition) (withinLimits frame (length ps) 0) (goodGranule terms.granule) (ltb (firstBadPart frame ps) (partitions ps)) refl refl
+unfolding tables_of in_edition first
+unless-parts_hold terms frame ps P refused next two three twenty-one six h =
+    at (good_edition terms.edition) (within_limits frame (length ps) 0) (good_granule terms.granule) (ltb (first_bad_part frame ps) (partitions ps)) refl refl
   where
-    at : (d a g b : Bool) → goodEdition terms.edition ≡ d → goodGranule terms.granule ≡ g
-        → P (unless refused (unless Refused (pick d Good (Refused Edition)) (pick a (unless Refused (pick g Good (Refused Granule)) (unless Refused (pick b (Refused (Partition (firstBadPart frame ps + 1))) Good) Good)) (Refused Limits))) next)
+    at : (d a g b : Bool) → good_edition terms.edition ≡ d → good_granule terms.granule ≡ g
+        → P (unless refused (unless Refused (pick d Good (Refused Edition)) (pick a (unless Refused (pick g Good (Refused Granule)) (unless Refused (pick b (Refused (Partition (first_bad_part frame ps + 1))) Good) Good)) (Refused Limits))) next)
     at false a g b i e = two i
     at true false g b i e = three
     at true true false b i e = twenty-one e
@@ -320,26 +320,26 @@ unless-parts-hold terms frame ps P refused next two three twenty-one six h =
 
 -- ---- calls that are given no edition or no granule
 
-first-edition : goodEdition 1 ≡ true
-unfolding goodEdition
+first-edition : good_edition 1 ≡ true
+unfolding good_edition
 first-edition = refl
 
-usual-good : goodGranule 1 ≡ true
-unfolding goodGranule
+usual-good : good_granule 1 ≡ true
+unfolding good_granule
 usual-good = refl
 
 -- good tables are good for edition 1, with any good granule
-pub in-edition-1 : {terms : Terms} {f : ℕ} {ps ts : List ℕ} → GoodTables terms f ps ts → GoodTables (granules terms.granule) f ps ts
-in-edition-1 a = record { edition = first-edition; limits = a.limits; granule = a.granule; parts = a.parts; tasks = a.tasks }
+pub in_edition_1 : {terms : Terms} {f : ℕ} {ps ts : List ℕ} → GoodTables terms f ps ts → GoodTables (granules terms.granule) f ps ts
+in_edition_1 a = record { edition = first-edition; limits = a.limits; granule = a.granule; parts = a.parts; tasks = a.tasks }
 
 -- and with granule 1, of any good edition
-pub with-granule-1 : {terms : Terms} {f : ℕ} {ps ts : List ℕ} → GoodTables terms f ps ts → GoodTables (filed terms.edition) f ps ts
-with-granule-1 a = record { edition = a.edition; limits = a.limits; granule = usual-good; parts = a.parts; tasks = a.tasks }
+pub with_granule_1 : {terms : Terms} {f : ℕ} {ps ts : List ℕ} → GoodTables terms f ps ts → GoodTables (filed terms.edition) f ps ts
+with_granule_1 a = record { edition = a.edition; limits = a.limits; granule = usual-good; parts = a.parts; tasks = a.tasks }
 
 -- 2 is none of theirs
-pub not-2 : {A : Type 0} → goodEdition 1 ≡ false → A
-not-2 e = absurd (true≢false (sym first-edition ∙ e))
+pub not_2 : {A : Type 0} → good_edition 1 ≡ false → A
+not_2 e = absurd (true≢false (sym first-edition ∙ e))
 
 -- nor 21
-pub usual-not-21 : {A : Type 0} → goodGranule 1 ≡ false → A
-usual-not-21 e = absurd (true≢false (sym usual-good ∙ e))
+pub usual-not_21 : {A : Type 0} → good_granule 1 ≡ false → A
+usual-not_21 e = absurd (true≢false (sym usual-good ∙ e))

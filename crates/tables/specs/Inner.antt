@@ -1,14 +1,14 @@
 -- Words that only inner contracts use: no statement and no entry's contract cites them. Assumes nothing.
 use Rattle.std.specs.Prelude.{ℕ, List, length}
 use Rattle.rules.specs.Walk.{fails, first}
-use Rattle.rules.specs.Table.{partitions, tasks, goodPart, goodTask, goodTick}
+use Rattle.rules.specs.Table.{partitions, tasks, good_part, good_task, good_tick}
 
 -- the first bad record, counted from 0, or how many there are
-abbrev pub firstBadPart : ℕ → List ℕ → ℕ
-firstBadPart limit ps = first (fails (goodPart limit ps)) (partitions ps)
+abbrev pub first_bad_part : ℕ → List ℕ → ℕ
+first_bad_part limit ps = first (fails (good_part limit ps)) (partitions ps)
 
-abbrev pub firstBadTask : ℕ → List ℕ → ℕ
-firstBadTask parts ts = first (fails (goodTask parts ts)) (tasks ts)
+abbrev pub first_bad_task : ℕ → List ℕ → ℕ
+first_bad_task parts ts = first (fails (good_task parts ts)) (tasks ts)
 
-abbrev pub firstBadTick : ℕ → List ℕ → ℕ
-firstBadTick parts plan = first (fails (goodTick parts plan)) (length plan)
+abbrev pub first_bad_tick : ℕ → List ℕ → ℕ
+first_bad_tick parts plan = first (fails (good_tick parts plan)) (length plan)

@@ -2,10 +2,10 @@
 // against a plan's ticks: 8.
 ghost use Rattle.std.specs.Prelude.{◌≡◌, [], ◌<◌};
 ghost use Rattle.rules.specs.Walk.{fails};
-ghost use Rattle.rules.specs.Terms.{goodGranule};
-ghost use Rattle.rules.specs.Table.{goodShare, goodTimes, goodPart, goodTask, goodTick};
-ghost use Rattle.tables.specs.Inner.{firstBadPart, firstBadTask, firstBadTick};
-ghost use Rattle.tables.specs.Tables.{countedIn, withinLimits, unless, inEdition, tables_of, ticksJudged};
+ghost use Rattle.rules.specs.Terms.{good_granule};
+ghost use Rattle.rules.specs.Table.{good_share, good_times, good_part, good_task, good_tick};
+ghost use Rattle.tables.specs.Inner.{first_bad_part, first_bad_task, first_bad_tick};
+ghost use Rattle.tables.specs.Tables.{counted_in, within_limits, unless, in_edition, tables_of, ticks_judged};
 ghost use Rattle.rules.specs.declared.Finding.TheVariants.{Refused};
 
 use rules::limits::{
@@ -20,7 +20,7 @@ use rules::{Finding, Refusal, Terms};
 
 pub fn counted_in(low: usize, high: usize, width: usize, numbers: usize) -> bool
     requires { 0 < width }
-    ensures { result ≡ countedIn low high width numbers }
+    ensures { result ≡ counted_in low high width numbers }
 {
     if numbers % width != 0 {
         return false;
@@ -33,7 +33,7 @@ pub fn counted_in(low: usize, high: usize, width: usize, numbers: usize) -> bool
 
 // Whether a frame and tables of so many numbers keep the limits.
 pub fn within_limits(frame: usize, parts: usize, tasks: usize) -> bool
-    ensures { result ≡ withinLimits frame parts tasks }
+    ensures { result ≡ within_limits frame parts tasks }
 {
     if !counted_in(1, LONGEST, 1, frame) {
         return false;
@@ -45,7 +45,7 @@ pub fn within_limits(frame: usize, parts: usize, tasks: usize) -> bool
 }
 
 pub fn good_granule(granule: usize) -> bool
-    ensures { result ≡ goodGranule granule }
+    ensures { result ≡ good_granule granule }
 {
     if granule < 1 {
         return false;
@@ -54,7 +54,7 @@ pub fn good_granule(granule: usize) -> bool
 }
 
 pub fn good_share(limit: usize, m: u16, num: u16, den: u16) -> bool
-    ensures { result ≡ goodShare limit m num den }
+    ensures { result ≡ good_share limit m num den }
 {
     if m < 1 {
         return false;
@@ -72,7 +72,7 @@ pub fn good_share(limit: usize, m: u16, num: u16, den: u16) -> bool
 }
 
 pub fn good_times(parts: usize, p: u16, c: u16, d: u16, t: u16) -> bool
-    ensures { result ≡ goodTimes parts p c d t }
+    ensures { result ≡ good_times parts p c d t }
 {
     if p < 1 {
         return false;
@@ -93,13 +93,13 @@ pub fn good_times(parts: usize, p: u16, c: u16, d: u16, t: u16) -> bool
 }
 
 fn bad_part(parts: &[u16], limit: usize, k: usize) -> bool
-    ensures { result ≡ fails (goodPart limit parts.now) k }
+    ensures { result ≡ fails (good_part limit parts.now) k }
 {
     !good_share(limit, cycle(parts, k), num(parts, k), den(parts, k))
 }
 
 fn bad_task(table: &[u16], parts: usize, j: usize) -> bool
-    ensures { result ≡ fails (goodTask parts table.now) j }
+    ensures { result ≡ fails (good_task parts table.now) j }
 {
     !good_times(
         parts,
@@ -111,14 +111,14 @@ fn bad_task(table: &[u16], parts: usize, j: usize) -> bool
 }
 
 fn bad_tick(plan: &[u16], parts: usize, t: usize) -> bool
-    ensures { result ≡ fails (goodTick parts plan.now) t }
+    ensures { result ≡ fails (good_tick parts plan.now) t }
 {
     !(wide(entry(plan, t)) <= parts)
 }
 
 // The first bad record, counted from 0, or how many there are.
 pub fn first_bad_part(parts: &[u16], limit: usize) -> usize
-    ensures { result ≡ firstBadPart limit parts.now }
+    ensures { result ≡ first_bad_part limit parts.now }
 {
     let n = partitions(parts);
     let mut k = 0;
@@ -132,7 +132,7 @@ pub fn first_bad_part(parts: &[u16], limit: usize) -> usize
 }
 
 pub fn first_bad_task(table: &[u16], parts: usize) -> usize
-    ensures { result ≡ firstBadTask parts table.now }
+    ensures { result ≡ first_bad_task parts table.now }
 {
     let n = tasks(table);
     let mut j = 0;
@@ -146,7 +146,7 @@ pub fn first_bad_task(table: &[u16], parts: usize) -> usize
 }
 
 pub fn first_bad_tick(plan: &[u16], parts: usize) -> usize
-    ensures { result ≡ firstBadTick parts plan.now }
+    ensures { result ≡ first_bad_tick parts plan.now }
 {
     let n = plan.len();
     let mut t = 0;
@@ -161,7 +161,7 @@ pub fn first_bad_tick(plan: &[u16], parts: usize) -> usize
 
 // What tells against the granule and the tables, for cycles no longer than the frame: 3, 21, 6 and 7.
 pub fn judge_in_edition(terms: Terms, frame: usize, parts: &[u16], table: &[u16]) -> Finding
-    ensures { result ≡ inEdition terms frame parts.now table.now }
+    ensures { result ≡ in_edition terms frame parts.now table.now }
 {
     if !within_limits(frame, parts.len(), table.len()) {
         return Finding::Refused(Refusal::Limits);
@@ -199,7 +199,7 @@ pub fn judge_partitions(terms: Terms, frame: usize, parts: &[u16]) -> Finding
 
 // What tells against a plan's ticks: 8.
 pub fn judge_ticks(plan: &[u16], parts: &[u16]) -> Finding
-    ensures { result ≡ ticksJudged plan.now parts.now }
+    ensures { result ≡ ticks_judged plan.now parts.now }
 {
     let t = first_bad_tick(plan, partitions(parts));
     if t < plan.len() {

@@ -1,13 +1,13 @@
 // The point and the tick of every task of a table, partition by partition: one curve for each partition that has tasks, and
 // what its tasks ask, kept up from task to task.
 ghost use Rattle.std.specs.Prelude.{◌≡◌, ◌≤◌, ◌<◌, length};
-ghost use Rattle.rules.specs.Limits.{longest, mostTasks};
+ghost use Rattle.rules.specs.Limits.{longest, most_tasks};
 ghost use Rattle.rules.specs.Inner.{AsNamed};
 ghost use Rattle.rules.specs.Walk.{largest, Every};
-ghost use Rattle.rules.specs.Table.{deadline, tasks, goodTask};
-ghost use Rattle.theory.specs.Task.{taskPoint, taskTick};
+ghost use Rattle.rules.specs.Table.{deadline, tasks, good_task};
+ghost use Rattle.theory.specs.Task.{task_point, task_tick};
 ghost use Rattle.task_demand.specs.Inner.{Zeros};
-ghost use Rattle.task_all.specs.Inner.{deadlineIn, pointBy, tickBy, marked, JudgedIn, JudgeableAll};
+ghost use Rattle.task_all.specs.Inner.{deadline_in, point_by, tick_by, marked, JudgedIn, JudgeableAll};
 
 use plan_curve::draw;
 use rules::Rule;
@@ -18,7 +18,7 @@ use task_points::point_in;
 
 // The deadline of task j, where it is of partition p, else 0.
 fn deadline_in(table: &[u16], p: u16, j: usize) -> usize
-    ensures { result ≡ deadlineIn table.now p j }
+    ensures { result ≡ deadline_in table.now p j }
 {
     if rules::records::partition(table, j) == p {
         return wide(rules::records::deadline(table, j));
@@ -28,7 +28,7 @@ fn deadline_in(table: &[u16], p: u16, j: usize) -> usize
 
 // The longest deadline of p's tasks, 0 where it has none.
 fn longest_deadline(table: &[u16], p: u16) -> usize
-    ensures { result ≡ largest (deadlineIn table.now p) (tasks table.now) }
+    ensures { result ≡ largest (deadline_in table.now p) (tasks table.now) }
 {
     let n = rules::records::tasks(table);
     let mut d = 0;
@@ -53,9 +53,9 @@ fn judge_task(
     requires { (deadline table.now j ≤ longest) × (longest < length curve.now) × (longest < length asks.now)
         × (j < length points.old) × (j < length ticks.old) }
     ensures { (points.new ≡ marked table.now p j
-        (pointBy curve.now asks.now table.now j) points.old)
+        (point_by curve.now asks.now table.now j) points.old)
         × (ticks.new ≡ marked table.now p j
-        (tickBy curve.now asks.now table.now j) ticks.old) }
+        (tick_by curve.now asks.now table.now j) ticks.old) }
 {
     if rules::records::partition(table, j) == p {
         let c = rules::records::budget(table, j);
@@ -124,11 +124,11 @@ pub fn judge_all(
     points: &mut [usize],
     ticks: &mut [usize],
 )
-    requires { (tasks table.now ≤ mostTasks) × Every (goodTask parts table.now) (tasks table.now)
+    requires { (tasks table.now ≤ most_tasks) × Every (good_task parts table.now) (tasks table.now)
         × (tasks table.now ≤ length points.old) × (tasks table.now ≤ length ticks.old) }
-    ensures { AsNamed (taskPoint rule plan.now table.now) (tasks table.now)
+    ensures { AsNamed (task_point rule plan.now table.now) (tasks table.now)
         points.old points.new
-        × AsNamed (taskTick rule plan.now table.now) (tasks table.now)
+        × AsNamed (task_tick rule plan.now table.now) (tasks table.now)
         ticks.old ticks.new }
 {
     let mut p = 0;

@@ -1,26 +1,26 @@
 -- Words that only inner contracts use: no statement and no entry's contract cites them. Assumes nothing.
 use Rattle.std.specs.Prelude.{ℕ, ◌+◌, ◌*◌, ◌^◌, ◌≤◌, ◌<◌, ◌≡◌, Bool, List, eqb, leb, length, get_or}
-use Rattle.rules.specs.Limits.{longest, mostTasks}
+use Rattle.rules.specs.Limits.{longest, most_tasks}
 use Rattle.rules.specs.Walk.{only, sum, round_up}
 use Rattle.rules.specs.Table.{partition, budget, deadline, period}
 use Rattle.rules.specs.declared.Rule.{Rule}
-use Rattle.theory.specs.Inner.{leastFor}
+use Rattle.theory.specs.Inner.{least_for}
 
 -- "C of j times t/T of j rounded up", for a task j of partition p
-unfoldable pub asksOf : List ℕ → ℕ → ℕ → ℕ → ℕ
-asksOf ts p t j = only (eqb (partition ts j) p) (budget ts j * round_up t (period ts j))
+unfoldable pub asks_of : List ℕ → ℕ → ℕ → ℕ → ℕ
+asks_of ts p t j = only (eqb (partition ts j) p) (budget ts j * round_up t (period ts j))
 
 -- what the tasks of partition p before task k ask of t ticks
-unfoldable pub allAsked : List ℕ → ℕ → ℕ → ℕ → ℕ
-allAsked ts p k t = sum (asksOf ts p t) k
+unfoldable pub all_asked : List ℕ → ℕ → ℕ → ℕ → ℕ
+all_asked ts p k t = sum (asks_of ts p t) k
 
 -- number t of a list, and what a task of budget c and period y asks of t ticks
-unfoldable pub withTask : ℕ → ℕ → List ℕ → ℕ → ℕ
-withTask c y list t = get_or list t 0 + c * round_up t y
+unfoldable pub with_task : ℕ → ℕ → List ℕ → ℕ → ℕ
+with_task c y list t = get_or list t 0 + c * round_up t y
 
 -- the same of task j, where it is of partition p
-unfoldable pub withAsked : List ℕ → ℕ → ℕ → List ℕ → ℕ → ℕ
-withAsked ts p j list t = get_or list t 0 + asksOf ts p t j
+unfoldable pub with_asked : List ℕ → ℕ → ℕ → List ℕ → ℕ → ℕ
+with_asked ts p j list t = get_or list t 0 + asks_of ts p t j
 
 -- numbers so small, from place b on, that one task more fits into 32 bits
 pub record SmallFrom (b : ℕ) (list : List ℕ) : Type 0 where
@@ -44,22 +44,22 @@ Zeros list = (t : ℕ) → get_or list t 0 ≡ 0
 -- "1 ≤ C ≤ D ≤ T ≤ 4,096"
 pub record InOrder (ts : List ℕ) (j : ℕ) : Type 0 where
   pub some : 1 ≤ budget ts j
-  pub in-time : budget ts j ≤ deadline ts j
-  pub in-period : deadline ts j ≤ period ts j
+  pub in_time : budget ts j ≤ deadline ts j
+  pub in_period : deadline ts j ≤ period ts j
   pub short : period ts j ≤ longest
 
 -- task i and all before it are so
 pub record Judgeable (ts : List ℕ) (i : ℕ) : Type 0 where
-  pub few : i < mostTasks
+  pub few : i < most_tasks
   pub in_order : (j : ℕ) → j ≤ i → InOrder ts j
 
 -- "demand(t) ≤ least(t)", of a task with budget c, by the lists
-unfoldable pub fitsAt : List ℕ → List ℕ → ℕ → ℕ → Bool
-fitsAt curve asks c t = leb (c + get_or asks t 0) (get_or curve t 0)
+unfoldable pub fits_at : List ℕ → List ℕ → ℕ → ℕ → Bool
+fits_at curve asks c t = leb (c + get_or asks t 0) (get_or curve t 0)
 
 -- up to the deadline of task i one list is its partition's curve, the other what the higher tasks ask
 pub record Drawn (rule : Rule) (plan ts : List ℕ) (i : ℕ) (curve asks : List ℕ) : Type 0 where
   pub long : deadline ts i < length curve
-  pub asks-long : deadline ts i < length asks
-  pub least-is : (t : ℕ) → t ≤ deadline ts i → get_or curve t 0 ≡ leastFor rule plan ts i t
-  pub asked_is : (t : ℕ) → t ≤ deadline ts i → get_or asks t 0 ≡ allAsked ts (partition ts i) i t
+  pub asks_long : deadline ts i < length asks
+  pub least_is : (t : ℕ) → t ≤ deadline ts i → get_or curve t 0 ≡ least_for rule plan ts i t
+  pub asked_is : (t : ℕ) → t ≤ deadline ts i → get_or asks t 0 ≡ all_asked ts (partition ts i) i t

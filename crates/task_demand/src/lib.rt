@@ -5,7 +5,7 @@ ghost use Rattle.std.specs.Prelude.{◌≡◌, ◌+◌, ◌^◌, ◌≤◌, ◌<
 ghost use Rattle.rules.specs.Inner.{AsNamed};
 ghost use Rattle.rules.specs.Limits.{longest};
 ghost use Rattle.rules.specs.Table.{partition};
-ghost use Rattle.task_demand.specs.Inner.{Added, withTask, withAsked, allAsked, Small, SmallFrom, Zeros, InOrder, Judgeable, fitsAt, Drawn};
+ghost use Rattle.task_demand.specs.Inner.{Added, with_task, with_asked, all_asked, Small, SmallFrom, Zeros, InOrder, Judgeable, fits_at, Drawn};
 
 use rules::Rule;
 use rules::limits::LONGEST;
@@ -30,7 +30,7 @@ fn add_row(asks: &mut [u32], b: usize, e: usize, all: usize)
 fn add_task(asks: &mut [u32], n: usize, c: u16, period: u16)
     requires { (0 < period) × (c ≤ period) × (period ≤ longest) × (0 < n) × (n ≤ longest + 1)
         × (n ≤ length asks.old) × Small asks.old }
-    ensures { AsNamed (withTask c period asks.old) n asks.old asks.new }
+    ensures { AsNamed (with_task c period asks.old) n asks.old asks.new }
 {
     let mut all = 0;
     let mut t = 1;
@@ -45,7 +45,7 @@ fn add_task(asks: &mut [u32], n: usize, c: u16, period: u16)
 // What task j asks is added to the first n numbers, where it is of partition p.
 pub fn ask_task(tasks: &[u16], p: u16, j: usize, asks: &mut [u32], n: usize)
     requires { InOrder tasks.now j × (0 < n) × (n ≤ longest + 1) × (n ≤ length asks.old) × Small asks.old }
-    ensures { AsNamed (withAsked tasks.now p j asks.old) n
+    ensures { AsNamed (with_asked tasks.now p j asks.old) n
         asks.old asks.new }
 {
     if rules::records::partition(tasks, j) == p {
@@ -58,7 +58,7 @@ pub fn ask_task(tasks: &[u16], p: u16, j: usize, asks: &mut [u32], n: usize)
 // What the higher tasks of the partition of i ask, in the first n numbers of a list of zeros.
 fn ask_rivals(tasks: &[u16], i: usize, asks: &mut [u32], n: usize)
     requires { Judgeable tasks.now i × (0 < n) × (n ≤ longest + 1) × (n ≤ length asks.old) × Zeros asks.old }
-    ensures { AsNamed (allAsked tasks.now (partition tasks.now i) i) n
+    ensures { AsNamed (all_asked tasks.now (partition tasks.now i) i) n
         asks.old asks.new }
 {
     let p = rules::records::partition(tasks, i);
@@ -91,7 +91,7 @@ pub fn draw_task(
 // Whether demand(t) is at most least(t), of a task with budget c.
 pub fn fits(curve: &[u32], asks: &[u32], c: u16, t: usize) -> bool
     requires { (t < length curve.now) × (t < length asks.now) }
-    ensures { result ≡ fitsAt curve.now asks.now c t }
+    ensures { result ≡ fits_at curve.now asks.now c t }
 {
     wide(c) + wide32(asks[t]) <= wide32(curve[t])
 }

@@ -1,40 +1,40 @@
 -- What is promised of the page beyond its contract. Each statement's proof is a field of `Proved`. Assumes nothing.
 use Rattle.std.specs.Prelude.{ℕ, ◌+◌, ◌-◌, ◌*◌, ◌≤◌, ◌<◌, ◌≡◌, true, List, length, get_or}
-use Rattle.rules.specs.Limits.{rowWidth}
+use Rattle.rules.specs.Limits.{row_width}
 use Rattle.rules.specs.Table.{partition}
-use Rattle.rules.specs.Terms.{ruleIn}
+use Rattle.rules.specs.Terms.{rule_in}
 use Rattle.rules.specs.declared.Terms.{Terms}
 use Rattle.rules.specs.declared.Rule.{Rule}
 use Rattle.rules.specs.declared.Refusal.{Refusal}
 use Rattle.rules.specs.declared.Refusal.TheVariants.{Output}
 use Rattle.theory.specs.Plan.{held, least}
 use Rattle.theory.specs.Load.{demand, point, shortage}
-use Rattle.theory.specs.Task.{taskLoad}
+use Rattle.theory.specs.Task.{task_load}
 use Rattle.theory.specs.Theorems.{TightestPoint}
 use Rattle.task_verdict.specs.declared.Judged.{Judged}
 use Rattle.task_verdict.specs.declared.Judged.TheVariants as judged
-use Rattle.task_verdict.specs.Verdict.{verdictOf}
+use Rattle.task_verdict.specs.Verdict.{verdict_of}
 use Rattle.task_page.specs.declared.Paged.{Paged}
 use Rattle.task_page.specs.declared.Paged.TheVariants.{Pass, Fail, Refused}
-use Rattle.task_page.specs.Page.{points_of, tightestOf, shortageOf, page_of, Pages}
+use Rattle.task_page.specs.Page.{points_of, tightest_of, shortage_of, page_of, Pages}
 
 -- "A passing task lists nothing. Refusals: the verdict's; a list too short for a failing task's points is 12.": the page's answer beside the verdict's, for task i and a list of room numbers
 pub data PageBy (rule : Rule) (plan ts : List ℕ) (i room : ℕ) : Judged → Paged → Type 0 where
-  page-refused : (r : Refusal) → PageBy rule plan ts i room (judged.Refused r) (Refused r)
-  page-pass : (t : ℕ) → PageBy rule plan ts i room (judged.Pass t) (Pass t)
-  page-short : room < rowWidth * points_of ts i → PageBy rule plan ts i room judged.Fail (Refused Output)
-  page-fail : rowWidth * points_of ts i ≤ room → PageBy rule plan ts i room judged.Fail (Fail (points_of ts i) (tightestOf rule plan ts i) (shortageOf rule plan ts i))
+  page_refused : (r : Refusal) → PageBy rule plan ts i room (judged.Refused r) (Refused r)
+  page_pass : (t : ℕ) → PageBy rule plan ts i room (judged.Pass t) (Pass t)
+  page-short : room < row_width * points_of ts i → PageBy rule plan ts i room judged.Fail (Refused Output)
+  page_fail : row_width * points_of ts i ≤ room → PageBy rule plan ts i room judged.Fail (Fail (points_of ts i) (tightest_of rule plan ts i) (shortage_of rule plan ts i))
 
 abbrev pub PageAnswers : Type 0
 PageAnswers =
     (terms : Terms) (plan ps ts : List ℕ) (place room : ℕ)
-    → PageBy (ruleIn terms) plan ts (place - 1) room (verdictOf terms plan ps ts place) (page_of terms plan ps ts place room)
+    → PageBy (rule_in terms) plan ts (place - 1) room (verdict_of terms plan ps ts place) (page_of terms plan ps ts place room)
 
 -- a row's four numbers are "the rules' own": t is a scheduling point, "its demand, its least service and a worst start (the lowest)"; and it falls short there
 pub record Row (rule : Rule) (plan ts : List ℕ) (i t needs has start : ℕ) : Type 0 where
-  pub a_point : point (taskLoad ts) i t ≡ true
-  pub demand-is : needs ≡ demand (taskLoad ts) i t
-  pub least-is : has ≡ least rule plan (partition ts i) t
+  pub a_point : point (task_load ts) i t ≡ true
+  pub demand_is : needs ≡ demand (task_load ts) i t
+  pub least_is : has ≡ least rule plan (partition ts i) t
   pub in_frame : start < length plan
   pub worst : held rule plan (partition ts i) t start ≡ has
   pub lowest : (s : ℕ) → s < start → has < held rule plan (partition ts i) t s
@@ -45,22 +45,22 @@ pub record Rows (rule : Rule) (plan ts : List ℕ) (i n : ℕ) (list o : List �
   pub as_long : length o ≡ length list
   pub row :
       (k : ℕ) → k < n
-      → Row rule plan ts i (get_or o (rowWidth * k) 0) (get_or o (rowWidth * k + 1) 0) (get_or o (rowWidth * k + 2) 0) (get_or o (rowWidth * k + 3) 0)
-  pub rising : (j k : ℕ) → j < k → k < n → get_or o (rowWidth * j) 0 < get_or o (rowWidth * k) 0
-  pub each-point : (t : ℕ) → point (taskLoad ts) i t ≡ true → (k : ℕ) × (k < n) × (get_or o (rowWidth * k) 0 ≡ t)
-  pub tail : (k : ℕ) → rowWidth * n ≤ k → get_or o k 0 ≡ get_or list k 0
+      → Row rule plan ts i (get_or o (row_width * k) 0) (get_or o (row_width * k + 1) 0) (get_or o (row_width * k + 2) 0) (get_or o (row_width * k + 3) 0)
+  pub rising : (j k : ℕ) → j < k → k < n → get_or o (row_width * j) 0 < get_or o (row_width * k) 0
+  pub each_point : (t : ℕ) → point (task_load ts) i t ≡ true → (k : ℕ) × (k < n) × (get_or o (row_width * k) 0 ≡ t)
+  pub tail : (k : ℕ) → row_width * n ≤ k → get_or o k 0 ≡ get_or list k 0
 
 abbrev pub PageRows : Type 0
 PageRows =
     (terms : Terms) (plan ps ts : List ℕ) (place : ℕ) (list o : List ℕ) (n t h : ℕ) → Pages terms plan ps ts place list o (Fail n t h)
-    → Rows (ruleIn terms) plan ts (place - 1) n list o
+    → Rows (rule_in terms) plan ts (place - 1) n list o
 
 -- "name the point with the smallest shortage, lowest point on equals"; nowhere is it 0
 abbrev pub PageTightest : Type 0
 PageTightest =
     (terms : Terms) (plan ps ts : List ℕ) (place room n t h : ℕ) → page_of terms plan ps ts place room ≡ Fail n t h
-    → TightestPoint (taskLoad ts) (least (ruleIn terms) plan (partition ts (place - 1))) (place - 1) t
-    × (h ≡ shortage (taskLoad ts) (least (ruleIn terms) plan (partition ts (place - 1))) (place - 1) t) × (1 ≤ h)
+    → TightestPoint (task_load ts) (least (rule_in terms) plan (partition ts (place - 1))) (place - 1) t
+    × (h ≡ shortage (task_load ts) (least (rule_in terms) plan (partition ts (place - 1))) (place - 1) t) × (1 ≤ h)
 
 -- "any two outcomes it permits are equal"
 abbrev pub PageOne : Type 0
@@ -69,7 +69,7 @@ PageOne =
     → Pages terms plan ps ts place list o r → Pages terms plan ps ts place list o' r' → (r ≡ r') × (o ≡ o')
 
 pub record Proved : Type 0 where
-  pub page-answers : PageAnswers
-  pub page-rows : PageRows
-  pub page-tightest : PageTightest
-  pub page-one : PageOne
+  pub page_answers : PageAnswers
+  pub page_rows : PageRows
+  pub page_tightest : PageTightest
+  pub page_one : PageOne

@@ -2,15 +2,15 @@
 // where the worst stretch of so many ticks starts; and the point at which it falls short by the least.
 ghost use Rattle.std.specs.Prelude.{◌≡◌, ◌&&◌, [], ◌∷◌, ◌+◌, ◌^◌, ◌≤◌, ◌<◌, leb, length};
 ghost use Rattle.rules.specs.Limits.{longest};
-ghost use Rattle.rules.specs.Walk.{pick, count, firstLeast};
+ghost use Rattle.rules.specs.Walk.{pick, count, first_least};
 ghost use Rattle.rules.specs.Table.{deadline};
-ghost use Rattle.theory.specs.Task.{taskPoint};
+ghost use Rattle.theory.specs.Task.{task_point};
 ghost use Rattle.output.specs.Put.{Put};
 ghost use Rattle.task_demand.specs.Inner.{Judgeable};
-ghost use Rattle.task_points.specs.Inner.{pointAt};
-ghost use Rattle.task_verdict.specs.Verdict.{passAt};
-ghost use Rattle.task_page.specs.Page.{row_at, rows_of, failOf, pagedBy, pageLeft, Pages};
-ghost use Rattle.task_page.specs.Inner.{pointIn, shortIn, Ready};
+ghost use Rattle.task_points.specs.Inner.{point_at};
+ghost use Rattle.task_verdict.specs.Verdict.{pass_at};
+ghost use Rattle.task_page.specs.Page.{row_at, rows_of, fail_of, paged_by, page_left, Pages};
+ghost use Rattle.task_page.specs.Inner.{point_in, short_in, Ready};
 
 use plan_service::worst_start;
 use rules::limits::ROW_WIDTH;
@@ -35,7 +35,7 @@ pub enum Paged {
 // By the list: how many scheduling points a task with deadline d has.
 fn points_in(asks: &[u32], d: u16) -> usize
     requires { d < length asks.now }
-    ensures { (result ≤ d) × (result ≡ count (pointIn asks.now d) (d + 1)) }
+    ensures { (result ≤ d) × (result ≡ count (point_in asks.now d) (d + 1)) }
 {
     let end = wide(d);
     let mut n = 0;
@@ -50,7 +50,7 @@ fn points_in(asks: &[u32], d: u16) -> usize
 // By the lists: what is short at t, of a task with budget c.
 fn short_in(curve: &[u32], asks: &[u32], c: u16, t: usize) -> usize
     requires { (t < length curve.now) × (t < length asks.now) }
-    ensures { result ≡ shortIn curve.now asks.now c t }
+    ensures { result ≡ short_in curve.now asks.now c t }
 {
     let needs = wide(c) + wide32(asks[t]);
     let has = wide32(curve[t]);
@@ -60,9 +60,9 @@ fn short_in(curve: &[u32], asks: &[u32], c: u16, t: usize) -> usize
 // Of a point and a lower tick the tighter point: on equals the lower.
 fn tighter(curve: &[u32], asks: &[u32], c: u16, d: usize, t: usize, best: usize) -> usize
     requires { (t ≤ d) × (best ≤ d) × (d < length curve.now) × (d < length asks.now) }
-    ensures { result ≡ pick (pointAt asks.now d t
-        && leb (shortIn curve.now asks.now c t)
-        (shortIn curve.now asks.now c best)) t best }
+    ensures { result ≡ pick (point_at asks.now d t
+        && leb (short_in curve.now asks.now c t)
+        (short_in curve.now asks.now c best)) t best }
 {
     if point_at(asks, d, t) {
         if short_in(curve, asks, c, t) <= short_in(curve, asks, c, best) {
@@ -76,8 +76,8 @@ fn tighter(curve: &[u32], asks: &[u32], c: u16, d: usize, t: usize, best: usize)
 // down.
 fn tightest_in(curve: &[u32], asks: &[u32], c: u16, d: u16) -> usize
     requires { (1 ≤ d) × (d < length curve.now) × (d < length asks.now) }
-    ensures { (result ≤ d) × (result ≡ firstLeast (pointIn asks.now d)
-        (shortIn curve.now asks.now c) (d + 1)) }
+    ensures { (result ≤ d) × (result ≡ first_least (point_in asks.now d)
+        (short_in curve.now asks.now c) (d + 1)) }
 {
     let end = wide(d);
     let mut best = end;
@@ -167,8 +167,8 @@ fn put_fail(
     rows: &mut [u32],
 ) -> Paged
     requires { Ready rule plan.now tasks.now i curve.now asks.now }
-    ensures { (result ≡ failOf rule plan.now tasks.now i (length rows.old))
-        × (rows.new ≡ pageLeft result (rows_of rule plan.now tasks.now i) rows.old) }
+    ensures { (result ≡ fail_of rule plan.now tasks.now i (length rows.old))
+        × (rows.new ≡ page_left result (rows_of rule plan.now tasks.now i) rows.old) }
 {
     let c = rules::records::budget(tasks, i);
     let d = rules::records::deadline(tasks, i);
@@ -189,9 +189,9 @@ fn put_fail(
 // Of task i, in tables whose records are good: its lists are drawn once, for the verdict and for the page.
 fn page_of(rule: Rule, plan: &[u16], tasks: &[u16], i: usize, rows: &mut [u32]) -> Paged
     requires { (length plan.now ≤ longest) × Judgeable tasks.now i }
-    ensures { (result ≡ pagedBy (passAt (deadline tasks.now i) (taskPoint rule plan.now tasks.now i))
-        (failOf rule plan.now tasks.now i (length rows.old)))
-        × (rows.new ≡ pageLeft result (rows_of rule plan.now tasks.now i) rows.old) }
+    ensures { (result ≡ paged_by (pass_at (deadline tasks.now i) (task_point rule plan.now tasks.now i))
+        (fail_of rule plan.now tasks.now i (length rows.old)))
+        × (rows.new ≡ page_left result (rows_of rule plan.now tasks.now i) rows.old) }
 {
     let mut curve = [0u32; TICKS];
     let mut asks = [0u32; TICKS];

@@ -10,30 +10,30 @@ use borrow.Author.Tests.{le-leb, lt-leb}
 use Rattle.rules.specs.Walk.{first}
 use Rattle.rules.specs.Table.{budget, deadline}
 use Rattle.rules.specs.declared.Rule.{Rule}
-use Rattle.rules.proofs.First.{first-zero, first_more, first-ext}
+use Rattle.rules.proofs.First.{first-zero, first_more, first_ext}
 use Rattle.theory.specs.Load.{holds}
-use Rattle.theory.specs.Task.{taskTick}
-use Rattle.theory.specs.Inner.{leastFor}
-use Rattle.theory.proofs.Tasks.{task-earliest}
-use Rattle.task_demand.specs.Inner.{fitsAt, Drawn}
-use Rattle.task_demand.proofs.Lists.{fits-is}
-use Rattle.task_plain.specs.Inner.{tickFits}
+use Rattle.theory.specs.Task.{task_tick}
+use Rattle.theory.specs.Inner.{least_for}
+use Rattle.theory.proofs.Tasks.{task_earliest}
+use Rattle.task_demand.specs.Inner.{fits_at, Drawn}
+use Rattle.task_demand.proofs.Lists.{fits_is}
+use Rattle.task_plain.specs.Inner.{tick_fits}
 
 module _ (curve asks : List ℕ) (c : ℕ) where
-  pub tick-fits : (t : ℕ) (b : Bool) → 1 ≤ t → fitsAt curve asks c t ≡ b → tickFits curve asks c t ≡ b
-  unfolding tickFits
-  tick-fits t b l e = rw (le-leb 1 t l) e
+  pub tick_fits_lem : (t : ℕ) (b : Bool) → 1 ≤ t → fits_at curve asks c t ≡ b → tick_fits curve asks c t ≡ b
+  unfolding tick_fits
+  tick_fits_lem t b l e = rw (le-leb 1 t l) e
 
-  no-tick-0 : tickFits curve asks c 0 ≡ false
-  unfolding tickFits
-  no-tick-0 = rw (lt-leb 1 0 (omega arith))
+  no_tick_0 : tick_fits curve asks c 0 ≡ false
+  unfolding tick_fits
+  no_tick_0 = rw (lt-leb 1 0 (omega arith))
 
-  pub from-1 : first (tickFits curve asks c) 1 ≡ 1
-  from-1 = first_more _ 0 (first-zero _) no-tick-0
+  pub from_1 : first (tick_fits curve asks c) 1 ≡ 1
+  from_1 = first_more _ 0 (first-zero _) no_tick_0
 
 pub tick_is : (rule : Rule) (plan ts : List ℕ) (i c d : ℕ) (curve asks : List ℕ) → Drawn rule plan ts i curve asks → c ≡ budget ts i → d ≡ deadline ts i
-    → first (tickFits curve asks c) (d + 1) ≡ taskTick rule plan ts i
-unfolding tickFits holds
+    → first (tick_fits curve asks c) (d + 1) ≡ task_tick rule plan ts i
+unfolding tick_fits holds
 tick_is rule plan ts i c d curve asks w ec ed =
-    rw (task-earliest ts i (leb 1) (leastFor rule plan ts i), ed, add-one (deadline ts i))
-    (first-ext (suc (deadline ts i)) _ _ (λ t l. ap (λ (b : Bool). leb 1 t && b) (fits-is ts i rule plan curve asks w c t ec (omega arith))))
+    rw (task_earliest ts i (leb 1) (least_for rule plan ts i), ed, add-one (deadline ts i))
+    (first_ext (suc (deadline ts i)) _ _ (λ t l. ap (λ (b : Bool). leb 1 t && b) (fits_is ts i rule plan curve asks w c t ec (omega arith))))

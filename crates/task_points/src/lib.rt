@@ -1,9 +1,9 @@
 // The engine over scheduling points: the smallest of them that holds.
 ghost use Rattle.std.specs.Prelude.{◌≡◌, ◌+◌, ◌≤◌, ◌<◌, length};
 ghost use Rattle.rules.specs.Walk.{first};
-ghost use Rattle.theory.specs.Task.{taskPoint};
+ghost use Rattle.theory.specs.Task.{task_point};
 ghost use Rattle.task_demand.specs.Inner.{Judgeable};
-ghost use Rattle.task_points.specs.Inner.{pointAt, pointFits};
+ghost use Rattle.task_points.specs.Inner.{point_at, point_fits};
 
 use rules::Rule;
 use rules::numbers::wide;
@@ -13,7 +13,7 @@ use task_demand::{TICKS, draw_task, fits};
 // these alone more is asked.
 pub fn point_at(asks: &[u32], d: usize, t: usize) -> bool
     requires { (t ≤ d) × (d < length asks.now) }
-    ensures { result ≡ pointAt asks.now d t }
+    ensures { result ≡ point_at asks.now d t }
 {
     if t == d {
         return true;
@@ -24,7 +24,7 @@ pub fn point_at(asks: &[u32], d: usize, t: usize) -> bool
 // Whether t is a scheduling point, and holds; few ticks hold, so that is looked at first.
 fn point_fits(curve: &[u32], asks: &[u32], c: u16, d: usize, t: usize) -> bool
     requires { (1 ≤ t) × (t ≤ d) × (d < length curve.now) × (d < length asks.now) }
-    ensures { result ≡ pointFits curve.now asks.now c d t }
+    ensures { result ≡ point_fits curve.now asks.now c d t }
 {
     if fits(curve, asks, c, t) {
         return point_at(asks, d, t);
@@ -35,7 +35,7 @@ fn point_fits(curve: &[u32], asks: &[u32], c: u16, d: usize, t: usize) -> bool
 // By the lists: the smallest scheduling point that holds, of a task with budget c and deadline d, or one past the deadline.
 pub fn point_in(curve: &[u32], asks: &[u32], c: u16, d: u16) -> usize
     requires { (d < length curve.now) × (d < length asks.now) }
-    ensures { result ≡ first (pointFits curve.now asks.now c d) (d + 1) }
+    ensures { result ≡ first (point_fits curve.now asks.now c d) (d + 1) }
 {
     let end = wide(d);
     let mut t = 1;
@@ -51,7 +51,7 @@ pub fn point_in(curve: &[u32], asks: &[u32], c: u16, d: u16) -> usize
 // The smallest scheduling point that holds, or one past the deadline.
 pub fn first_point(rule: Rule, plan: &[u16], tasks: &[u16], i: usize) -> usize
     requires { Judgeable tasks.now i }
-    ensures { result ≡ taskPoint rule plan.now tasks.now i }
+    ensures { result ≡ task_point rule plan.now tasks.now i }
 {
     let mut curve = [0u32; TICKS];
     let mut asks = [0u32; TICKS];

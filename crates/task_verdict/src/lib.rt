@@ -1,7 +1,7 @@
 // The verdict: whether a task passes, by either engine. One that passes meets its deadline in every legal run.
 ghost use Rattle.std.specs.Prelude.{◌≡◌};
-ghost use Rattle.rules.specs.Terms.{ruleIn, wanted};
-ghost use Rattle.task_verdict.specs.Verdict.{place_of, answerableOf, passAt, Judges, JudgesPlainly};
+ghost use Rattle.rules.specs.Terms.{rule_in, wanted};
+ghost use Rattle.task_verdict.specs.Verdict.{place_of, answerable_of, pass_at, Judges, JudgesPlainly};
 
 use rules::{Finding, Refusal, Terms};
 
@@ -15,7 +15,7 @@ pub enum Judged {
 
 // What is found for a place counted from 1, in tables whose records are good.
 fn at_place(terms: Terms, plan: &[u16], parts: &[u16], table: &[u16], place: usize) -> Finding
-    ensures { result ≡ place_of (ruleIn terms) (wanted terms parts.now) plan.now parts.now
+    ensures { result ≡ place_of (rule_in terms) (wanted terms parts.now) plan.now parts.now
         table.now place }
 {
     if place < 1 {
@@ -29,7 +29,7 @@ fn at_place(terms: Terms, plan: &[u16], parts: &[u16], table: &[u16], place: usi
 
 // Whether a verdict is given for a place, or why it is refused.
 pub fn answerable(terms: Terms, plan: &[u16], parts: &[u16], table: &[u16], place: usize) -> Finding
-    ensures { result ≡ answerableOf terms plan.now parts.now table.now place }
+    ensures { result ≡ answerable_of terms plan.now parts.now table.now place }
 {
     let tables = tables::judge_tables(terms, plan.len(), parts, table);
     match tables {
@@ -40,7 +40,7 @@ pub fn answerable(terms: Terms, plan: &[u16], parts: &[u16], table: &[u16], plac
 
 // What is said of a task with deadline d, the smallest that holds being t.
 fn pass_at(d: u16, t: usize) -> Judged
-    ensures { result ≡ passAt d t }
+    ensures { result ≡ pass_at d t }
 {
     if t <= rules::numbers::wide(d) {
         return Judged::Pass(t);

@@ -7,8 +7,8 @@ use native.Mathlib.Nat.{add_assoc}
 use native.Mathlib.Omega.{arith}
 use lib.Dec.{T, eqb, ltb, eqb→eq, eqb_refl, ltb→lt, lt→ltb}
 use Rattle.rules.specs.Walk.{only, sum, round_up}
-use Rattle.rules.proofs.Sum.{only-T, only-F, only-pos, only_self, sum-split, sum_mono, sum-find, sum-none, le-or-lt}
-use Rattle.rules.proofs.Round.{round-enough}
+use Rattle.rules.proofs.Sum.{only-T, only-F, only_pos, only_self, sum_split, sum_mono, sum-find, sum-none, le-or-lt}
+use Rattle.rules.proofs.Round.{round_enough}
 use Rattle.theory.specs.Run.{Ran, nothing, job, hit, done}
 
 -- ---- releases a period apart: in t ticks at most t / T of them, rounded up
@@ -32,38 +32,38 @@ module _ (w : ℕ → ℕ) (C T' : ℕ) (within : (n : ℕ) → w n ≤ C) (apar
   times a (suc q) =
       let e : suc q * T' ≡ q * T' + T' = omega arith in
       let o : sum (λ k. w (a + (q * T' + k))) T' ≤ C = simp (← add_assoc) (once (a + q * T') T' (omega arith)) in
-      rw e (omega (arith, sum-split (q * T') T' (λ k. w (a + k)), times a q))
+      rw e (omega (arith, sum_split (q * T') T' (λ k. w (a + k)), times a q))
 
   pub window : (a t : ℕ) → 0 < T' → sum (λ k. w (a + k)) t ≤ C * round_up t T'
-  window a t h = omega (arith, sum_mono (λ k. w (a + k)) {a = t} {b = round_up t T' * T'} (round-enough t T' h), times a (round_up t T'))
+  window a t h = omega (arith, sum_mono (λ k. w (a + k)) {a = t} {b = round_up t T' * T'} (round_enough t T' h), times a (round_up t T'))
 
 -- ---- hits
 
-pub hit-cases : (x : Ran) (j r : ℕ) → (hit x j r ≡ 0) ⊎ ((x ≡ job j r) × (hit x j r ≡ 1))
+pub hit_cases : (x : Ran) (j r : ℕ) → (hit x j r ≡ 0) ⊎ ((x ≡ job j r) × (hit x j r ≡ 1))
 unfolding hit only
-hit-cases nothing j r = inl refl
-hit-cases (job a b) j r = go (eqb a j) (eqb b r) refl refl
+hit_cases nothing j r = inl refl
+hit_cases (job a b) j r = go (eqb a j) (eqb b r) refl refl
   where
     go : (u v : Bool) → eqb a j ≡ u → eqb b r ≡ v → (only u (only v 1) ≡ 0) ⊎ ((job a b ≡ job j r) × (only u (only v 1) ≡ 1))
     go true true e f = inr (ap₂ job (eqb→eq a j (subst T (sym e) tt)) (eqb→eq b r (subst T (sym f) tt)), refl)
     go true false e f = inl refl
     go false v e f = inl refl
 
-hit-self : (j r : ℕ) → hit (job j r) j r ≡ 1
+hit_self : (j r : ℕ) → hit (job j r) j r ≡ 1
 unfolding hit
-hit-self j r = only-T (eqb j j) (only (eqb r r) 1) (eqb_refl j) ∙ only-T (eqb r r) 1 (eqb_refl r)
+hit_self j r = only-T (eqb j j) (only (eqb r r) 1) (eqb_refl j) ∙ only-T (eqb r r) 1 (eqb_refl r)
 
 module _ (ran : ℕ → Ran) where
   pub done-suc : (j r n : ℕ) → done ran j r (suc n) ≡ done ran j r n + hit (ran n) j r
   unfolding done sum
   done-suc j r n = refl
 
-  pub done-mono : (j r : ℕ) {m n : ℕ} → m ≤ n → done ran j r m ≤ done ran j r n
+  pub done_mono : (j r : ℕ) {m n : ℕ} → m ≤ n → done ran j r m ≤ done ran j r n
   unfolding done
-  done-mono j r h = sum_mono (λ k. hit (ran k) j r) h
+  done_mono j r h = sum_mono (λ k. hit (ran k) j r) h
 
   pub done-hit : (j r n : ℕ) → ran n ≡ job j r → done ran j r (suc n) ≡ suc (done ran j r n)
-  done-hit j r n e = omega (arith, done-suc j r n, ap (λ (x : Ran). hit x j r) e ∙ hit-self j r)
+  done-hit j r n e = omega (arith, done-suc j r n, ap (λ (x : Ran). hit x j r) e ∙ hit_self j r)
 
 -- ---- the work of a job that is released before time n
 
@@ -71,25 +71,25 @@ pub due : (ℕ → ℕ → ℕ) → (ℕ → ℕ → ℕ) → ℕ → ℕ → �
 due rel work j b n = only (ltb (rel j b) n) (work j b)
 
 module _ (rel work : ℕ → ℕ → ℕ) where
-  pub due-le : (j b n : ℕ) → due rel work j b n ≤ work j b
+  pub due_le : (j b n : ℕ) → due rel work j b n ≤ work j b
   unfolding due
-  due-le j b n = only_self (ltb (rel j b) n) (work j b)
+  due_le j b n = only_self (ltb (rel j b) n) (work j b)
 
   pub due_in : (j b n : ℕ) → rel j b < n → due rel work j b n ≡ work j b
   unfolding due
   due_in j b n h = only-T (ltb (rel j b) n) (work j b) (lt→ltb (rel j b) n h)
 
-  pub due-out : (j b n : ℕ) → n ≤ rel j b → due rel work j b n ≡ 0
+  pub due_out : (j b n : ℕ) → n ≤ rel j b → due rel work j b n ≡ 0
   unfolding due
-  due-out j b n h = only-F (ltb (rel j b) n) (work j b) (λ t. absurd (omega (arith, ltb→lt (rel j b) n t)))
+  due_out j b n h = only-F (ltb (rel j b) n) (work j b) (λ t. absurd (omega (arith, ltb→lt (rel j b) n t)))
 
-  pub due-pos : (j b n : ℕ) → 0 < due rel work j b n → rel j b < n
+  pub due_pos : (j b n : ℕ) → 0 < due rel work j b n → rel j b < n
   unfolding due
-  due-pos j b n h = ltb→lt (rel j b) n (only-pos (ltb (rel j b) n) (work j b) h)
+  due_pos j b n h = ltb→lt (rel j b) n (only_pos (ltb (rel j b) n) (work j b) h)
 
-  pub due-mono : (j b m n : ℕ) → m ≤ n → due rel work j b m ≤ due rel work j b n
-  due-mono j b m n h = go (le-or-lt m (rel j b))
+  pub due_mono : (j b m n : ℕ) → m ≤ n → due rel work j b m ≤ due rel work j b n
+  due_mono j b m n h = go (le-or-lt m (rel j b))
     where
       go : (m ≤ rel j b) ⊎ (rel j b < m) → due rel work j b m ≤ due rel work j b n
-      go (inl g) = omega (arith, due-out j b m g)
+      go (inl g) = omega (arith, due_out j b m g)
       go (inr g) = omega (arith, due_in j b m g, due_in j b n (omega arith))

@@ -9,11 +9,11 @@ use lib.Dec.{eqb, ltb}
 use borrow.Author.Tests.{ltb-true, ltb-false, lt-ltb, eqb-true, eq-eqb}
 use Rattle.rules.specs.Walk.{pick, first, some, sum}
 use Rattle.rules.specs.Table.{partition, tasks}
-use Rattle.rules.proofs.First.{first-at, first-upto, first_past, some_at}
-use Rattle.rules.proofs.Sum.{le-or-lt, sum-ext}
+use Rattle.rules.proofs.First.{first_at, first-upto, first_past, some_at}
+use Rattle.rules.proofs.Sum.{le-or-lt, sum_ext}
 use Rattle.rules.specs.declared.Rule.{Rule}
 use Rattle.theory.specs.Plan.{service}
-use Rattle.theory.specs.Run.{Ran, nothing, job, hit, done, Waiting, atArrival, Before, Runs, Releases}
+use Rattle.theory.specs.Run.{Ran, nothing, job, hit, done, Waiting, at_arrival, Before, Runs, Releases}
 use Rattle.theory.specs.Theorems.{LegalExists, LegalOne}
 use Rattle.rules.proofs.Tests.{and_parts, and_intro}
 
@@ -49,98 +49,98 @@ module _ (rule : Rule) (plan : List ℕ) (start : ℕ) (ts : List ℕ) (work : �
   schedule : ℕ → Ran
   schedule n = choose n (state n)
 
-  state-done : (j r n : ℕ) → done schedule j r n ≡ state n j r
+  state_done : (j r n : ℕ) → done schedule j r n ≡ state n j r
   unfolding done sum state schedule
-  state-done j r zero = refl
-  state-done j r (suc n) = ap (λ (x : ℕ). x + hit (choose n (state n)) j r) (state-done j r n)
+  state_done j r zero = refl
+  state_done j r (suc n) = ap (λ (x : ℕ). x + hit (choose n (state n)) j r) (state_done j r n)
 
   abbrev Mine : ℕ → ℕ → Type 0
   Mine n j = partition ts j ≡ service rule plan (start + n)
 
   -- a waiting job is left, and makes its task ready
-  is-left : (n a b : ℕ) → Waiting atArrival work schedule n a b → left (state n) a b ≡ true
+  is_left : (n a b : ℕ) → Waiting at_arrival work schedule n a b → left (state n) a b ≡ true
   unfolding left
-  is-left n a b w = lt-ltb (state n a b) (work a b) (rw state-done at w.1)
+  is_left n a b w = lt-ltb (state n a b) (work a b) (rw state_done at w.1)
 
-  is-ready : (n a b : ℕ) → Mine n a → Waiting atArrival work schedule n a b → ready n (state n) a ≡ true
+  is_ready : (n a b : ℕ) → Mine n a → Waiting at_arrival work schedule n a b → ready n (state n) a ≡ true
   unfolding ready
-  is-ready n a b m w =
+  is_ready n a b m w =
       and_intro (mine n a) (some (left (state n) a) (suc n)) (eq-eqb (partition ts a) (service rule plan (start + n)) m)
-      (some_at (left (state n) a) (suc n) b (omega (arith, w.0)) (is-left n a b w))
+      (some_at (left (state n) a) (suc n) b (omega (arith, w.0)) (is_left n a b w))
 
   -- a ready task is served in tick n, and its oldest job that is left waits
-  ready-mine : (n j : ℕ) → ready n (state n) j ≡ true → Mine n j
+  ready_mine : (n j : ℕ) → ready n (state n) j ≡ true → Mine n j
   unfolding ready
-  ready-mine n j e = eqb-true (partition ts j) (service rule plan (start + n)) (and_parts (mine n j) (some (left (state n) j) (suc n)) e).0
+  ready_mine n j e = eqb-true (partition ts j) (service rule plan (start + n)) (and_parts (mine n j) (some (left (state n) j) (suc n)) e).0
 
-  ready-waits : (n j : ℕ) → ready n (state n) j ≡ true → Waiting atArrival work schedule n j (oldest n (state n) j)
+  ready_waits : (n j : ℕ) → ready n (state n) j ≡ true → Waiting at_arrival work schedule n j (oldest n (state n) j)
   unfolding ready left
-  ready-waits n j e =
+  ready_waits n j e =
       let l : oldest n (state n) j < suc n = ltb-true (oldest n (state n) j) (suc n) (and_parts (mine n j) (some (left (state n) j) (suc n)) e).1 in
-      (omega arith, rw state-done (ltb-true (state n j (oldest n (state n) j)) (work j (oldest n (state n) j)) (first-at (left (state n) j) (suc n) l)))
+      (omega arith, rw state_done (ltb-true (state n j (oldest n (state n) j)) (work j (oldest n (state n) j)) (first_at (left (state n) j) (suc n) l)))
 
   module _ (R : Releases ts work) where
-    before : (n a b : ℕ) → Mine n a → Waiting atArrival work schedule n a b → Before (task n (state n)) (oldest n (state n) (task n (state n))) a b
+    before : (n a b : ℕ) → Mine n a → Waiting at_arrival work schedule n a b → Before (task n (state n)) (oldest n (state n) (task n (state n))) a b
     before n a b m w = go (le-or-lt a (task n (state n)))
       where
         lowest : task n (state n) ≤ a
-        lowest = first-upto (ready n (state n)) (tasks ts) a (is-ready n a b m w)
+        lowest = first-upto (ready n (state n)) (tasks ts) a (is_ready n a b m w)
 
         go : (a ≤ task n (state n)) ⊎ (task n (state n) < a) → Before (task n (state n)) (oldest n (state n) (task n (state n))) a b
         go (inr l) = inl l
         go (inl l) =
             let e : task n (state n) ≡ a = omega (arith, lowest) in
-            inr (e, first-upto (left (state n) (task n (state n))) (suc n) b (rw e (is-left n a b w)))
+            inr (e, first-upto (left (state n) (task n (state n))) (suc n) b (rw e (is_left n a b w)))
 
-    scheduled : (n : ℕ) → Runs (Mine n) (Waiting atArrival work schedule n) (schedule n)
+    scheduled : (n : ℕ) → Runs (Mine n) (Waiting at_arrival work schedule n) (schedule n)
     unfolding schedule choose
     scheduled n = go (ltb (task n (state n)) (tasks ts)) refl
       where
-        go : (b : Bool) → ltb (task n (state n)) (tasks ts) ≡ b → Runs (Mine n) (Waiting atArrival work schedule n) (pick b (job (task n (state n)) (oldest n (state n) (task n (state n)))) nothing)
+        go : (b : Bool) → ltb (task n (state n)) (tasks ts) ≡ b → Runs (Mine n) (Waiting at_arrival work schedule n) (pick b (job (task n (state n)) (oldest n (state n) (task n (state n)))) nothing)
         go true e =
-            let r = first-at (ready n (state n)) (tasks ts) (ltb-true (task n (state n)) (tasks ts) e) in
-            (ready-mine n (task n (state n)) r, ready-waits n (task n (state n)) r, before n)
+            let r = first_at (ready n (state n)) (tasks ts) (ltb-true (task n (state n)) (tasks ts) e) in
+            (ready_mine n (task n (state n)) r, ready_waits n (task n (state n)) r, before n)
         go false e = λ a b m w.
-            absurd (true≢false (sym (is-ready n a b m w) ∙ first_past (ready n (state n)) (tasks ts) (ltb-false (task n (state n)) (tasks ts) e) a (R.listed a b (omega (arith, w.1)))))
+            absurd (true≢false (sym (is_ready n a b m w) ∙ first_past (ready n (state n)) (tasks ts) (ltb-false (task n (state n)) (tasks ts) e) a (R.listed a b (omega (arith, w.1)))))
 
-pub legal-exists : LegalExists
-legal-exists rule plan start ts work R = (schedule rule plan start ts work, λ N. record { releases = R; runs = λ n u. scheduled rule plan start ts work R n })
+pub legal_exists : LegalExists
+legal_exists rule plan start ts work R = (schedule rule plan start ts work, λ N. record { releases = R; runs = λ n u. scheduled rule plan start ts work R n })
 
 -- ---- only one
 
 done-same : (ran ran' : ℕ → Ran) (n : ℕ) → ((k : ℕ) → k < n → ran k ≡ ran' k) → (j r : ℕ) → done ran j r n ≡ done ran' j r n
 unfolding done
-done-same ran ran' n h j r = sum-ext n _ _ (λ k l. ap (λ (x : Ran). hit x j r) (h k l))
+done-same ran ran' n h j r = sum_ext n _ _ (λ k l. ap (λ (x : Ran). hit x j r) (h k l))
 
-before-both : (j r a b : ℕ) → Before j r a b → Before a b j r → job j r ≡ job a b
-before-both j r a b (inl h) (inl k) = absurd (omega arith)
-before-both j r a b (inl h) (inr k) = absurd (omega (arith, k.0))
-before-both j r a b (inr h) (inl k) = absurd (omega (arith, h.0))
-before-both j r a b (inr h) (inr k) = ap₂ job h.0 (omega (arith, h.1, k.1))
+before_both : (j r a b : ℕ) → Before j r a b → Before a b j r → job j r ≡ job a b
+before_both j r a b (inl h) (inl k) = absurd (omega arith)
+before_both j r a b (inl h) (inr k) = absurd (omega (arith, k.0))
+before_both j r a b (inr h) (inl k) = absurd (omega (arith, h.0))
+before_both j r a b (inr h) (inr k) = ap₂ job h.0 (omega (arith, h.1, k.1))
 
 module _ (N : ℕ) (Mine : ℕ → ℕ → Type 0) (work : ℕ → ℕ → ℕ) (ran ran' : ℕ → Ran)
-    (runs : (n : ℕ) → n < N → Runs (Mine n) (Waiting atArrival work ran n) (ran n))
-    (runs' : (n : ℕ) → n < N → Runs (Mine n) (Waiting atArrival work ran' n) (ran' n)) where
+    (runs : (n : ℕ) → n < N → Runs (Mine n) (Waiting at_arrival work ran n) (ran n))
+    (runs' : (n : ℕ) → n < N → Runs (Mine n) (Waiting at_arrival work ran' n) (ran' n)) where
   -- the same so far, the same now
   now : (n : ℕ) → n < N → ((k : ℕ) → k < n → ran k ≡ ran' k) → ran n ≡ ran' n
   now n u h = go (ran n) (ran' n) (runs n u) (runs' n u)
     where
-      to : (j r : ℕ) → Waiting atArrival work ran n j r → Waiting atArrival work ran' n j r
+      to : (j r : ℕ) → Waiting at_arrival work ran n j r → Waiting at_arrival work ran' n j r
       to j r w = (w.0, subst (λ (x : ℕ). x < work j r) (done-same ran ran' n h j r) w.1)
 
-      from : (j r : ℕ) → Waiting atArrival work ran' n j r → Waiting atArrival work ran n j r
+      from : (j r : ℕ) → Waiting at_arrival work ran' n j r → Waiting at_arrival work ran n j r
       from j r w = (w.0, subst (λ (x : ℕ). x < work j r) (sym (done-same ran ran' n h j r)) w.1)
 
-      go : (x y : Ran) → Runs (Mine n) (Waiting atArrival work ran n) x → Runs (Mine n) (Waiting atArrival work ran' n) y → x ≡ y
+      go : (x y : Ran) → Runs (Mine n) (Waiting at_arrival work ran n) x → Runs (Mine n) (Waiting at_arrival work ran' n) y → x ≡ y
       go nothing nothing s t = refl
       go nothing (job a b) s t = absurd (s a b t.0 (from a b t.1))
       go (job j r) nothing s t = absurd (t j r s.0 (to j r s.1))
-      go (job j r) (job a b) s t = before-both j r a b (s.2 a b t.0 (from a b t.1)) (t.2 j r s.0 (to j r s.1))
+      go (job j r) (job a b) s t = before_both j r a b (s.2 a b t.0 (from a b t.1)) (t.2 j r s.0 (to j r s.1))
 
   upto : (n k : ℕ) → n ≤ N → k < n → ran k ≡ ran' k
   upto zero k u h = absurd (omega arith)
   upto (suc n) k u h = now k (omega arith) (λ j l. upto n j (omega arith) (omega arith))
 
-pub legal-one : LegalOne
-legal-one N rule plan start ts work ran ran' R R' n u =
+pub legal_one : LegalOne
+legal_one N rule plan start ts work ran ran' R R' n u =
     upto N (λ n j. partition ts j ≡ service rule plan (start + n)) work ran ran' R.runs R'.runs (suc n) n u (omega arith)

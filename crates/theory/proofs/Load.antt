@@ -7,30 +7,30 @@ use native.Mathlib.Nat.{add-zero, add-suc, le_antisymm}
 use native.Mathlib.Omega.{arith}
 use lib.Dec.{T}
 use Rattle.rules.specs.Walk.{only, sum, count, round_up}
-use Rattle.rules.proofs.Sum.{only-le, only-lt, only-T, only-add, sum-le, sum_lt, sum-add, sum-split, sum_mono, sum-find, le-or-lt}
+use Rattle.rules.proofs.Sum.{only-le, only-lt, only-T, only-add, sum-le, sum_lt, sum-add, sum_split, sum_mono, sum-find, le-or-lt}
 use Rattle.theory.specs.Run.{Waiting, Ran, job, hit, done, Before}
 use Rattle.theory.specs.Load.{Load, asked, demand, Passes}
 use Rattle.theory.specs.Competition.{LowerBound, Brings, Queue}
 use Rattle.theory.specs.Generality.{LoadTheorem}
-use Rattle.theory.proofs.Arrivals.{window, hit-cases, done-mono, done-hit, due, due-le, due_in, due-pos, due-mono}
+use Rattle.theory.proofs.Arrivals.{window, hit_cases, done_mono, done-hit, due, due_le, due_in, due_pos, due_mono}
 
 -- ---- a server's run
 
 module _ (L : Load) (i : ℕ) (rel work : ℕ → ℕ → ℕ) (sv : ℕ → Bool) (ran : ℕ → Ran) (N : ℕ) (Q : Queue N (L.rival i) sv rel work ran) where
   -- what runs is waiting, so no job runs before its release or beyond its work
-  done-due : (j b n : ℕ) → n ≤ N → done ran j b n ≤ due rel work j b n
+  done_due : (j b n : ℕ) → n ≤ N → done ran j b n ≤ due rel work j b n
   unfolding done sum
-  done-due j b zero u = zero-le
-  done-due j b (suc n) u = go (done-due j b n (omega arith)) (hit-cases (ran n) j b)
+  done_due j b zero u = zero-le
+  done_due j b (suc n) u = go (done_due j b n (omega arith)) (hit_cases (ran n) j b)
     where
       go : sum (λ k. hit (ran k) j b) n ≤ due rel work j b n → (hit (ran n) j b ≡ 0) ⊎ ((ran n ≡ job j b) × (hit (ran n) j b ≡ 1)) → sum (λ k. hit (ran k) j b) n + hit (ran n) j b ≤ due rel work j b (suc n)
-      go ih (inl e) = omega (arith, due-mono rel work j b n (suc n) (omega arith))
+      go ih (inl e) = omega (arith, due_mono rel work j b n (suc n) (omega arith))
       go ih (inr e) =
-          let w = Q.only-waiting n j b u e.0 in
+          let w = Q.only_waiting n j b u e.0 in
           omega (arith, w.1, e.1, due_in rel work j b (suc n) (omega (arith, w.0)))
 
   pub done-le : (j b n : ℕ) → n ≤ N → done ran j b n ≤ work j b
-  done-le j b n u = omega (arith, done-due j b n u, due-le rel work j b n)
+  done-le j b n u = omega (arith, done_due j b n u, due_le rel work j b n)
 
   -- what the rivals above i have done, and what work they were owed, before time n
   spent : ℕ → ℕ
@@ -39,34 +39,34 @@ module _ (L : Load) (i : ℕ) (rel work : ℕ → ℕ → ℕ) (sv : ℕ → Boo
   owed : ℕ → ℕ
   owed n = sum (λ j. only (L.rival i j) (sum (λ b. due rel work j b n) n)) i
 
-  spent-owed : (n : ℕ) → n ≤ N → spent n ≤ owed n
+  spent_owed : (n : ℕ) → n ≤ N → spent n ≤ owed n
   unfolding spent owed
-  spent-owed n u = sum-le i _ _ (λ j h. only-le (L.rival i j) _ _ (λ m. sum-le n _ _ (λ b l. done-due j b n u)))
+  spent_owed n u = sum-le i _ _ (λ j h. only-le (L.rival i j) _ _ (λ m. sum-le n _ _ (λ b l. done_due j b n u)))
 
-  inner-mono : (j n : ℕ) → sum (λ b. done ran j b n) n ≤ sum (λ b. done ran j b (suc n)) (suc n)
+  inner_mono : (j n : ℕ) → sum (λ b. done ran j b n) n ≤ sum (λ b. done ran j b (suc n)) (suc n)
   unfolding sum
-  inner-mono j n = omega (arith, sum-le n (λ b. done ran j b n) (λ b. done ran j b (suc n)) (λ b l. done-mono ran j b (omega arith)))
+  inner_mono j n = omega (arith, sum-le n (λ b. done ran j b n) (λ b. done ran j b (suc n)) (λ b l. done_mono ran j b (omega arith)))
 
-  spent-mono : (n : ℕ) → spent n ≤ spent (suc n)
+  spent_mono : (n : ℕ) → spent n ≤ spent (suc n)
   unfolding spent
-  spent-mono n = sum-le i _ _ (λ j h. only-le (L.rival i j) _ _ (λ m. inner-mono j n))
+  spent_mono n = sum-le i _ _ (λ j h. only-le (L.rival i j) _ _ (λ m. inner_mono j n))
 
-  inner-hit : (j b n : ℕ) → b ≤ n → ran n ≡ job j b → sum (λ b. done ran j b n) n < sum (λ b. done ran j b (suc n)) (suc n)
-  inner-hit j b n l e =
+  inner_hit : (j b n : ℕ) → b ≤ n → ran n ≡ job j b → sum (λ b. done ran j b n) n < sum (λ b. done ran j b (suc n)) (suc n)
+  inner_hit j b n l e =
       omega (
         arith,
         sum_mono (λ b. done ran j b n) {a = n} {b = suc n} (omega arith),
-        sum_lt (suc n) (λ b. done ran j b n) (λ b. done ran j b (suc n)) (λ b l. done-mono ran j b (omega arith)) b (omega arith) (omega (arith, done-hit ran j b n e)),
+        sum_lt (suc n) (λ b. done ran j b n) (λ b. done ran j b (suc n)) (λ b l. done_mono ran j b (omega arith)) b (omega arith) (omega (arith, done-hit ran j b n e)),
       )
 
   -- a tick that runs a higher rival's job
   Higher : ℕ → Type 0
   Higher n = (j : ℕ) × (b : ℕ) × (ran n ≡ job j b) × (j < i) × (b ≤ n) × T (L.rival i j)
 
-  spent-hit : (n : ℕ) → Higher n → spent n < spent (suc n)
+  spent_hit : (n : ℕ) → Higher n → spent n < spent (suc n)
   unfolding spent Higher
-  spent-hit n (j, b, e, l, m, t) =
-      sum_lt i _ _ (λ j h. only-le (L.rival i j) _ _ (λ m. inner-mono j n)) j l (rw (only-T _ _ t, only-T _ _ t) (inner-hit j b n m e))
+  spent_hit n (j, b, e, l, m, t) =
+      sum_lt i _ _ (λ j h. only-le (L.rival i j) _ _ (λ m. inner_mono j n)) j l (rw (only-T _ _ t, only-T _ _ t) (inner_hit j b n m e))
 
   -- a job of a higher rival that is left at time a
   find : (a : ℕ) → spent a < owed a → (j : ℕ) × (b : ℕ) × (j < i) × (b < a) × T (L.rival i j) × (done ran j b a < due rel work j b a)
@@ -78,46 +78,46 @@ module _ (L : Load) (i : ℕ) (rel work : ℕ → ℕ → ℕ) (sv : ℕ → Boo
       (v.0, w.0, v.1, w.1, o.0, w.2)
 
   module _ (B : Brings L i rel work) (periods : (j : ℕ) → j < i → T (L.rival i j) → 0 < L.period j) where
-    owed-one : (j a t : ℕ) → j < i → T (L.rival i j)
+    owed_one : (j a t : ℕ) → j < i → T (L.rival i j)
         → sum (λ b. due rel work j b (a + t)) (a + t) ≤ sum (λ b. due rel work j b a) a + L.cost j * round_up (t + L.jitter j) (L.period j)
-    owed-one j a t h m =
+    owed_one j a t h m =
         let J = L.jitter j in
         let c = a - J in
         omega (
           arith,
           sum_mono (λ b. due rel work j b (a + t)) {a = a + t} {b = c + (t + J)} (omega arith),
-          sum-split c (t + J) (λ b. due rel work j b (a + t)),
+          sum_split c (t + J) (λ b. due rel work j b (a + t)),
           sum-le c (λ b. due rel work j b (a + t)) (λ b. due rel work j b a) (λ b l. old b l (le-or-lt (work j b) 0)),
           sum_mono (λ b. due rel work j b a) {a = c} {b = a} (omega arith),
-          sum-le (t + J) (λ k. due rel work j (c + k) (a + t)) (λ k. work j (c + k)) (λ k l. due-le rel work j (c + k) (a + t)),
+          sum-le (t + J) (λ k. due rel work j (c + k) (a + t)) (λ k. work j (c + k)) (λ k l. due_le rel work j (c + k) (a + t)),
           window (work j) (L.cost j) (L.period j) (λ b. B.within j b (omega arith) m) (λ x y p q l. B.apart j x y (omega arith) m p q l) c (t + J) (periods j h m),
         )
       where
         -- what arrived more than the jitter before a was released before a
         old : (b : ℕ) → b < a - L.jitter j → (work j b ≤ 0) ⊎ (0 < work j b) → due rel work j b (a + t) ≤ due rel work j b a
-        old b l (inl z) = omega (arith, due-le rel work j b (a + t))
-        old b l (inr z) = omega (arith, due-le rel work j b (a + t), due_in rel work j b a (omega (arith, (B.late j b (omega arith) m z).1)))
+        old b l (inl z) = omega (arith, due_le rel work j b (a + t))
+        old b l (inr z) = omega (arith, due_le rel work j b (a + t), due_in rel work j b a (omega (arith, (B.late j b (omega arith) m z).1)))
 
-    owed-step : (a t : ℕ) → owed (a + t) + L.cost i ≤ owed a + demand L i t
+    owed_step : (a t : ℕ) → owed (a + t) + L.cost i ≤ owed a + demand L i t
     unfolding owed demand asked
-    owed-step a t =
+    owed_step a t =
         let s : sum (λ j. only (L.rival i j) (sum (λ b. due rel work j b (a + t)) (a + t))) i ≤ sum (λ j. only (L.rival i j) (sum (λ b. due rel work j b a) a)) i + sum (asked L i t) i =
-        rw (← sum-add) (sum-le i _ _ (λ j h. rw (← only-add) (only-le (L.rival i j) _ _ (λ m. owed-one j a t h m)))) in
+        rw (← sum-add) (sum-le i _ _ (λ j h. rw (← only-add) (only-le (L.rival i j) _ _ (λ m. owed_one j a t h m)))) in
         omega arith
 
     -- where a job of a higher rival waits in a service tick, the tick runs a higher rival's job
-    higher-of : (n x y : ℕ) → n < N → ran n ≡ job x y → x < i → T (L.rival i x) → Higher n
+    higher_of : (n x y : ℕ) → n < N → ran n ≡ job x y → x < i → T (L.rival i x) → Higher n
     unfolding Higher
-    higher-of n x y v e l m =
-        let w = Q.only-waiting n x y v e in
+    higher_of n x y v e l m =
+        let w = Q.only_waiting n x y v e in
         (x, y, e, l, omega (arith, w.0, (B.late x y (omega arith) m (omega (arith, w.1))).0), m)
 
     busy : (n j b : ℕ) → n < N → T (sv n) → j < i → T (L.rival i j) → Waiting rel work ran n j b → Higher n
     busy n j b v o l m w = go (Q.in_order n j b v o m w)
       where
         go : (x : ℕ) × (y : ℕ) × (ran n ≡ job x y) × T (L.rival i x) × Before x y j b → Higher n
-        go (x, y, e, k, inl h) = higher-of n x y v e (omega arith) k
-        go (x, y, e, k, inr h) = higher-of n x y v e (omega (arith, h.0)) k
+        go (x, y, e, k, inl h) = higher_of n x y v e (omega arith) k
+        go (x, y, e, k, inr h) = higher_of n x y v e (omega (arith, h.0)) k
 
     -- the job (i, a₀), where every earlier job of its task was in time
     module _ (self : T (L.rival i i)) (a₀ : ℕ) (real : 0 < work i a₀)
@@ -127,19 +127,19 @@ module _ (L : Load) (i : ℕ) (rel work : ℕ → ℕ → ℕ) (sv : ℕ → Boo
       step n c o u above = sides (le-or-lt (rel i a₀) n)
         where
           at : rel i a₀ ≤ n → (x : ℕ) × (y : ℕ) × (ran n ≡ job x y) × T (L.rival i x) × Before x y i a₀ → Higher n ⊎ (ran n ≡ job i a₀)
-          at l (x, y, e, k, inl h) = inl (higher-of n x y c e h k)
+          at l (x, y, e, k, inl h) = inl (higher_of n x y c e h k)
           at l (x, y, e, k, inr (h, m)) = same (le-or-lt a₀ y)
             where
               same : (a₀ ≤ y) ⊎ (y < a₀) → Higher n ⊎ (ran n ≡ job i a₀)
               same (inl g) = let f : y ≡ a₀ = omega arith in inr (e ∙ ap₂ job h f)
               same (inr g) =
-                  let w : Waiting rel work ran n i y = subst (λ (z : ℕ). Waiting rel work ran n z y) h (Q.only-waiting n x y c e) in
+                  let w : Waiting rel work ran n i y = subst (λ (z : ℕ). Waiting rel work ran n z y) h (Q.only_waiting n x y c e) in
                   absurd (omega (
                     arith,
                     w.1,
                     earlier y g,
                     (B.late i a₀ (omega arith) self real).0,
-                    done-mono ran i y {m = y + L.deadline i} {n = n} (omega (arith, apart y g (omega (arith, w.1)), (B.late i a₀ (omega arith) self real).0)),
+                    done_mono ran i y {m = y + L.deadline i} {n = n} (omega (arith, apart y g (omega (arith, w.1)), (B.late i a₀ (omega arith) self real).0)),
                   ))
 
           sides : (rel i a₀ ≤ n) ⊎ (n < rel i a₀) → Higher n ⊎ (ran n ≡ job i a₀)
@@ -157,18 +157,18 @@ module _ (L : Load) (i : ℕ) (rel work : ℕ → ℕ → ℕ) (sv : ℕ → Boo
             Goal = (work i a₀ ≤ done ran i a₀ (suc (a + k))) ⊎ (spent a + count (λ x. sv (a + x)) (suc k) ≤ spent (suc (a + k)) + done ran i a₀ (suc (a + k)))
 
             spend : spent a + count (λ x. sv (a + x)) k ≤ spent (a + k) + done ran i a₀ (a + k) → Higher (a + k) ⊎ (ran (a + k) ≡ job i a₀) → spent a + (count (λ x. sv (a + x)) k + 1) ≤ spent (suc (a + k)) + done ran i a₀ (suc (a + k))
-            spend h (inl w) = omega (arith, spent-hit (a + k) w, done-mono ran i a₀ {m = a + k} {n = suc (a + k)} (omega arith))
-            spend h (inr e) = omega (arith, spent-mono (a + k), done-hit ran i a₀ (a + k) e)
+            spend h (inl w) = omega (arith, spent_hit (a + k) w, done_mono ran i a₀ {m = a + k} {n = suc (a + k)} (omega arith))
+            spend h (inr e) = omega (arith, spent_mono (a + k), done-hit ran i a₀ (a + k) e)
 
             tick : spent a + count (λ x. sv (a + x)) k ≤ spent (a + k) + done ran i a₀ (a + k) → done ran i a₀ (a + k) < work i a₀ → (b : Bool) → sv (a + k) ≡ b
                 → spent a + (count (λ x. sv (a + x)) k + only b 1) ≤ spent (suc (a + k)) + done ran i a₀ (suc (a + k))
             tick h u true e =
                 let o : T (sv (a + k)) = subst T (sym e) tt in
                 spend h (step (a + k) (omega arith) o u (λ l. above (a + k) (omega arith) l o))
-            tick h u false e = omega (arith, spent-mono (a + k), done-mono ran i a₀ {m = a + k} {n = suc (a + k)} (omega arith))
+            tick h u false e = omega (arith, spent_mono (a + k), done_mono ran i a₀ {m = a + k} {n = suc (a + k)} (omega arith))
 
             go : (work i a₀ ≤ done ran i a₀ (a + k)) ⊎ (spent a + count (λ x. sv (a + x)) k ≤ spent (a + k) + done ran i a₀ (a + k)) → (work i a₀ ≤ done ran i a₀ (a + k)) ⊎ (done ran i a₀ (a + k) < work i a₀) → Goal
-            go h (inl q) = inl (omega (arith, done-mono ran i a₀ {m = a + k} {n = suc (a + k)} (omega arith)))
+            go h (inl q) = inl (omega (arith, done_mono ran i a₀ {m = a + k} {n = suc (a + k)} (omega arith)))
             go (inl h) (inr q) = absurd (omega arith)
             go (inr h) (inr q) = inr (tick h q (sv (a + k)) refl)
 
@@ -178,7 +178,7 @@ module _ (L : Load) (i : ℕ) (rel work : ℕ → ℕ → ℕ) (sv : ℕ → Boo
           where
             go : (work i a₀ ≤ done ran i a₀ (a + t)) ⊎ (spent a + count (λ x. sv (a + x)) t ≤ spent (a + t) + done ran i a₀ (a + t)) → work i a₀ ≤ done ran i a₀ (a + t)
             go (inl h) = h
-            go (inr h) = omega (arith, lb a t, spent-owed (a + t) v, owed-step a t, B.within i a₀ (omega arith) self)
+            go (inr h) = omega (arith, lb a t, spent_owed (a + t) v, owed_step a t, B.within i a₀ (omega arith) self)
 
       -- back from the release to the last time at which nothing of the higher rivals was left
       module _ (low : ℕ → ℕ) (lb : LowerBound sv low) (pass : Passes L low i) (end : a₀ + L.deadline i ≤ N) where
@@ -186,7 +186,7 @@ module _ (L : Load) (i : ℕ) (rel work : ℕ → ℕ → ℕ) (sv : ℕ → Boo
         clear a u above c =
             let t = pass.0 in
             let e : a + t ≤ a₀ + L.deadline i = omega (arith, pass.1, pass.2, (B.late i a₀ (omega arith) self real).1) in
-            omega (arith, finish a above low lb c t (omega arith) pass.3, done-mono ran i a₀ {m = a + t} {n = a₀ + L.deadline i} e)
+            omega (arith, finish a above low lb c t (omega arith) pass.3, done_mono ran i a₀ {m = a + t} {n = a₀ + L.deadline i} e)
 
         back : (a : ℕ) → a ≤ rel i a₀ → ((n : ℕ) → a ≤ n → n < rel i a₀ → T (sv n) → Higher n) → work i a₀ ≤ done ran i a₀ (a₀ + L.deadline i)
         back zero u above = go (le-or-lt (owed 0) (spent 0))
@@ -196,17 +196,17 @@ module _ (L : Load) (i : ℕ) (rel work : ℕ → ℕ → ℕ) (sv : ℕ → Boo
             go (inr c) = let w = find 0 c in absurd (omega (arith, w.3))
         back (suc a) u above = go (λ ab. back a (omega arith) ab) (le-or-lt (owed (suc a)) (spent (suc a)))
           where
-            in-run : a < N
-            in-run = omega (arith, (B.late i a₀ (omega arith) self real).1, pass.1, pass.2)
+            in_run : a < N
+            in_run = omega (arith, (B.late i a₀ (omega arith) self real).1, pass.1, pass.2)
 
             more : spent (suc a) < owed (suc a) → (n : ℕ) → a ≤ n → n < rel i a₀ → T (sv n) → (suc a ≤ n) ⊎ (n < suc a) → Higher n
             more c n g m o (inl h) = above n h m o
             more c n g m o (inr h) =
                 let w = find (suc a) c in
                 let e : a ≡ n = omega arith in
-                subst Higher e (busy a w.0 w.1 in-run (subst (λ (x : ℕ). T (sv x)) (sym e) o) w.2 w.4 (
-                  omega (arith, due-pos rel work w.0 w.1 (suc a) (omega (arith, w.5))),
-                  omega (arith, w.5, due-le rel work w.0 w.1 (suc a), done-mono ran w.0 w.1 {m = a} {n = suc a} (omega arith)),
+                subst Higher e (busy a w.0 w.1 in_run (subst (λ (x : ℕ). T (sv x)) (sym e) o) w.2 w.4 (
+                  omega (arith, due_pos rel work w.0 w.1 (suc a) (omega (arith, w.5))),
+                  omega (arith, w.5, due_le rel work w.0 w.1 (suc a), done_mono ran w.0 w.1 {m = a} {n = suc a} (omega arith)),
                 ))
 
             go : (((n : ℕ) → a ≤ n → n < rel i a₀ → T (sv n) → Higher n) → work i a₀ ≤ done ran i a₀ (a₀ + L.deadline i))
@@ -214,8 +214,8 @@ module _ (L : Load) (i : ℕ) (rel work : ℕ → ℕ → ℕ) (sv : ℕ → Boo
             go ih (inl c) = clear (suc a) u above c
             go ih (inr c) = ih (λ n g m o. more c n g m o (le-or-lt (suc a) n))
 
-        in-time : work i a₀ ≤ done ran i a₀ (a₀ + L.deadline i)
-        in-time = back (rel i a₀) (omega arith) (λ n g m o. absurd (omega arith))
+        in_time : work i a₀ ≤ done ran i a₀ (a₀ + L.deadline i)
+        in_time = back (rel i a₀) (omega arith) (λ n g m o. absurd (omega arith))
 
     module _ (self : T (L.rival i i)) (D≤T : L.deadline i ≤ L.period i) (low : ℕ → ℕ) (lb : LowerBound sv low) (pass : Passes L low i) where
       -- every job that arrived before time n, by induction on n
@@ -226,10 +226,10 @@ module _ (L : Load) (i : ℕ) (rel work : ℕ → ℕ → ℕ) (sv : ℕ → Boo
           go : ((b : ℕ) → b < n → b + L.deadline i ≤ N → work i b ≤ done ran i b (b + L.deadline i)) → (work i a ≤ 0) ⊎ (0 < work i a) → work i a ≤ done ran i a (a + L.deadline i)
           go ih (inl z) = omega arith
           go ih (inr z) =
-              in-time self a z (λ b l. ih b (omega arith) (omega arith)) (λ b l w. omega (arith, B.apart i b a (omega arith) self w z l)) low lb pass u
+              in_time self a z (λ b l. ih b (omega arith) (omega arith)) (λ b l w. omega (arith, B.apart i b a (omega arith) self w z l)) low lb pass u
 
-      pub all-in-time : (a : ℕ) → a + L.deadline i ≤ N → done ran i a (a + L.deadline i) ≡ work i a
-      all-in-time a u = le_antisymm (done-le i a (a + L.deadline i) u) (all (suc a) a (omega arith) u)
+      pub all_in_time : (a : ℕ) → a + L.deadline i ≤ N → done ran i a (a + L.deadline i) ≡ work i a
+      all_in_time a u = le_antisymm (done-le i a (a + L.deadline i) u) (all (suc a) a (omega arith) u)
 
-pub load-theorem : LoadTheorem
-load-theorem L i self dt periods sv low lb pass N rel work ran B Q a u = all-in-time L i rel work sv ran N Q B periods self dt low lb pass a u
+pub load_theorem : LoadTheorem
+load_theorem L i self dt periods sv low lb pass N rel work ran B Q a u = all_in_time L i rel work sv ran N Q B periods self dt low lb pass a u

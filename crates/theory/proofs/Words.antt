@@ -6,8 +6,8 @@ use lib.Dec.{eqb}
 use Rattle.theory.specs.Harmonic.{rank}
 
 -- whether tick s + k is p's
-abbrev pub ownsFrom : (ℕ → ℕ) → ℕ → ℕ → ℕ → Bool
-ownsFrom o p s k = eqb (o (s + k)) p
+abbrev pub owns_from : (ℕ → ℕ) → ℕ → ℕ → ℕ → Bool
+owns_from o p s k = eqb (o (s + k)) p
 
 -- place k is taken after r others
 abbrev pub ranked : List ℕ → ℕ → ℕ → Bool

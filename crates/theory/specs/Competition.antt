@@ -16,6 +16,6 @@ pub record Brings (L : Load) (i : ℕ) (rel work : ℕ → ℕ → ℕ) : Type 0
 
 -- N ticks of a server: what runs is waiting; and in a service tick in which a job of `mine` waits, one of mine runs that goes before it or is it
 pub record Queue (N : ℕ) (mine : ℕ → Bool) (sv : ℕ → Bool) (rel work : ℕ → ℕ → ℕ) (ran : ℕ → Ran) : Type 0 where
-  pub only-waiting : (n j a : ℕ) → n < N → ran n ≡ job j a → Waiting rel work ran n j a
+  pub only_waiting : (n j a : ℕ) → n < N → ran n ≡ job j a → Waiting rel work ran n j a
   pub in_order : (n j a : ℕ) → n < N → T (sv n) → T (mine j) → Waiting rel work ran n j a
       → (x : ℕ) × (y : ℕ) × (ran n ≡ job x y) × T (mine x) × Before x y j a

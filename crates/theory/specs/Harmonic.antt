@@ -17,8 +17,8 @@ unfoldable pub frame : List ℕ → ℕ
 frame ps = largest (cycle ps) (partitions ps)
 
 -- "the sum of q·H/m", for a frame of h ticks
-unfoldable pub allWanted : (ℕ → ℕ) → List ℕ → ℕ → ℕ
-allWanted q ps h = sum (λ k. q k * (h / cycle ps k)) (partitions ps)
+unfoldable pub all_wanted : (ℕ → ℕ) → List ℕ → ℕ → ℕ
+all_wanted q ps h = sum (λ k. q k * (h / cycle ps k)) (partitions ps)
 
 -- "Take partitions by rising cycle, equal cycles by place": whether place j is taken before place k
 unfoldable pub sooner : List ℕ → ℕ → ℕ → Bool
@@ -45,5 +45,5 @@ unfoldable pub planned : (ℕ → ℕ) → List ℕ → ℕ → ℕ → ℕ
 planned q ps r = walk (turn q ps) (λ t. 0) r
 
 -- the plan that the rule writes: every partition had its turn, "The frame H"
-abbrev pub harmonicPlan : (ℕ → ℕ) → List ℕ → List ℕ
-harmonicPlan q ps = listed (planned q ps (partitions ps)) (frame ps)
+abbrev pub harmonic_plan : (ℕ → ℕ) → List ℕ → List ℕ
+harmonic_plan q ps = listed (planned q ps (partitions ps)) (frame ps)

@@ -26,8 +26,8 @@ abbrev pub Waiting : (ℕ → ℕ → ℕ) → (ℕ → ℕ → ℕ) → (ℕ �
 Waiting rel work ran n j a = (rel j a ≤ n) × (done ran j a n < work j a)
 
 -- a task's job is released when it arrives
-abbrev pub atArrival : ℕ → ℕ → ℕ
-atArrival j a = a
+abbrev pub at_arrival : ℕ → ℕ → ℕ
+at_arrival j a = a
 
 -- "the waiting job of the highest priority .., the older of one task first": the job (j, r) goes before (a, b), or is it
 abbrev pub Before : ℕ → ℕ → ℕ → ℕ → Type 0
@@ -48,7 +48,7 @@ pub record Releases (ts : List ℕ) (work : ℕ → ℕ → ℕ) : Type 0 where
 -- "in each own tick the waiting job of the highest priority runs": a legal run of N ticks
 pub record LegalTo (N : ℕ) (rule : Rule) (plan : List ℕ) (start : ℕ) (ts : List ℕ) (work : ℕ → ℕ → ℕ) (ran : ℕ → Ran) : Type 0 where
   pub releases : Releases ts work
-  pub runs : (n : ℕ) → n < N → Runs (λ j. partition ts j ≡ service rule plan (start + n)) (Waiting atArrival work ran n) (ran n)
+  pub runs : (n : ℕ) → n < N → Runs (λ j. partition ts j ≡ service rule plan (start + n)) (Waiting at_arrival work ran n) (ran n)
 
 -- without end
 abbrev pub Legal : Rule → List ℕ → ℕ → List ℕ → (ℕ → ℕ → ℕ) → (ℕ → Ran) → Type 0

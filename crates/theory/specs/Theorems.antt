@@ -2,16 +2,16 @@
 use Rattle.std.specs.Prelude.{◌≡◌, ◌⊎◌, ◌↔◌, true, false, List, ℕ, suc, ◌+◌, ◌-◌, ◌*◌, ◌≤◌, ◌<◌, length, get_or}
 use Rattle.rules.specs.Limits.{longest}
 use Rattle.rules.specs.Walk.{Every, round_up}
-use Rattle.rules.specs.Table.{cycle, partitions, wants, WantsIs, goodShare, goodPart, deadline, tasks, goodTask}
-use Rattle.rules.specs.Terms.{goodGranule}
+use Rattle.rules.specs.Table.{cycle, partitions, wants, WantsIs, good_share, good_part, deadline, tasks, good_task}
+use Rattle.rules.specs.Terms.{good_granule}
 use Rattle.rules.specs.declared.Rule.{Rule}
 use Rattle.rules.specs.declared.Rule.TheVariants.{Own, Switching}
 use Rattle.rules.specs.declared.Holding.{Holding}
-use Rattle.theory.specs.Plan.{owner, switchTick, service, held, HeldIs, least, LeastIs, worstStart, Serves}
-use Rattle.theory.specs.Harmonic.{Harmonic, pairs, frame, allWanted, rank, taken, harmonicPlan}
+use Rattle.theory.specs.Plan.{owner, switch_tick, service, held, HeldIs, least, LeastIs, worst_start, Serves}
+use Rattle.theory.specs.Harmonic.{Harmonic, pairs, frame, all_wanted, rank, taken, harmonic_plan}
 use Rattle.theory.specs.Run.{Ran, done, Releases, LegalTo, Legal}
-use Rattle.theory.specs.Load.{Load, demand, lastPoint, point, firstPoint, firstTick, shortage, tightest}
-use Rattle.theory.specs.Task.{TaskPasses, taskPoint, taskTick}
+use Rattle.theory.specs.Load.{Load, demand, last_point, point, first_point, first_tick, shortage, tightest}
+use Rattle.theory.specs.Task.{TaskPasses, task_point, task_tick}
 use Rattle.theory.specs.Generality.{LoadPoints, LoadTheorem}
 
 -- ==== ticks
@@ -25,7 +25,7 @@ WantsSmallest =
 -- "So q is at least 1", and passes what the cycle has by less than a granule: with g = 1 not at all
 abbrev pub WantsRange : Type 0
 WantsRange =
-    (limit g m n d : ℕ) → goodGranule g ≡ true → goodShare limit m n d ≡ true → (1 ≤ wants g m n d) × (wants g m n d < m + g)
+    (limit g m n d : ℕ) → good_granule g ≡ true → good_share limit m n d ≡ true → (1 ≤ wants g m n d) × (wants g m n d < m + g)
 
 -- "g = 1 gives today's answers": document 01's "q = num·m/den, rounded up to a whole number"
 abbrev pub WantsWhole : Type 0
@@ -52,18 +52,18 @@ LeastOne = (e : ℕ) (plan : List ℕ) (p t : ℕ) (r r' : Holding) → LeastIs 
 abbrev pub SwitchExactly : Type 0
 SwitchExactly =
     (plan : List ℕ) → 0 < length plan
-    → ((t : ℕ) → (switchTick plan (suc t) ≡ true) ↔ ((0 < owner plan (suc t)) × ¬ (owner plan t ≡ owner plan (suc t))))
-    × ((switchTick plan 0 ≡ true) ↔ ((0 < owner plan 0) × ¬ (owner plan (length plan - 1) ≡ owner plan 0)))
+    → ((t : ℕ) → (switch_tick plan (suc t) ≡ true) ↔ ((0 < owner plan (suc t)) × ¬ (owner plan t ≡ owner plan (suc t))))
+    × ((switch_tick plan 0 ≡ true) ↔ ((0 < owner plan 0) × ¬ (owner plan (length plan - 1) ≡ owner plan 0)))
 
 -- "A switch tick is owned but doesn't count as service", and every other tick serves its owner
 abbrev pub SwitchServes : Type 0
 SwitchServes =
     (plan : List ℕ) (t : ℕ)
-    → (switchTick plan t ≡ true → service Switching plan t ≡ 0) × (switchTick plan t ≡ false → service Switching plan t ≡ owner plan t)
+    → (switch_tick plan t ≡ true → service Switching plan t ≡ 0) × (switch_tick plan t ≡ false → service Switching plan t ≡ owner plan t)
 
 -- "A plan of one run has no switch tick."
 abbrev pub OneRun : Type 0
-OneRun = (plan : List ℕ) (p : ℕ) → ((t : ℕ) → owner plan t ≡ p) → (t : ℕ) → switchTick plan t ≡ false
+OneRun = (plan : List ℕ) (p : ℕ) → ((t : ℕ) → owner plan t ≡ p) → (t : ℕ) → switch_tick plan t ≡ false
 
 -- by no rule more is served than by edition 1's, tick by tick
 abbrev pub ServiceWithin : Type 0
@@ -82,7 +82,7 @@ ServesWithin = (rule : Rule) (q : ℕ → ℕ) (plan ps : List ℕ) → Serves r
 
 abbrev pub PassesWithin : Type 0
 PassesWithin =
-    (rule : Rule) (plan ts : List ℕ) (parts : ℕ) → Every (goodTask parts ts) (tasks ts) → (i : ℕ) → i < tasks ts
+    (rule : Rule) (plan ts : List ℕ) (parts : ℕ) → Every (good_task parts ts) (tasks ts) → (i : ℕ) → i < tasks ts
     → TaskPasses rule plan ts i → TaskPasses Own plan ts i
 
 -- ==== least service
@@ -117,30 +117,30 @@ ServesInFrame =
 -- "It is enough to try the scheduling points .. The team proves that both readings agree."
 abbrev pub PointsEnough : Type 0
 PointsEnough =
-    (rule : Rule) (plan ts : List ℕ) (parts : ℕ) → Every (goodTask parts ts) (tasks ts) → (i : ℕ) → i < tasks ts
-    → TaskPasses rule plan ts i ↔ (taskPoint rule plan ts i ≤ deadline ts i)
+    (rule : Rule) (plan ts : List ℕ) (parts : ℕ) → Every (good_task parts ts) (tasks ts) → (i : ℕ) → i < tasks ts
+    → TaskPasses rule plan ts i ↔ (task_point rule plan ts i ≤ deadline ts i)
 
 -- "A pass reports the smallest scheduling point that holds."
 abbrev pub PointSmallest : Type 0
 PointSmallest =
-    (L : Load) (low : ℕ → ℕ) (i : ℕ) → firstPoint L low i ≤ lastPoint L i
-    → (point L i (firstPoint L low i) ≡ true) × (demand L i (firstPoint L low i) ≤ low (firstPoint L low i))
-    × ((t : ℕ) → point L i t ≡ true → demand L i t ≤ low t → firstPoint L low i ≤ t)
+    (L : Load) (low : ℕ → ℕ) (i : ℕ) → first_point L low i ≤ last_point L i
+    → (point L i (first_point L low i) ≡ true) × (demand L i (first_point L low i) ≤ low (first_point L low i))
+    × ((t : ℕ) → point L i t ≡ true → demand L i t ≤ low t → first_point L low i ≤ t)
 
 -- document 02, ask 4: "every tick t from 1 to D": trying them is what passing is, whatever the table
 abbrev pub TicksExactly : Type 0
-TicksExactly = (rule : Rule) (plan ts : List ℕ) (i : ℕ) → TaskPasses rule plan ts i ↔ (taskTick rule plan ts i ≤ deadline ts i)
+TicksExactly = (rule : Rule) (plan ts : List ℕ) (i : ℕ) → TaskPasses rule plan ts i ↔ (task_tick rule plan ts i ≤ deadline ts i)
 
 -- "It reports the smallest tick that holds"
 abbrev pub TickSmallest : Type 0
 TickSmallest =
-    (L : Load) (low : ℕ → ℕ) (i : ℕ) → firstTick L low i ≤ lastPoint L i
-    → (1 ≤ firstTick L low i) × (demand L i (firstTick L low i) ≤ low (firstTick L low i))
-    × ((t : ℕ) → 1 ≤ t → demand L i t ≤ low t → firstTick L low i ≤ t)
+    (L : Load) (low : ℕ → ℕ) (i : ℕ) → first_tick L low i ≤ last_point L i
+    → (1 ≤ first_tick L low i) × (demand L i (first_tick L low i) ≤ low (first_tick L low i))
+    × ((t : ℕ) → 1 ≤ t → demand L i t ≤ low t → first_tick L low i ≤ t)
 
 -- "which may be below the scheduling point", and is never above it
 abbrev pub TickAtMostPoint : Type 0
-TickAtMostPoint = (L : Load) (low : ℕ → ℕ) (i : ℕ) → firstTick L low i ≤ firstPoint L low i
+TickAtMostPoint = (L : Load) (low : ℕ → ℕ) (i : ℕ) → first_tick L low i ≤ first_point L low i
 
 -- ==== the supplier's page
 
@@ -148,8 +148,8 @@ TickAtMostPoint = (L : Load) (low : ℕ → ℕ) (i : ℕ) → firstTick L low i
 abbrev pub WorstStartLowest : Type 0
 WorstStartLowest =
     (rule : Rule) (plan : List ℕ) (p t : ℕ) → 0 < length plan
-    → (worstStart rule plan p t < length plan) × (held rule plan p t (worstStart rule plan p t) ≡ least rule plan p t)
-    × ((s : ℕ) → s < worstStart rule plan p t → least rule plan p t < held rule plan p t s)
+    → (worst_start rule plan p t < length plan) × (held rule plan p t (worst_start rule plan p t) ≡ least rule plan p t)
+    × ((s : ℕ) → s < worst_start rule plan p t → least rule plan p t < held rule plan p t s)
 
 -- "the point with the smallest shortage, lowest point on equals"
 pub record TightestPoint (L : Load) (low : ℕ → ℕ) (i t : ℕ) : Type 0 where
@@ -158,7 +158,7 @@ pub record TightestPoint (L : Load) (low : ℕ → ℕ) (i t : ℕ) : Type 0 whe
   pub lowest : (u : ℕ) → u < t → point L i u ≡ true → shortage L low i t < shortage L low i u
 
 abbrev pub TightestSo : Type 0
-TightestSo = (L : Load) (low : ℕ → ℕ) (i : ℕ) → 1 ≤ lastPoint L i → TightestPoint L low i (tightest L low i)
+TightestSo = (L : Load) (low : ℕ → ℕ) (i : ℕ) → 1 ≤ last_point L i → TightestPoint L low i (tightest L low i)
 
 -- ==== demand 3, first half: the run theorem
 
@@ -166,7 +166,7 @@ TightestSo = (L : Load) (low : ℕ → ℕ) (i : ℕ) → 1 ≤ lastPoint L i �
 -- by then has run as long as it needs by its deadline: "Done within D means finished after at most D ticks from release." Nothing is asked of other tasks.
 abbrev pub RunTheorem : Type 0
 RunTheorem =
-    (rule : Rule) (plan ts : List ℕ) (parts : ℕ) → 0 < length plan → Every (goodTask parts ts) (tasks ts)
+    (rule : Rule) (plan ts : List ℕ) (parts : ℕ) → 0 < length plan → Every (good_task parts ts) (tasks ts)
     → (i : ℕ) → i < tasks ts → TaskPasses rule plan ts i
     → (N start : ℕ) (work : ℕ → ℕ → ℕ) (ran : ℕ → Ran) → LegalTo N rule plan start ts work ran
     → (r : ℕ) → r + deadline ts i ≤ N → done ran i r (r + deadline ts i) ≡ work i r
@@ -174,7 +174,7 @@ RunTheorem =
 -- the same of runs without end
 abbrev pub EndlessTheorem : Type 0
 EndlessTheorem =
-    (rule : Rule) (plan ts : List ℕ) (parts : ℕ) → 0 < length plan → Every (goodTask parts ts) (tasks ts)
+    (rule : Rule) (plan ts : List ℕ) (parts : ℕ) → 0 < length plan → Every (good_task parts ts) (tasks ts)
     → (i : ℕ) → i < tasks ts → TaskPasses rule plan ts i
     → (start : ℕ) (work : ℕ → ℕ → ℕ) (ran : ℕ → Ran) → Legal rule plan start ts work ran
     → (r : ℕ) → done ran i r (r + deadline ts i) ≡ work i r
@@ -212,20 +212,20 @@ TakenRises =
 -- where the sum is not above H, the plan that the rule writes serves the table
 abbrev pub HarmonicServes : Type 0
 HarmonicServes =
-    (q : ℕ → ℕ) (ps : List ℕ) → 0 < partitions ps → Every (goodPart longest ps) (partitions ps) → Harmonic ps
-    → allWanted q ps (frame ps) ≤ frame ps → Serves Own q (harmonicPlan q ps) ps
+    (q : ℕ → ℕ) (ps : List ℕ) → 0 < partitions ps → Every (good_part longest ps) (partitions ps) → Harmonic ps
+    → all_wanted q ps (frame ps) ≤ frame ps → Serves Own q (harmonic_plan q ps) ps
 
 -- "exactly when the sum of q·H/m is above H. Then no plan of any frame serves the table."
 abbrev pub HarmonicRefused : Type 0
 HarmonicRefused =
-    (q : ℕ → ℕ) (ps : List ℕ) → 0 < partitions ps → Every (goodPart longest ps) (partitions ps) → Harmonic ps
-    → frame ps < allWanted q ps (frame ps) → (rule : Rule) (plan : List ℕ) → ¬ Serves rule q plan ps
+    (q : ℕ → ℕ) (ps : List ℕ) → 0 < partitions ps → Every (good_part longest ps) (partitions ps) → Harmonic ps
+    → frame ps < all_wanted q ps (frame ps) → (rule : Rule) (plan : List ℕ) → ¬ Serves rule q plan ps
 
 -- document 02, ask 5: "If q passes m the sum rule refuses it."
 abbrev pub PastCycleRefused : Type 0
 PastCycleRefused =
-    (q : ℕ → ℕ) (ps : List ℕ) → 0 < partitions ps → Every (goodPart longest ps) (partitions ps) → Harmonic ps
-    → (k : ℕ) → k < partitions ps → cycle ps k < q k → frame ps < allWanted q ps (frame ps)
+    (q : ℕ → ℕ) (ps : List ℕ) → 0 < partitions ps → Every (good_part longest ps) (partitions ps) → Harmonic ps
+    → (k : ℕ) → k < partitions ps → cycle ps k < q k → frame ps < all_wanted q ps (frame ps)
 
 -- and every stretch of the cycle falls short, in any plan
 abbrev pub PastCycleShort : Type 0
@@ -234,54 +234,54 @@ PastCycleShort = (rule : Rule) (plan : List ℕ) (p q m s : ℕ) → m < q → h
 -- its frame is the largest cycle, no cycle is longer, and every owner is 0 or a partition of the table
 abbrev pub HarmonicPlanGood : Type 0
 HarmonicPlanGood =
-    (q : ℕ → ℕ) (ps : List ℕ) → 0 < partitions ps → Every (goodPart longest ps) (partitions ps)
-    → (length (harmonicPlan q ps) ≡ frame ps) × (1 ≤ frame ps) × (frame ps ≤ longest)
+    (q : ℕ → ℕ) (ps : List ℕ) → 0 < partitions ps → Every (good_part longest ps) (partitions ps)
+    → (length (harmonic_plan q ps) ≡ frame ps) × (1 ≤ frame ps) × (frame ps ≤ longest)
     × ((k : ℕ) → k < partitions ps → cycle ps k ≤ frame ps)
-    × ((t : ℕ) → get_or (harmonicPlan q ps) t 0 ≤ partitions ps)
+    × ((t : ℕ) → get_or (harmonic_plan q ps) t 0 ≤ partitions ps)
 
 -- ==== all of them: proofs/Proved.antt has one
 
--- (load-points and load-theorem are specs/Generality.antt's)
+-- (load_points and load_theorem are specs/Generality.antt's)
 pub record Proved : Type 0 where
-  pub wants-smallest : WantsSmallest
-  pub wants-range : WantsRange
-  pub wants-whole : WantsWhole
-  pub wants-no-less : WantsNoLess
-  pub wants-one : WantsOne
+  pub wants_smallest : WantsSmallest
+  pub wants_range : WantsRange
+  pub wants_whole : WantsWhole
+  pub wants_no_less : WantsNoLess
+  pub wants_one : WantsOne
   pub held_one : HeldOne
-  pub least-one : LeastOne
-  pub switch-exactly : SwitchExactly
-  pub switch-serves : SwitchServes
-  pub one-run : OneRun
-  pub service-within : ServiceWithin
-  pub held-within : HeldWithin
-  pub least-within : LeastWithin
-  pub serves-within : ServesWithin
-  pub passes-within : PassesWithin
-  pub least-is-least : LeastIsLeast
-  pub least-attained : LeastAttained
+  pub least_one : LeastOne
+  pub switch_exactly : SwitchExactly
+  pub switch_serves : SwitchServes
+  pub one_run : OneRun
+  pub service_within : ServiceWithin
+  pub held_within : HeldWithin
+  pub least_within : LeastWithin
+  pub serves_within : ServesWithin
+  pub passes_within : PassesWithin
+  pub least_is_least : LeastIsLeast
+  pub least_attained : LeastAttained
   pub least_zero : LeastZero
-  pub least-bounds : LeastBounds
-  pub least-grows : LeastGrows
-  pub serves-in-frame : ServesInFrame
-  pub points-enough : PointsEnough
-  pub load-points : LoadPoints
-  pub point-smallest : PointSmallest
-  pub ticks-exactly : TicksExactly
-  pub tick-smallest : TickSmallest
-  pub tick-at-most-point : TickAtMostPoint
-  pub worst-start-lowest : WorstStartLowest
-  pub tightest-so : TightestSo
-  pub run-theorem : RunTheorem
-  pub endless-theorem : EndlessTheorem
-  pub load-theorem : LoadTheorem
-  pub legal-exists : LegalExists
-  pub legal-one : LegalOne
-  pub pairs-divide : PairsDivide
-  pub taken-once : TakenOnce
-  pub taken-rises : TakenRises
-  pub harmonic-serves : HarmonicServes
-  pub harmonic-refused : HarmonicRefused
-  pub past-cycle-refused : PastCycleRefused
-  pub past-cycle-short : PastCycleShort
-  pub harmonic-plan-good : HarmonicPlanGood
+  pub least_bounds : LeastBounds
+  pub least_grows : LeastGrows
+  pub serves_in_frame : ServesInFrame
+  pub points_enough : PointsEnough
+  pub load_points : LoadPoints
+  pub point_smallest : PointSmallest
+  pub ticks_exactly : TicksExactly
+  pub tick_smallest : TickSmallest
+  pub tick_at_most_point : TickAtMostPoint
+  pub worst_start_lowest : WorstStartLowest
+  pub tightest_so : TightestSo
+  pub run_theorem : RunTheorem
+  pub endless_theorem : EndlessTheorem
+  pub load_theorem : LoadTheorem
+  pub legal_exists : LegalExists
+  pub legal_one : LegalOne
+  pub pairs_divide : PairsDivide
+  pub taken_once : TakenOnce
+  pub taken_rises : TakenRises
+  pub harmonic_serves : HarmonicServes
+  pub harmonic_refused : HarmonicRefused
+  pub past_cycle_refused : PastCycleRefused
+  pub past_cycle_short : PastCycleShort
+  pub harmonic_plan_good : HarmonicPlanGood

@@ -1,7 +1,7 @@
 // Reads a plan file from standard input and writes the page of one of its tasks, which a word names by its number from 1.
 ghost use Rattle.std.specs.Prelude.{◌≡◌, List, ℕ, ◌≤◌, ◌<◌, length, take};
-ghost use Rattle.rules.specs.Limits.{longestFile, longestWhy};
-ghost use Rattle.why_page.specs.Why.{whyOf};
+ghost use Rattle.rules.specs.Limits.{longest_file, longest_why};
+ghost use Rattle.why_page.specs.Why.{why_of};
 
 use libc::{STDERR_FILENO, STDOUT_FILENO};
 use rules::limits::{LONGEST_FILE, LONGEST_WHY};
@@ -16,10 +16,10 @@ const ROOM: usize = LONGEST_FILE + 1;
 // Then the page of b's task is put at the start of `out`, and the answer is its length.
 fn why_input(file: &[u8], n: usize, place: usize, out: &mut [u8]) -> usize
     requires { (n ≤ length file.now)
-        × (longestFile < length file.now)
-        × (longestWhy ≤ length out.old) }
+        × (longest_file < length file.now)
+        × (longest_why ≤ length out.old) }
     ensures by_index { (b : List ℕ) → take n file.now ≡ take (length file.now) b
-        → take result out.new ≡ whyOf b place }
+        → take result out.new ≡ why_of b place }
     ensures upper_bound { result ≤ length out.new }
 {
     why_page::compose(&file[..n], place, out)

@@ -6,26 +6,26 @@ use Rattle.output.specs.Text.{bytes}
 use Rattle.output.specs.Decimal.{decimal}
 
 -- how wide a column of numbers is, in bytes
-abbrev pub columnWidth : ℕ
-columnWidth = 8
+abbrev pub column_width : ℕ
+column_width = 8
 
 -- a number that ends its column
 unfoldable pub padded : ℕ → List ℕ
-padded n = replicate (columnWidth - length (decimal n)) (code " ") ++ decimal n
+padded n = replicate (column_width - length (decimal n)) (code " ") ++ decimal n
 
 -- task i partition p
-unfoldable pub taskWords : ℕ → ℕ → List ℕ
-taskWords i p = bytes "task " ++ decimal i ++ (bytes " partition " ++ decimal p)
+unfoldable pub task_words : ℕ → ℕ → List ℕ
+task_words i p = bytes "task " ++ decimal i ++ (bytes " partition " ++ decimal p)
 
-unfoldable pub passesLine : ℕ → ℕ → List ℕ
-passesLine i p = taskWords i p ++ bytes " passes\n"
+unfoldable pub passes_line : ℕ → ℕ → List ℕ
+passes_line i p = task_words i p ++ bytes " passes\n"
 
-unfoldable pub failsLine : ℕ → ℕ → List ℕ
-failsLine i p = taskWords i p ++ bytes " fails\n"
+unfoldable pub fails_line : ℕ → ℕ → List ℕ
+fails_line i p = task_words i p ++ bytes " fails\n"
 
 -- the columns' names
-unfoldable pub namesLine : List ℕ
-namesLine = bytes "   point   needs     has   short   worst stretch in wall ticks\n"
+unfoldable pub names_line : List ℕ
+names_line = bytes "   point   needs     has   short   worst stretch in wall ticks\n"
 
 -- the point t, what a task needs there, what it can be sure of, and how much of its need that leaves short
 unfoldable pub columns : ℕ → ℕ → ℕ → List ℕ
@@ -48,11 +48,11 @@ unfoldable pub tick_words : ℕ → ℕ → ℕ → List ℕ
 tick_words t n h = bytes "at tick " ++ decimal t ++ (bytes " it needs " ++ decimal n) ++ (bytes " and can be sure of " ++ decimal h)
 
 -- a pass: how much is to spare there
-unfoldable pub spareLine : ℕ → ℕ → ℕ → List ℕ
-spareLine t n h = tick_words t n h ++ (bytes ": " ++ decimal (h - n)) ++ bytes " to spare\n"
+unfoldable pub spare_line : ℕ → ℕ → ℕ → List ℕ
+spare_line t n h = tick_words t n h ++ (bytes ": " ++ decimal (h - n)) ++ bytes " to spare\n"
 
 -- a fail: how much is short there, and where the worst stretch of so many ticks starts
-unfoldable pub shortLine : ℕ → ℕ → ℕ → ℕ → List ℕ
-shortLine t n h s =
+unfoldable pub short_line : ℕ → ℕ → ℕ → ℕ → List ℕ
+short_line t n h s =
     tick_words t n h ++ (bytes ": " ++ decimal (n - h))
     ++ (bytes " short; the worst stretch starts at tick " ++ decimal s) ++ bytes "\n"

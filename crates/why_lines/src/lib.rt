@@ -2,8 +2,8 @@
 ghost use Rattle.std.specs.Prelude.{◌≡◌, ◌+◌, ◌-◌, ◌≤◌, ◌<◌, ◌^◌, length};
 ghost use Rattle.output.specs.Put.{Put};
 ghost use Rattle.output.specs.Decimal.{decimal};
-ghost use Rattle.rules.specs.Limits.{longestLine};
-ghost use Rattle.why_lines.specs.Lines.{padded, taskWords, passesLine, failsLine, namesLine, columns, window, mark, row_line, tick_words, spareLine, shortLine};
+ghost use Rattle.rules.specs.Limits.{longest_line};
+ghost use Rattle.why_lines.specs.Lines.{padded, task_words, passes_line, fails_line, names_line, columns, window, mark, row_line, tick_words, spare_line, short_line};
 
 use output::{put_field, put_text};
 
@@ -45,7 +45,7 @@ fn put_column(out: &mut [u8], at: usize, n: usize) -> usize
 
 fn put_task(out: &mut [u8], at: usize, place: usize, partition: usize) -> usize
     requires { at < 2 ^ 40 }
-    ensures { Put out.old at (taskWords place partition) result out.new
+    ensures { Put out.old at (task_words place partition) result out.new
         × (result ≤ at + 56) }
 {
     let a = put_field(out, at, b"task ", place);
@@ -54,8 +54,8 @@ fn put_task(out: &mut [u8], at: usize, place: usize, partition: usize) -> usize
 
 pub fn put_passes(out: &mut [u8], at: usize, place: usize, partition: usize) -> usize
     requires { at < 2 ^ 40 }
-    ensures { Put out.old at (passesLine place partition) result out.new
-        × (result ≤ at + longestLine) }
+    ensures { Put out.old at (passes_line place partition) result out.new
+        × (result ≤ at + longest_line) }
 {
     let a = put_task(out, at, place, partition);
     put_text(out, a, b" passes\n")
@@ -63,8 +63,8 @@ pub fn put_passes(out: &mut [u8], at: usize, place: usize, partition: usize) -> 
 
 pub fn put_fails(out: &mut [u8], at: usize, place: usize, partition: usize) -> usize
     requires { at < 2 ^ 40 }
-    ensures { Put out.old at (failsLine place partition) result out.new
-        × (result ≤ at + longestLine) }
+    ensures { Put out.old at (fails_line place partition) result out.new
+        × (result ≤ at + longest_line) }
 {
     let a = put_task(out, at, place, partition);
     put_text(out, a, b" fails\n")
@@ -72,8 +72,8 @@ pub fn put_fails(out: &mut [u8], at: usize, place: usize, partition: usize) -> u
 
 pub fn put_names(out: &mut [u8], at: usize) -> usize
     requires { at < 2 ^ 40 }
-    ensures { Put out.old at namesLine result out.new
-        × (result ≤ at + longestLine) }
+    ensures { Put out.old at names_line result out.new
+        × (result ≤ at + longest_line) }
 {
     put_text(
         out,
@@ -125,7 +125,7 @@ pub fn put_row(
 ) -> usize
     requires { (at < 2 ^ 40) × (point < 2 ^ 32) × (needs < 2 ^ 32) × (has < 2 ^ 32) × (start < 2 ^ 32) }
     ensures { Put out.old at (row_line tightest point needs has start) result out.new
-        × (result ≤ at + longestLine) }
+        × (result ≤ at + longest_line) }
 {
     let a = put_columns(out, at, point, needs, has);
     let b = put_window(out, a, start, point);
@@ -145,8 +145,8 @@ fn put_tick(out: &mut [u8], at: usize, tick: usize, needs: usize, has: usize) ->
 // What is said of a task that passes at a tick.
 pub fn put_spare(out: &mut [u8], at: usize, tick: usize, needs: usize, has: usize) -> usize
     requires { (at < 2 ^ 40) × (tick < 2 ^ 16) × (needs < 2 ^ 33) × (has < 2 ^ 33) }
-    ensures { Put out.old at (spareLine tick needs has) result out.new
-        × (result ≤ at + longestLine) }
+    ensures { Put out.old at (spare_line tick needs has) result out.new
+        × (result ≤ at + longest_line) }
 {
     let a = put_tick(out, at, tick, needs, has);
     let b = put_field(out, a, b": ", beyond(has, needs));
@@ -163,8 +163,8 @@ pub fn put_short(
     start: usize,
 ) -> usize
     requires { (at < 2 ^ 40) × (tick < 2 ^ 16) × (needs < 2 ^ 33) × (has < 2 ^ 33) × (start < 2 ^ 33) }
-    ensures { Put out.old at (shortLine tick needs has start) result out.new
-        × (result ≤ at + longestLine) }
+    ensures { Put out.old at (short_line tick needs has start) result out.new
+        × (result ≤ at + longest_line) }
 {
     let a = put_tick(out, at, tick, needs, has);
     let b = put_field(out, a, b": ", beyond(needs, has));

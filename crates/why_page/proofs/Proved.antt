@@ -9,166 +9,166 @@ use lib.Dec.{eqb}
 use lib.ListN.{length, take, replicate}
 use lib.Seq.{take_all}
 use borrow.Author.Tests.{le-ltb, ne_eqb}
-use Rattle.rules.specs.Limits.{rowWidth}
+use Rattle.rules.specs.Limits.{row_width}
 use Rattle.rules.specs.Walk.{only, gathered}
 use Rattle.rules.specs.Table.{partition}
-use Rattle.rules.specs.Terms.{filed, ruleOf}
+use Rattle.rules.specs.Terms.{filed, rule_of}
 use Rattle.rules.specs.declared.Rule.{Rule}
 use Rattle.rules.proofs.Sum.{le-or-lt}
-use Rattle.theory.specs.Plan.{least, worstStart}
+use Rattle.theory.specs.Plan.{least, worst_start}
 use Rattle.theory.specs.Load.{demand, shortage}
-use Rattle.theory.specs.Task.{taskLoad}
+use Rattle.theory.specs.Task.{task_load}
 use Rattle.task_verdict.proofs.Engines as verdicts
 use Rattle.task_page.specs.declared.Paged.{Paged}
 use Rattle.task_page.specs.declared.Paged.TheVariants.{Refused}
 use Rattle.task_page.proofs.Proved as pages
-use Rattle.task_page.specs.Page.{rows_of, points_of, tightestOf, failOf, page_of}
+use Rattle.task_page.specs.Page.{rows_of, points_of, tightest_of, fail_of, page_of}
 use Rattle.output.specs.Text.{bytes}
 use Rattle.output.specs.Decimal.{decimal}
-use Rattle.output.proofs.Decimal.{decimal-one, decimal-more}
+use Rattle.output.proofs.Decimal.{decimal-one, decimal_more}
 use Rattle.output.proofs.Proved as output
 use Rattle.file_read.specs.declared.Reading.{Reading}
 use Rattle.file_read.specs.declared.Reading.TheVariants as reading
 use Rattle.file_read.specs.Reader.{read_of}
 use Rattle.file_read.proofs.Reader.{accepted, contents-short}
 use Rattle.file_read.proofs.Proved as reader
-use Rattle.why_lines.specs.Lines.{columnWidth, padded, taskWords, failsLine, namesLine, columns, window, mark, row_line, tick_words, shortLine}
-use Rattle.why_page.specs.Why.{line_of, short_of, spare_of, passText, failText, mostNumbers, pagedText, tablesText, readText, whyOf}
-use Rattle.why_page.specs.Theorems.{linesIn, FailLines, FailShort, OneMark, PassSpare, RoomEnough, WhyFirst, Proved}
-use Rattle.why_page.proofs.Rows.{line-for-each, points-few}
-use Rattle.why_page.proofs.Paged.{pass-judged, fail-judged, answered-reach}
+use Rattle.why_lines.specs.Lines.{column_width, padded, task_words, fails_line, names_line, columns, window, mark, row_line, tick_words, short_line}
+use Rattle.why_page.specs.Why.{line_of, short_of, spare_of, pass_text, fail_text, most_numbers, paged_text, tables_text, read_text, why_of}
+use Rattle.why_page.specs.Theorems.{lines_in, FailLines, FailShort, OneMark, PassSpare, RoomEnough, WhyFirst, Proved}
+use Rattle.why_page.proofs.Rows.{line_for_each, points_few}
+use Rattle.why_page.proofs.Paged.{pass-judged, fail_judged, answered_reach}
 
 -- ---- how many lines
 
-lines-append : (a b : List ℕ) → linesIn (a ++ b) ≡ linesIn a + linesIn b
-unfolding linesIn
+lines-append : (a b : List ℕ) → lines_in (a ++ b) ≡ lines_in a + lines_in b
+unfolding lines_in
 lines-append [] b = omega arith
 lines-append (x ∷ a) b = omega (arith, lines-append a b)
 
-lines-nil : linesIn [] ≡ 0
-unfolding linesIn
+lines-nil : lines_in [] ≡ 0
+unfolding lines_in
 lines-nil = refl
 
-both : (a b : List ℕ) (x y : ℕ) → linesIn a ≡ x → linesIn b ≡ y → linesIn (a ++ b) ≡ x + y
+both : (a b : List ℕ) (x y : ℕ) → lines_in a ≡ x → lines_in b ≡ y → lines_in (a ++ b) ≡ x + y
 both a b x y ea eb = rw (lines-append a b, ea, eb)
 
-blanks-none : (n : ℕ) → linesIn (replicate n 32) ≡ 0
-unfolding linesIn only
-blanks-none zero = refl
-blanks-none (suc n) = omega (arith, blanks-none n)
+blanks_none : (n : ℕ) → lines_in (replicate n 32) ≡ 0
+unfolding lines_in only
+blanks_none zero = refl
+blanks_none (suc n) = omega (arith, blanks_none n)
 
-digit-none : (d : ℕ) → linesIn ((48 + d) ∷ []) ≡ 0
-unfolding linesIn only
-digit-none d = rw (ne_eqb (48 + d) 10 (omega arith))
+digit_none : (d : ℕ) → lines_in ((48 + d) ∷ []) ≡ 0
+unfolding lines_in only
+digit_none d = rw (ne_eqb (48 + d) 10 (omega arith))
 
-digits-none : (fuel n : ℕ) → n ≤ fuel → linesIn (decimal n) ≡ 0
-digits-none zero n h = rw (decimal-one n (omega arith)) (digit-none n)
+digits-none : (fuel n : ℕ) → n ≤ fuel → lines_in (decimal n) ≡ 0
+digits-none zero n h = rw (decimal-one n (omega arith)) (digit_none n)
 digits-none (suc fuel) n h = step (λ l. digits-none fuel (n / 10) (omega arith)) (le-or-lt 10 n)
   where
-    step : (10 ≤ n → linesIn (decimal (n / 10)) ≡ 0) → (10 ≤ n) ⊎ (n < 10) → linesIn (decimal n) ≡ 0
-    step ih (inl l) = rw (decimal-more n l) (both (decimal (n / 10)) ((48 + n % 10) ∷ []) 0 0 (ih l) (digit-none (n % 10)))
-    step ih (inr l) = rw (decimal-one n l) (digit-none n)
+    step : (10 ≤ n → lines_in (decimal (n / 10)) ≡ 0) → (10 ≤ n) ⊎ (n < 10) → lines_in (decimal n) ≡ 0
+    step ih (inl l) = rw (decimal_more n l) (both (decimal (n / 10)) ((48 + n % 10) ∷ []) 0 0 (ih l) (digit_none (n % 10)))
+    step ih (inr l) = rw (decimal-one n l) (digit_none n)
 
-field-none : (a : List ℕ) (n : ℕ) → linesIn a ≡ 0 → linesIn (a ++ decimal n) ≡ 0
-field-none a n e = both a (decimal n) 0 0 e (digits-none n n (omega arith))
+field_none : (a : List ℕ) (n : ℕ) → lines_in a ≡ 0 → lines_in (a ++ decimal n) ≡ 0
+field_none a n e = both a (decimal n) 0 0 e (digits-none n n (omega arith))
 
-padded-none : (n : ℕ) → linesIn (padded n) ≡ 0
+padded-none : (n : ℕ) → lines_in (padded n) ≡ 0
 unfolding padded
-padded-none n = field-none (replicate (columnWidth - length (decimal n)) 32) n (blanks-none (columnWidth - length (decimal n)))
+padded-none n = field_none (replicate (column_width - length (decimal n)) 32) n (blanks_none (column_width - length (decimal n)))
 
-window-none : (s t : ℕ) → linesIn (window s t) ≡ 0
-unfolding window linesIn only
-window-none s t = both (bytes "   " ++ decimal s) (bytes " to " ++ decimal (s + t - 1)) 0 0 (field-none (bytes "   ") s refl) (field-none (bytes " to ") (s + t - 1) refl)
+window-none : (s t : ℕ) → lines_in (window s t) ≡ 0
+unfolding window lines_in only
+window-none s t = both (bytes "   " ++ decimal s) (bytes " to " ++ decimal (s + t - 1)) 0 0 (field_none (bytes "   ") s refl) (field_none (bytes " to ") (s + t - 1) refl)
 
-columns-none : (t n h : ℕ) → linesIn (columns t n h) ≡ 0
+columns-none : (t n h : ℕ) → lines_in (columns t n h) ≡ 0
 unfolding columns
 columns-none t n h =
     both (padded t ++ padded n ++ padded h) (padded (n - h)) 0 0
     (both (padded t ++ padded n) (padded h) 0 0 (both (padded t) (padded n) 0 0 (padded-none t) (padded-none n)) (padded-none h)) (padded-none (n - h))
 
-mark-one : (b : Bool) → linesIn (mark b) ≡ 1
-unfolding linesIn only
+mark-one : (b : Bool) → lines_in (mark b) ≡ 1
+unfolding lines_in only
 mark-one true = refl
 mark-one false = refl
 
-row_one : (u t n h s : ℕ) → linesIn (row_line u t n h s) ≡ 1
+row_one : (u t n h s : ℕ) → lines_in (row_line u t n h s) ≡ 1
 unfolding row_line
 row_one u t n h s = both (columns t n h ++ window s t) (mark (eqb t u)) 0 1 (both (columns t n h) (window s t) 0 0 (columns-none t n h) (window-none s t)) (mark-one (eqb t u))
 
-tick-none : (t n h : ℕ) → linesIn (tick_words t n h) ≡ 0
-unfolding tick_words linesIn only
-tick-none t n h =
+tick_none : (t n h : ℕ) → lines_in (tick_words t n h) ≡ 0
+unfolding tick_words lines_in only
+tick_none t n h =
     both (bytes "at tick " ++ decimal t ++ (bytes " it needs " ++ decimal n)) (bytes " and can be sure of " ++ decimal h) 0 0
-    (both (bytes "at tick " ++ decimal t) (bytes " it needs " ++ decimal n) 0 0 (field-none (bytes "at tick ") t refl) (field-none (bytes " it needs ") n refl))
-    (field-none (bytes " and can be sure of ") h refl)
+    (both (bytes "at tick " ++ decimal t) (bytes " it needs " ++ decimal n) 0 0 (field_none (bytes "at tick ") t refl) (field_none (bytes " it needs ") n refl))
+    (field_none (bytes " and can be sure of ") h refl)
 
-short-one : (t n h s : ℕ) → linesIn (shortLine t n h s) ≡ 1
-unfolding shortLine linesIn only
+short-one : (t n h s : ℕ) → lines_in (short_line t n h s) ≡ 1
+unfolding short_line lines_in only
 short-one t n h s =
     both (tick_words t n h ++ (bytes ": " ++ decimal (n - h)) ++ (bytes " short; the worst stretch starts at tick " ++ decimal s)) (bytes "\n") 0 1
     (both (tick_words t n h ++ (bytes ": " ++ decimal (n - h))) (bytes " short; the worst stretch starts at tick " ++ decimal s) 0 0
-    (both (tick_words t n h) (bytes ": " ++ decimal (n - h)) 0 0 (tick-none t n h) (field-none (bytes ": ") (n - h) refl))
-    (field-none (bytes " short; the worst stretch starts at tick ") s refl))
+    (both (tick_words t n h) (bytes ": " ++ decimal (n - h)) 0 0 (tick_none t n h) (field_none (bytes ": ") (n - h) refl))
+    (field_none (bytes " short; the worst stretch starts at tick ") s refl))
     refl
 
-fails-one : (i p : ℕ) → linesIn (failsLine i p) ≡ 1
-unfolding failsLine taskWords linesIn only
+fails-one : (i p : ℕ) → lines_in (fails_line i p) ≡ 1
+unfolding fails_line task_words lines_in only
 fails-one i p =
     both (bytes "task " ++ decimal i ++ (bytes " partition " ++ decimal p)) (bytes " fails\n") 0 1
-    (both (bytes "task " ++ decimal i) (bytes " partition " ++ decimal p) 0 0 (field-none (bytes "task ") i refl) (field-none (bytes " partition ") p refl))
+    (both (bytes "task " ++ decimal i) (bytes " partition " ++ decimal p) 0 0 (field_none (bytes "task ") i refl) (field_none (bytes " partition ") p refl))
     refl
 
-names-one : linesIn namesLine ≡ 1
-unfolding namesLine linesIn only
-names-one = refl
+names_one_lem : lines_in names_line ≡ 1
+unfolding names_line lines_in only
+names_one_lem = refl
 
-line-one : (u : ℕ) (rows : List ℕ) (k : ℕ) → linesIn (line_of u rows k) ≡ 1
+line-one : (u : ℕ) (rows : List ℕ) (k : ℕ) → lines_in (line_of u rows k) ≡ 1
 unfolding line_of
 line-one u rows k = row_one u _ _ _ _
 
-rows-each : (u : ℕ) (rows : List ℕ) (n : ℕ) → linesIn (gathered (line_of u rows) n) ≡ n
+rows_each : (u : ℕ) (rows : List ℕ) (n : ℕ) → lines_in (gathered (line_of u rows) n) ≡ n
 unfolding gathered
-rows-each u rows zero = lines-nil
-rows-each u rows (suc n) = lines-append (gathered (line_of u rows) n) (line_of u rows n) ∙ omega (arith, rows-each u rows n, line-one u rows n)
+rows_each u rows zero = lines-nil
+rows_each u rows (suc n) = lines-append (gathered (line_of u rows) n) (line_of u rows n) ∙ omega (arith, rows_each u rows n, line-one u rows n)
 
-fail-text-lines : (rule : Rule) (plan ts : List ℕ) (place : ℕ) → linesIn (failText rule plan ts place) ≡ points_of ts (place - 1) + 3
-unfolding failText short_of
-fail-text-lines rule plan ts place =
+fail_text-lines : (rule : Rule) (plan ts : List ℕ) (place : ℕ) → lines_in (fail_text rule plan ts place) ≡ points_of ts (place - 1) + 3
+unfolding fail_text short_of
+fail_text-lines rule plan ts place =
     let i : ℕ = place - 1 in
-    let u : ℕ = tightestOf rule plan ts i in
-    let a : List ℕ = failsLine place (partition ts i) in
+    let u : ℕ = tightest_of rule plan ts i in
+    let a : List ℕ = fails_line place (partition ts i) in
     let g : List ℕ = gathered (line_of u (rows_of rule plan ts i)) (points_of ts i) in
     let z : List ℕ = short_of rule plan ts i u in
-    lines-append (a ++ namesLine ++ g) z
+    lines-append (a ++ names_line ++ g) z
     ∙ omega (
       arith,
-      lines-append (a ++ namesLine) g,
-      lines-append a namesLine,
+      lines-append (a ++ names_line) g,
+      lines-append a names_line,
       fails-one place (partition ts i),
-      names-one,
-      rows-each u (rows_of rule plan ts i) (points_of ts i),
-      short-one u (demand (taskLoad ts) i u) (least rule plan (partition ts i) u) (worstStart rule plan (partition ts i) u),
+      names_one_lem,
+      rows_each u (rows_of rule plan ts i) (points_of ts i),
+      short-one u (demand (task_load ts) i u) (least rule plan (partition ts i) u) (worst_start rule plan (partition ts i) u),
     )
 
-fail-lines : FailLines
-unfolding tablesText
-fail-lines e plan ps ts place n u h p =
-    let f = fail-judged (filed e) plan ps ts place mostNumbers n u h p in
-    (f.rows, ap (λ (x : Paged). linesIn (pagedText (ruleOf e) plan ts place x)) p ∙ fail-text-lines (ruleOf e) plan ts place ∙ ap (λ (k : ℕ). k + 3) (sym f.rows))
+fail_lines : FailLines
+unfolding tables_text
+fail_lines e plan ps ts place n u h p =
+    let f = fail_judged (filed e) plan ps ts place most_numbers n u h p in
+    (f.rows, ap (λ (x : Paged). lines_in (paged_text (rule_of e) plan ts place x)) p ∙ fail_text-lines (rule_of e) plan ts place ∙ ap (λ (k : ℕ). k + 3) (sym f.rows))
 
 -- ---- the sentences
 
-fail-short : FailShort
+fail_short : FailShort
 unfolding shortage
-fail-short e plan ps ts place n u h p =
-    let t = (pages.proved).page-tightest (filed e) plan ps ts place mostNumbers n u h p in
+fail_short e plan ps ts place n u h p =
+    let t = (pages.proved).page_tightest (filed e) plan ps ts place most_numbers n u h p in
     (t.0, omega (arith, t.1, t.2))
 
-one-mark : OneMark
-one-mark e plan ps ts place n u h p =
-    let f = fail-judged (filed e) plan ps ts place mostNumbers n u h p in
-    let w = line-for-each (ruleOf e) plan ts (place - 1) u in
-    let m = w.each-point u ((pages.proved).page-tightest (filed e) plan ps ts place mostNumbers n u h p).0.a_point in (
+one_mark : OneMark
+one_mark e plan ps ts place n u h p =
+    let f = fail_judged (filed e) plan ps ts place most_numbers n u h p in
+    let w = line_for_each (rule_of e) plan ts (place - 1) u in
+    let m = w.each_point u ((pages.proved).page_tightest (filed e) plan ps ts place most_numbers n u h p).0.a_point in (
       m.0,
       omega (arith, f.rows, m.1),
       m.2,
@@ -184,40 +184,40 @@ one-mark e plan ps ts place n u h p =
     same j k a b (inl l) (inr g) = a g
     same j k a b (inl l) (inl g) = omega arith
 
-pass-spare : PassSpare
-unfolding tablesText passText spare_of
-pass-spare e plan ps ts place t p = (
-  ap (λ (x : Paged). pagedText (ruleOf e) plan ts place x) p,
-  omega (arith, ((verdicts.proved).pass-point (filed e) plan ps ts place t (pass-judged (filed e) plan ps ts place mostNumbers t p)).1),
+pass_spare : PassSpare
+unfolding tables_text pass_text spare_of
+pass_spare e plan ps ts place t p = (
+  ap (λ (x : Paged). paged_text (rule_of e) plan ts place x) p,
+  omega (arith, ((verdicts.proved).pass_point (filed e) plan ps ts place t (pass-judged (filed e) plan ps ts place most_numbers t p)).1),
 )
 
 -- ---- the room
 
-room-enough : RoomEnough
-unfolding page_of failOf
-room-enough e plan ps ts place v =
-    let a = (((verdicts.proved).by-points.fail-exactly (filed e) plan ps ts place).0 v).0 in
-    let o = (answered-reach (filed e) plan ps ts place mostNumbers 0 a (omega arith)).judgeable.in_order (place - 1) (omega arith) in
-    rw (v, le-ltb mostNumbers (rowWidth * points_of ts (place - 1)) (omega (arith, points-few ts (place - 1), o.in-period, o.short)))
+room_enough : RoomEnough
+unfolding page_of fail_of
+room_enough e plan ps ts place v =
+    let a = (((verdicts.proved).by_points.fail_exactly (filed e) plan ps ts place).0 v).0 in
+    let o = (answered_reach (filed e) plan ps ts place most_numbers 0 a (omega arith)).judgeable.in_order (place - 1) (omega arith) in
+    rw (v, le-ltb most_numbers (row_width * points_of ts (place - 1)) (omega (arith, points_few ts (place - 1), o.in_period, o.short)))
 
 -- ---- the file's bytes
 
-why-first : WhyFirst
-unfolding whyOf
-why-first b place n h = step (read_of b) refl
+why_first : WhyFirst
+unfolding why_of
+why_first b place n h = step (read_of b) refl
   where
-    step : (c : Reading) → read_of b ≡ c → readText (read_of (take n b)) (take n b) place ≡ readText (read_of b) b place
+    step : (c : Reading) → read_of b ≡ c → read_text (read_of (take n b)) (take n b) place ≡ read_text (read_of b) b place
     step (reading.Refused x) e = rw ((reader.proved).read_first b n h, e)
     step (reading.Contents ed f np nt nr) e = rw (take_all n b (omega (arith, contents-short b ed f np nt nr (accepted b ed f np nt nr e).contents)))
 
 pub proved : Proved
 proved = record {
-  fail-lines = fail-lines;
-  fail-rows = line-for-each;
-  fail-short = fail-short;
-  one-mark = one-mark;
-  pass-spare = pass-spare;
-  room-enough = room-enough;
-  why-first = why-first;
-  why-one = λ b out o o' place r r' p q. (output.proved).one-put out (whyOf b place) o o' 0 r r' p q;
+  fail_lines = fail_lines;
+  fail_rows = line_for_each;
+  fail_short = fail_short;
+  one_mark = one_mark;
+  pass_spare = pass_spare;
+  room_enough = room_enough;
+  why_first = why_first;
+  why_one = λ b out o o' place r r' p q. (output.proved).one_put out (why_of b place) o o' 0 r r' p q;
 }

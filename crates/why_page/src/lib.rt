@@ -1,11 +1,11 @@
 // The page of a task of a plan file, as text: at the start of an output, as far as there is room.
 ghost use Rattle.std.specs.Prelude.{◌≡◌, ◌+◌, ◌-◌, ◌*◌, ◌^◌, ◌≤◌, ◌<◌, length};
-ghost use Rattle.rules.specs.Limits.{longest, longestLine, longestWhy};
+ghost use Rattle.rules.specs.Limits.{longest, longest_line, longest_why};
 ghost use Rattle.rules.specs.Walk.{gathered};
 ghost use Rattle.output.specs.Put.{Put};
-ghost use Rattle.file_runs.specs.Ticks.{ticksOf};
+ghost use Rattle.file_runs.specs.Ticks.{ticks_of};
 ghost use Rattle.file_runs.specs.Inner.{Framed};
-ghost use Rattle.why_page.specs.Why.{line_of, spare_of, short_of, passText, failText, mostNumbers, tablesText, whyOf, placeAsked};
+ghost use Rattle.why_page.specs.Why.{line_of, spare_of, short_of, pass_text, fail_text, most_numbers, tables_text, why_of, place_asked};
 ghost use Rattle.why_page.specs.Inner.{InReach, Sized, Rowed, PagedSo};
 
 use file_read::Reading;
@@ -24,9 +24,9 @@ const MOST_NUMBERS: usize = ROW_WIDTH * LONGEST;
 
 // The line of a row.
 fn put_line(rows: &[u32], k: usize, tightest: usize, out: &mut [u8], at: usize) -> usize
-    requires { (k < longest) × (at < 2 ^ 40) × (length rows.now ≡ mostNumbers) }
+    requires { (k < longest) × (at < 2 ^ 40) × (length rows.now ≡ most_numbers) }
     ensures { Put out.old at (line_of tightest rows.now k) result out.new
-        × (result ≤ at + longestLine) }
+        × (result ≤ at + longest_line) }
 {
     let row = ROW_WIDTH * k;
     let point = wide32(rows[row]);
@@ -38,9 +38,9 @@ fn put_line(rows: &[u32], k: usize, tightest: usize, out: &mut [u8], at: usize) 
 
 // The lines of the first n rows.
 fn put_lines(rows: &[u32], n: usize, tightest: usize, out: &mut [u8], start: usize) -> usize
-    requires { (n ≤ longest) × (start < 2 ^ 32) × (length rows.now ≡ mostNumbers) }
+    requires { (n ≤ longest) × (start < 2 ^ 32) × (length rows.now ≡ most_numbers) }
     ensures { Put out.old start (gathered (line_of tightest rows.now) n) result out.new
-        × (result ≤ start + longestLine * n) }
+        × (result ≤ start + longest_line * n) }
 {
     let mut at = start;
     let mut k = 0;
@@ -83,7 +83,7 @@ fn put_spare(
     requires { InReach plan.now table.now i t × (at < 2 ^ 40) }
     ensures { Put out.old at
         (spare_of rule plan.now table.now i t) result out.new
-        × (result ≤ at + longestLine) }
+        × (result ≤ at + longest_line) }
 {
     let size = size_at(rule, plan, table, i, t);
     why_lines::put_spare(out, at, t, size.needs, size.has)
@@ -102,7 +102,7 @@ fn put_short(
     requires { InReach plan.now table.now i t × (at < 2 ^ 40) }
     ensures { Put out.old at
         (short_of rule plan.now table.now i t) result out.new
-        × (result ≤ at + longestLine) }
+        × (result ≤ at + longest_line) }
 {
     let size = size_at(rule, plan, table, i, t);
     let p = wide(rules::records::partition(table, i));
@@ -120,8 +120,8 @@ fn put_passing(
 ) -> usize
     requires { (1 ≤ place) × InReach plan.now table.now (place - 1) point }
     ensures { Put out.old 0
-        (passText rule plan.now table.now place point) result out.new
-        × (result ≤ longestWhy) }
+        (pass_text rule plan.now table.now place point) result out.new
+        × (result ≤ longest_why) }
 {
     let i = place - 1;
     let partition = wide(rules::records::partition(table, i));
@@ -141,8 +141,8 @@ fn put_failing(
 ) -> usize
     requires { (1 ≤ place) × Rowed rule plan.now table.now (place - 1) rows.now n tightest }
     ensures { Put out.old 0
-        (failText rule plan.now table.now place) result out.new
-        × (result ≤ longestWhy) }
+        (fail_text rule plan.now table.now place) result out.new
+        × (result ≤ longest_why) }
 {
     let i = place - 1;
     let partition = wide(rules::records::partition(table, i));
@@ -165,8 +165,8 @@ fn put_paged(
 ) -> usize
     requires { PagedSo edition plan.now parts.now table.now place rows.now paged }
     ensures { Put out.old 0
-        (tablesText edition plan.now parts.now table.now place) result out.new
-        × (result ≤ longestWhy) }
+        (tables_text edition plan.now parts.now table.now place) result out.new
+        × (result ≤ longest_why) }
 {
     let rule = rules::rule_of(edition);
     match paged {
@@ -190,8 +190,8 @@ fn put_page(
     out: &mut [u8],
 ) -> usize
     ensures { Put out.old 0
-        (tablesText edition plan.now parts.now table.now place) result out.new
-        × (result ≤ longestWhy) }
+        (tables_text edition plan.now parts.now table.now place) result out.new
+        × (result ≤ longest_why) }
 {
     let mut rows = [0u32; MOST_NUMBERS];
     let terms = rules::filed(edition);
@@ -211,9 +211,9 @@ fn put_tables(
 ) -> usize
     requires { Framed frame runs.now }
     ensures { Put out.old 0
-        (tablesText edition (ticksOf runs.now) parts.now table.now place)
+        (tables_text edition (ticks_of runs.now) parts.now table.now place)
         result out.new
-        × (result ≤ longestWhy) }
+        × (result ≤ longest_why) }
 {
     let mut plan = [0u16; LONGEST];
     file_runs::ticks_of(runs, &mut plan);
@@ -223,8 +223,8 @@ fn put_tables(
 // Puts the page of a task, by its place from 1, of a file's bytes at the start of the output, as far as there is room. The
 // answer is its length.
 pub fn compose(file: &[u8], place: usize, out: &mut [u8]) -> usize
-    ensures { Put out.old 0 (whyOf file.now place) result out.new
-        × (result ≤ longestWhy) }
+    ensures { Put out.old 0 (why_of file.now place) result out.new
+        × (result ≤ longest_why) }
 {
     let mut parts = [0u16; PART_NUMBERS];
     let mut tasks = [0u16; TASK_NUMBERS];
@@ -258,7 +258,7 @@ pub fn compose(file: &[u8], place: usize, out: &mut [u8]) -> usize
 // The place that a program is asked for, of so many words with its own name, `word` being the one behind that: 0, which is
 // no task's, where it is no number or not the only one.
 pub fn place_asked(words: usize, word: &[u8]) -> usize
-    ensures { result ≡ placeAsked words word.now }
+    ensures { result ≡ place_asked words word.now }
 {
     if words != 2 {
         return 0;

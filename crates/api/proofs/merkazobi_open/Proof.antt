@@ -58,7 +58,7 @@ use Rattle.answers.specs.contracts.to_open as asks
 use Rattle.answers.proofs.to_open.Symbol as asks-def
 use Rattle.answers.proofs.to_open.Symbol.{name as the-asks-#answers}
 use Rattle.answers.proofs.to_open.Met as asks-thm
-use Rattle.api.proofs.Telling.{TellC, to-tell, goes-tell, said-tell, CallC, to-call, goes-call}
+use Rattle.api.proofs.Telling.{TellC, to_tell, goes_tell, said_tell, CallC, to_call, goes_call}
 use Rattle.answers.specs.contracts.tell_desk as tell
 use Rattle.answers.proofs.tell_desk.Symbol as tell-def
 use Rattle.answers.proofs.tell_desk.Symbol.{name as #answers·tell-desk}
@@ -140,19 +140,19 @@ module _ {M : Type 1} {𝓤 : Ura M} (𝓛 : Logic 𝓤) (mem : Memory → SProp
         assigns ! (addr ! (from ! (hop ! (look ! 12 refl) (stop !)))) (from ! (stop !)) (init ! 4 refl (tt, tt)) $
         assigns ! (addr ! (from ! (fld ! refl (hop ! (look_in ! 10 (sub ! 0 refl (whole !))) (stop !))))) (from ! (stop !)) (init ! 2 refl (tt, tt)) $
         assigns ! (agg ! (and_then ! (load ! (from ! (stop !)) (look ! 2 refl)) (and_then ! (load ! (from ! (fld ! refl (stop !))) (look_in ! 10 (sub ! 1 refl (whole !)))) (no_more !)))) (from ! (stop !)) (init ! 0 refl (tt, (tt, (record { fits = room.0 }, tt)))) $
-        move ! (17 ∷ []) $ fsplit ! $ move ! (1 ∷ []) $ fsplit ! $ move ! (19 ∷ 2 ∷ 0 ∷ []) $ use3 𝓛 (raw ((CallC 𝓛 mem run).pre (to-call 𝓛 mem run κ κ' q q' b o γ k b' o' γ' ys ask w₀ is₀))) (goes-call 𝓛 mem run κ κ' q q' b o γ k b' o' γ' ys ask w₀ is₀) $
+        move ! (17 ∷ []) $ fsplit ! $ move ! (1 ∷ []) $ fsplit ! $ move ! (19 ∷ 2 ∷ 0 ∷ []) $ use3 𝓛 (raw ((CallC 𝓛 mem run).pre (to_call 𝓛 mem run κ κ' q q' b o γ k b' o' γ' ys ask w₀ is₀))) (goes_call 𝓛 mem run κ κ' q q' b o γ k b' o' γ' ys ask w₀ is₀) $
         -- [what `call` asks; nothing; the locals from 2 on]
-        calls_at ! fm (CallC 𝓛 mem run) known (to-call 𝓛 mem run κ κ' q q' b o γ k b' o' γ' ys ask w₀ is₀) (and_then ! (load ! (from ! (stop !)) (look ! 6 refl)) (and_then ! (load ! (from ! (stop !)) (look ! 2 refl)) (and_then ! (load ! (from ! (stop !)) (look ! 10 refl)) (no_more !)))) (λ w.
+        calls_at ! fm (CallC 𝓛 mem run) known (to_call 𝓛 mem run κ κ' q q' b o γ k b' o' γ' ys ask w₀ is₀) (and_then ! (load ! (from ! (stop !)) (look ! 6 refl)) (and_then ! (load ! (from ! (stop !)) (look ! 2 refl)) (and_then ! (load ! (from ! (stop !)) (look ! 10 refl)) (no_more !)))) (λ w.
         use1 𝓛 (later (some (λ (z : Answer). ((‵ (flft κ q) ⊛ ‵ (flft κ' q') ⊛ ‵ ftrue) ⊛ ‵ ((N.the_row).own_val z (w ∷ []))) ⊛ raw (ensured 𝓛 call.ended (call.clauses 𝓛 mem run) (κ, (κ', tt)) (y, (x, (ask, tt))) tt z)))) (id⊢ 𝓤 _) $ await ! tt $ pick ! (λ z.
         split ! $ move ! (1 ∷ []) $ use1 𝓛 (some (λ (ws : Desk × (List Job × (Unit {0} × Unit {0}))). ‵ (lasts call.ended (κ, (κ', tt)) (y, (x, (ask, tt))) ws) ⊛ raw (fact 𝓤 (Left ask z ws.0 ws.1.0)))) (id⊢ 𝓤 _) $ pick ! (λ ws.
         split ! $ move ! (1 ∷ []) $ heard ! (Left ask z ws.0 ws.1.0) (λ e₁. fsplit ! $ move ! (1 ∷ []) $ fsplit ! $ fsplit ! $ move ! (1 ∷ []) $ feq_l ! (λ l.
         move ! (3 ∷ []) $ split ! $ move ! (1 ∷ []) $ peeks ! N.the_row (Is N.the_row) (shows 𝓛 N.the_row) z (w ∷ []) (λ is₁.
         land ! (from ! (stop !)) (init ! 12 refl ((EL.lawful N.the_type N'.the_laws 𝓛 tt).typed z _ is₁).0) $ drop ! $
         -- [the tokens; the last list; …; the last desk; …; the locals from 5 on]: `tell_desk`
-        nothing ! $ use1 𝓛 (raw ((TellC 𝓛 mem run).pre (to-tell 𝓛 mem run z w))) (goes-tell 𝓛 mem run z w is₁) $
-        calls_at ! fm (TellC 𝓛 mem run) known-tell (to-tell 𝓛 mem run z w) (and_then ! (load ! (from ! (stop !)) (look ! 12 refl)) (no_more !)) (λ u.
+        nothing ! $ use1 𝓛 (raw ((TellC 𝓛 mem run).pre (to_tell 𝓛 mem run z w))) (goes_tell 𝓛 mem run z w is₁) $
+        calls_at ! fm (TellC 𝓛 mem run) known-tell (to_tell 𝓛 mem run z w) (and_then ! (load ! (from ! (stop !)) (look ! 12 refl)) (no_more !)) (λ u.
         use1 𝓛 (later (some (λ (r : Told). (‵ ftrue ⊛ ‵ ((T.the_row).own_val r (u ∷ []))) ⊛ raw (ensured 𝓛 tell.ended (tell.clauses 𝓛 mem run) tt (z, tt) tt r)))) (id⊢ 𝓤 _) $ await ! tt $ pick ! (λ r.
-        split ! $ move ! (1 ∷ []) $ use1 𝓛 (raw (fact 𝓤 (r ≡ said z))) (said-tell 𝓛 mem run z r) $ heard ! (r ≡ said z) (λ e₂. split ! $ drop ! $
+        split ! $ move ! (1 ∷ []) $ use1 𝓛 (raw (fact 𝓤 (r ≡ said z))) (said_tell 𝓛 mem run z r) $ heard ! (r ≡ said z) (λ e₂. split ! $ drop ! $
         peeks ! T.the_row (Is T.the_row) (shows 𝓛 T.the_row) r (u ∷ []) (λ is₂.
         land ! (from ! (stop !)) (init ! 20 refl ((LL.lawful T.the_type T'.the_laws 𝓛).typed r _ is₂).0) $
         returns ! (look ! 20 refl) $ forget ! 6 refl $ forget ! 8 refl $ forget ! 10 refl $ forget ! 12 refl $ forget ! 14 refl $ forget ! 16 refl $ forget ! 18 refl $ forget ! 20 refl $

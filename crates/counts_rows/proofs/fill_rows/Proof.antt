@@ -3,14 +3,14 @@ use mathlib.Core.Path.{◌≡◌, refl, ◌∙◌}
 use native.Mathlib.Omega.{arith}
 use lib.ListN.{length}
 use Rattle.rules.specs.Inner.{AsNamed}
-use Rattle.counts.specs.Counts.{rowWidth, countAt}
+use Rattle.counts.specs.Counts.{row_width, count_at}
 use Rattle.counts.proofs.Passes.{rows_none, rows_fit, rows-turn}
 use borrow.Author.Rules.{rules}
 use Rattle.counts_rows.proofs.fill_rows.Statement.{statement}
 use Rattle.counts_rows.proofs.fill_rows.Tie as tie
 
 abbrev invariant-loop : tie.invariant-loop
-invariant-loop plan list₀ parts p₀ list p = (p ≤ parts) × (length list ≡ length list₀) × AsNamed (countAt plan) (p * rowWidth plan) list₀ list
+invariant-loop plan list₀ parts p₀ list p = (p ≤ parts) × (length list ≡ length list₀) × AsNamed (count_at plan) (p * row_width plan) list₀ list
 
 abbrev decreases-loop : tie.decreases-loop
 decreases-loop plan list₀ parts p₀ list p = parts - p

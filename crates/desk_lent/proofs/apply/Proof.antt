@@ -43,8 +43,8 @@ use denote.Triple.Clauses.{ensured, lasts}
 use denote.Triple.Table.{entered, cited}
 use denote.Triple.Walked.{says, Stays, stay_none, stay_slice, walk_of, Goes-none, Goes-slice, Walks, ends_at, walked, walk_Meets}
 use denote.Exit.{yes}
-use Rattle.desk_records.specs.Folds.{movedUp}
-use Rattle.desk_writing.specs.Writing.{shifted, fittedAll}
+use Rattle.desk_records.specs.Folds.{moved_up}
+use Rattle.desk_writing.specs.Writing.{shifted, fitted_all}
 use Rattle.desk_engine.specs.Deciding.{applied}
 use Rattle.desk.specs.declared.Job.{Job}
 use Rattle.desk_writing.specs.declared.shift.Shift.{Shift}
@@ -215,10 +215,10 @@ module _ {M : Type 1} {𝓤 : Ura M} (𝓛 : Logic 𝓤) (mem : Memory → SProp
   sv-of : (l : List Job) → length l ≡ n → sv ≡ slice_val (b, o) (length l)
   sv-of l e = ap (λ (m : ℕ). slice_val (b, o) m) (sym e)
 
-  all-passes : (k : ℕ) (u : Shift) (v : Fit) (l₁ l₂ l₃ : List Job) → k ≡ s.drop → l₁ ≡ movedUp k ys → u ≡ s.shift → l₂ ≡ shifted u l₁ → v ≡ s.fit → l₃ ≡ fittedAll v l₂ → l₃ ≡ applied s ys
+  all-passes : (k : ℕ) (u : Shift) (v : Fit) (l₁ l₂ l₃ : List Job) → k ≡ s.drop → l₁ ≡ moved_up k ys → u ≡ s.shift → l₂ ≡ shifted u l₁ → v ≡ s.fit → l₃ ≡ fitted_all v l₂ → l₃ ≡ applied s ys
   unfolding applied
   all-passes k u v l₁ l₂ l₃ ek e₁ eu e₂ ev e₃ =
-      e₃ ∙ ap (λ (z : Fit). fittedAll z l₂) ev ∙ ap (fittedAll s.fit) (e₂ ∙ ap (λ (z : Shift). shifted z l₁) eu ∙ ap (shifted s.shift) (e₁ ∙ ap (λ (z : ℕ). movedUp z ys) ek))
+      e₃ ∙ ap (λ (z : Fit). fitted_all z l₂) ev ∙ ap (fitted_all s.fit) (e₂ ∙ ap (λ (z : Shift). shifted z l₁) eu ∙ ap (shifted s.shift) (e₁ ∙ ap (λ (z : ℕ). moved_up z ys) ek))
 
   module _ (C : Calls 𝓤 H) (Λ : Loops 𝓤 H) (fm : FmC 𝓤 H 𝓛.laws C) (known-dropOf : Triple 𝓤 (C #desk-engine·dropOf) (drop_of-C 𝓛 mem run)) (known-drop_pass : Triple 𝓤 (C #desk-walks·drop_pass) (drop_pass-C 𝓛 mem run)) (known-shiftOf : Triple 𝓤 (C #desk-engine·shiftOf) (shift_of-C 𝓛 mem run)) (known-shift_pass : Triple 𝓤 (C #desk-walks·shift_pass) (shift_pass-C 𝓛 mem run)) (known-fitOf : Triple 𝓤 (C #desk-engine·fitOf) (fit_of-C 𝓛 mem run)) (known-fit_pass : Triple 𝓤 (C #desk-walks·fit_pass) (fit_pass-C 𝓛 mem run)) where
     walk : ent 𝓤 (on_entry 𝓛 f.signature (κ, tt) (q, tt) a at) (WpFn 𝓤 H C Λ code.function (sv ∷ smach s ∷ []) Post)
@@ -245,8 +245,8 @@ module _ {M : Type 1} {𝓤 : Ura M} (𝓛 : Logic 𝓤) (mem : Memory → SProp
         move ! (2 ∷ 0 ∷ []) $ use2 𝓛 (raw ((drop_pass-C 𝓛 mem run).pre (to-drop_pass 𝓛 mem run b o ν0 δ0 ys v0))) (goes-drop_pass 𝓛 mem run b o ν0 δ0 ys v0 (refl, is0.1)) $
         calls_at ! fm (drop_pass-C 𝓛 mem run) known-drop_pass (to-drop_pass 𝓛 mem run b o ν0 δ0 ys v0) (and_then ! (load ! (from ! (stop !)) (look ! 13 refl)) (and_then ! (load ! (from ! (stop !)) (look ! 23 refl)) (no_more !))) (λ u0.
         use1 𝓛 (later (some (λ (t0 : Unit {0}). ((‵ (flft (ν0 ∷ []) full_share) ⊛ ‵ ftrue) ⊛ ‵ (unit.own_val t0 (u0 ∷ []))) ⊛ raw (ensured 𝓛 drop_pass.ended (drop_pass.clauses 𝓛 mem run) (ν0 ∷ [], tt) (record { ref_ptr = (b, o); ghost_name = δ0; now = ys }, (v0, tt)) tt t0)))) (id⊢ 𝓤 _) $ await ! tt $ pick ! (λ t0.
-        split ! $ move ! (1 ∷ []) $ use1 𝓛 (some (λ (r0 : List Job × (Unit {0} × Unit {0})). ‵ (lasts drop_pass.ended (ν0 ∷ [], tt) (record { ref_ptr = (b, o); ghost_name = δ0; now = ys }, (v0, tt)) r0) ⊛ raw (fact 𝓤 (r0.0 ≡ movedUp v0 ys)))) (id⊢ 𝓤 _) $ pick ! (λ r0.
-        split ! $ move ! (1 ∷ []) $ heard ! (r0.0 ≡ movedUp v0 ys) (λ ez0. fsplit ! $ fsplit ! $ move ! (1 ∷ []) $ feq_l ! (λ l0.
+        split ! $ move ! (1 ∷ []) $ use1 𝓛 (some (λ (r0 : List Job × (Unit {0} × Unit {0})). ‵ (lasts drop_pass.ended (ν0 ∷ [], tt) (record { ref_ptr = (b, o); ghost_name = δ0; now = ys }, (v0, tt)) r0) ⊛ raw (fact 𝓤 (r0.0 ≡ moved_up v0 ys)))) (id⊢ 𝓤 _) $ pick ! (λ r0.
+        split ! $ move ! (1 ∷ []) $ heard ! (r0.0 ≡ moved_up v0 ys) (λ ez0. fsplit ! $ fsplit ! $ move ! (1 ∷ []) $ feq_l ! (λ l0.
         move ! (2 ∷ []) $ split ! $ move ! (1 ∷ []) $ peeks ! unit (Is unit) (shows 𝓛 unit) t0 (u0 ∷ []) (λ isu0.
         -- [the result; the token; the last list; …; the lender's part; the open borrow; obs; auth; _12 at 8; …]
         land ! (from ! (stop !)) (init ! 20 refl ((Nothing-Lawful 𝓛).typed t0 _ isu0).0) $
@@ -291,8 +291,8 @@ module _ {M : Type 1} {𝓤 : Ura M} (𝓛 : Logic 𝓤) (mem : Memory → SProp
         move ! (2 ∷ 0 ∷ []) $ use2 𝓛 (raw ((fit_pass-C 𝓛 mem run).pre (to-fit_pass 𝓛 mem run b o ν2 δ2 r1.0 v2))) (goes-fit_pass 𝓛 mem run b o ν2 δ2 r1.0 v2 (subst (Is B.the_row v2) (LL.tells B.the_type B'.the_laws v2 (w2 ∷ []) is2) is2)) $
         calls_at ! fm (fit_pass-C 𝓛 mem run) known-fit_pass (to-fit_pass 𝓛 mem run b o ν2 δ2 r1.0 v2) (and_then ! (load ! (from ! (stop !)) (look ! 5 refl)) (and_then ! (load ! (from ! (stop !)) (look ! 19 refl)) (no_more !))) (λ u2.
         use1 𝓛 (later (some (λ (t2 : Unit {0}). ((‵ (flft (ν2 ∷ []) full_share) ⊛ ‵ ftrue) ⊛ ‵ (unit.own_val t2 (u2 ∷ []))) ⊛ raw (ensured 𝓛 fit_pass.ended (fit_pass.clauses 𝓛 mem run) (ν2 ∷ [], tt) (record { ref_ptr = (b, o); ghost_name = δ2; now = r1.0 }, (v2, tt)) tt t2)))) (id⊢ 𝓤 _) $ await ! tt $ pick ! (λ t2.
-        split ! $ move ! (1 ∷ []) $ use1 𝓛 (some (λ (r2 : List Job × (Unit {0} × Unit {0})). ‵ (lasts fit_pass.ended (ν2 ∷ [], tt) (record { ref_ptr = (b, o); ghost_name = δ2; now = r1.0 }, (v2, tt)) r2) ⊛ raw (fact 𝓤 (r2.0 ≡ fittedAll v2 r1.0)))) (id⊢ 𝓤 _) $ pick ! (λ r2.
-        split ! $ move ! (1 ∷ []) $ heard ! (r2.0 ≡ fittedAll v2 r1.0) (λ ez2. fsplit ! $ fsplit ! $ move ! (1 ∷ []) $ feq_l ! (λ l2.
+        split ! $ move ! (1 ∷ []) $ use1 𝓛 (some (λ (r2 : List Job × (Unit {0} × Unit {0})). ‵ (lasts fit_pass.ended (ν2 ∷ [], tt) (record { ref_ptr = (b, o); ghost_name = δ2; now = r1.0 }, (v2, tt)) r2) ⊛ raw (fact 𝓤 (r2.0 ≡ fitted_all v2 r1.0)))) (id⊢ 𝓤 _) $ pick ! (λ r2.
+        split ! $ move ! (1 ∷ []) $ heard ! (r2.0 ≡ fitted_all v2 r1.0) (λ ez2. fsplit ! $ fsplit ! $ move ! (1 ∷ []) $ feq_l ! (λ l2.
         move ! (2 ∷ []) $ split ! $ move ! (1 ∷ []) $ peeks ! unit (Is unit) (shows 𝓛 unit) t2 (u2 ∷ []) (λ isu2.
         -- [the result; the token; the last list; …; the lender's part; the open borrow; obs; auth; _12 at 8; …]
         land ! (from ! (stop !)) (store ! 20 refl ((Nothing-Lawful 𝓛).typed t2 _ isu2).0) $

@@ -53,10 +53,10 @@ use Rattle.desk.specs.declared.Ask.{Ask}
 use Rattle.desk_reading.specs.declared.scan.Scan.{Scan}
 use Rattle.desk_engine.specs.declared.effect.Effect.{Effect}
 use Rattle.desk_reading.specs.Reading.{scanned}
-use Rattle.desk_engine.specs.Beginning.{scanFor}
-use Rattle.desk_engine.specs.Deciding.{effectOf, applied}
-use Rattle.desk_lent.proofs.Parts.{tellS, isS, tellP, isP, dmach, tellD, isD, ServeC, to-serve, goes-serve, DeskC, to-desk, goes-desk, said-desk, AnswerC, to-answer, goes-answer, said-answer}
-use Rattle.desk_engine.proofs.Whole.{Made, call-law}
+use Rattle.desk_engine.specs.Beginning.{scan_for}
+use Rattle.desk_engine.specs.Deciding.{effect_of, applied}
+use Rattle.desk_lent.proofs.Parts.{tell_s, is_s, tell_p, is_p, dmach, tell_d, is_d, ServeC, to_serve, goes_serve, DeskC, to_desk, goes_desk, said-desk, AnswerC, to_answer, goes_answer, said-answer}
+use Rattle.desk_engine.proofs.Whole.{Made, call_law}
 use Rattle.desk.specs.contracts.Desk as D
 use Rattle.desk.proofs.Desk.TheLaws as D'
 use Rattle.desk.specs.contracts.Ask as K
@@ -109,8 +109,8 @@ module _ {M : Type 1} {𝓤 : Ura M} (𝓛 : Logic 𝓤) (at_mem : Memory → SP
       qed 𝓛 (‵ ftrue ∷ []) ∵ nothing ! $ owned ! K.the_row (Is K.the_row) (EL.makes K.the_type K'.the_plain 𝓛) z _ isz $ fjoin ! $ owned ! usize (Is usize) (uint_Makes 𝓛 w64) m _ (refl, gm) $ fjoin ! $
       owned ! D.the_row (Is D.the_row) (LL.makes D.the_type D'.the_plain 𝓛) k _ isk $ fjoin ! $ move ! (1 ∷ 0 ∷ []) $ join ! $ frame ! $ done !
 
-  said-start : (k : Desk) (m : ℕ) (z : Ask) (r : Scan) → ent 𝓤 (ensured 𝓛 start.ended (start.clauses 𝓛 at_mem run) tt (k, (m, (z, tt))) tt r) (fact 𝓤 (r ≡ scanFor k m z))
-  said-start k m z r = ex_e 𝓤 _ (λ ws. snd∗ 𝓤 (sem 𝓛 (lasts start.ended tt (k, (m, (z, tt))) ws)) (fact 𝓤 (r ≡ scanFor k m z)))
+  said-start : (k : Desk) (m : ℕ) (z : Ask) (r : Scan) → ent 𝓤 (ensured 𝓛 start.ended (start.clauses 𝓛 at_mem run) tt (k, (m, (z, tt))) tt r) (fact 𝓤 (r ≡ scan_for k m z))
+  said-start k m z r = ex_e 𝓤 _ (λ ws. snd∗ 𝓤 (sem 𝓛 (lasts start.ended tt (k, (m, (z, tt))) ws)) (fact 𝓤 (r ≡ scan_for k m z)))
 
 module _ {M : Type 1} {𝓤 : Ura M} (𝓛 : Logic 𝓤) (at_mem : Memory → SProp 𝓤) (run : Routine → Fun 𝓤) (κ κ' : Lft) (q q' : Share) (b o : ℕ) (γ : GName) (k : Desk) (b' o' : ℕ) (γ' : GName) (ys : List Job) (ask : Ask) (room : Room J.the_row (length ys)) (isa : Is K.the_row ask (kmach ask ∷ [])) where
   open 𝓛 use {H}
@@ -134,8 +134,8 @@ module _ {M : Type 1} {𝓤 : Ura M} (𝓛 : Logic 𝓤) (at_mem : Memory → SP
   Post = (walk_of 𝓛 f.ended stayed (f.clauses 𝓛 at_mem run)).post (((κ, (κ', tt)), (q, (q', tt)), tt, a, at), tt)
 
   -- the effect is what the law speaks of
-  leaves : (r : Effect) (s : Scan) → r ≡ effectOf (scanned s ys) → s ≡ scanFor k n ask → Made ys r (call_of k.clock k.count ys ask)
-  leaves r s er es = subst (λ (p : Effect). Made ys p (call_of k.clock k.count ys ask)) (sym (er ∙ ap (λ (v : Scan). effectOf (scanned v ys)) es)) (call-law k ys ask)
+  leaves : (r : Effect) (s : Scan) → r ≡ effect_of (scanned s ys) → s ≡ scan_for k n ask → Made ys r (call_of k.clock k.count ys ask)
+  leaves r s er es = subst (λ (p : Effect). Made ys p (call_of k.clock k.count ys ask)) (sym (er ∙ ap (λ (v : Scan). effect_of (scanned v ys)) es)) (call_law k ys ask)
 
   exits : (r : Effect) (e : Desk) (z : Answer) (u : Val) (zs : List Job) → Made ys r (call_of k.clock k.count ys ask) → e ≡ r.desk → z ≡ r.answer → zs ≡ applied r ys → length zs ≡ n
       → ent 𝓤 (⋆ 𝓛 (‵ (fobs γ ((D.the_row).coded.code e)) ∷ ‵ (fbor κ (Body (mem D.the_row) b o γ)) ∷ ‵ (flft κ q) ∷ ‵ ((N.the_row).own_val z (u ∷ [])) ∷ (‵ (flft κ' q') ⊛ ‵ ftrue) ∷ ‵ (finally J.the_row γ' zs) ∷ [])) (Post u)
@@ -163,36 +163,36 @@ module _ {M : Type 1} {𝓤 : Ura M} (𝓛 : Logic 𝓤) (at_mem : Memory → SP
         nothing ! $ use1 𝓛 (raw ((StartC 𝓛 at_mem run).pre (to_start 𝓛 at_mem run k n ask))) (goes-start 𝓛 at_mem run k n ask isk room.0 isa) $
         calls_at ! fm (StartC 𝓛 at_mem run) Known-start (to_start 𝓛 at_mem run k n ask) (and_then ! (load ! (from ! (stop !)) (look ! 21 refl)) (and_then ! (load ! (from ! (stop !)) (look ! 19 refl)) (and_then ! (load ! (from ! (stop !)) (look ! 23 refl)) (no_more !)))) (λ w₁.
         use1 𝓛 (later (some (λ (s : Scan). (‵ ftrue ⊛ ‵ ((S.the_row).own_val s (w₁ ∷ []))) ⊛ raw (ensured 𝓛 start.ended (start.clauses 𝓛 at_mem run) tt (k, (n, (ask, tt))) tt s)))) (id⊢ 𝓤 _) $ await ! tt $ pick ! (λ s.
-        split ! $ move ! (1 ∷ []) $ use1 𝓛 (raw (fact 𝓤 (s ≡ scanFor k n ask))) (said-start 𝓛 at_mem run k n ask s) $ heard ! (s ≡ scanFor k n ask) (λ e₁. split ! $ drop ! $
+        split ! $ move ! (1 ∷ []) $ use1 𝓛 (raw (fact 𝓤 (s ≡ scan_for k n ask))) (said-start 𝓛 at_mem run k n ask s) $ heard ! (s ≡ scan_for k n ask) (λ e₁. split ! $ drop ! $
         peeks ! S.the_row (Is S.the_row) (shows 𝓛 S.the_row) s (w₁ ∷ []) (λ is₁.
-        land ! (from ! (stop !)) (init ! 17 refl ((LL.lawful S.the_type S'.the_laws 𝓛).typed s _ is₁).0) $ rewrite ! 17 (λ (u : Val). ‵ (fat full_share S'.mir l₆ 0 u)) (tellS s w₁ is₁) refl $ drop ! $
+        land ! (from ! (stop !)) (init ! 17 refl ((LL.lawful S.the_type S'.the_laws 𝓛).typed s _ is₁).0) $ rewrite ! 17 (λ (u : Val). ‵ (fat full_share S'.mir l₆ 0 u)) (tell_s s w₁ is₁) refl $ drop ! $
         -- `serve`
         assigns ! (addr ! (from ! (fld ! refl (hop ! (look_in ! 24 (sub ! 0 refl (whole !))) (stop !))))) (from ! (stop !)) (init ! 10 refl (tt, tt)) $
         assigns ! (agg ! (and_then ! (load ! (from ! (stop !)) (look ! 10 refl)) (and_then ! (load ! (from ! (fld ! refl (stop !))) (look_in ! 24 (sub ! 1 refl (whole !)))) (no_more !)))) (from ! (stop !)) (init ! 8 refl (tt, (tt, (record { fits = room.0 }, tt)))) $
-        move ! (5 ∷ 6 ∷ []) $ use2 𝓛 (raw ((ServeC 𝓛 at_mem run).pre (to-serve 𝓛 at_mem run κ' q' x sv s))) (goes-serve 𝓛 at_mem run κ' q' x sv s (isS s w₁ is₁)) $
-        calls_at ! fm (ServeC 𝓛 at_mem run) known-serve (to-serve 𝓛 at_mem run κ' q' x sv s) (and_then ! (load ! (from ! (stop !)) (look ! 7 refl)) (and_then ! (load ! (from ! (stop !)) (look ! 15 refl)) (no_more !))) (λ w₂.
+        move ! (5 ∷ 6 ∷ []) $ use2 𝓛 (raw ((ServeC 𝓛 at_mem run).pre (to_serve 𝓛 at_mem run κ' q' x sv s))) (goes_serve 𝓛 at_mem run κ' q' x sv s (is_s s w₁ is₁)) $
+        calls_at ! fm (ServeC 𝓛 at_mem run) known-serve (to_serve 𝓛 at_mem run κ' q' x sv s) (and_then ! (load ! (from ! (stop !)) (look ! 7 refl)) (and_then ! (load ! (from ! (stop !)) (look ! 15 refl)) (no_more !))) (λ w₂.
         use1 𝓛 (later (some (λ (r : Effect). ((‵ (flft κ' q') ⊛ ‵ ftrue) ⊛ ‵ ((P.the_row).own_val r (w₂ ∷ []))) ⊛ raw (ensured 𝓛 serve.ended (serve.clauses 𝓛 at_mem run) (κ', tt) (x, (s, tt)) tt r)))) (id⊢ 𝓤 _) $ await ! tt $ pick ! (λ r.
-        split ! $ move ! (1 ∷ []) $ use1 𝓛 (some (λ (zs : List Job × (Unit {0} × Unit {0})). ‵ (lasts serve.ended (κ', tt) (x, (s, tt)) zs) ⊛ raw (fact 𝓤 ((r ≡ effectOf (scanned s ys)) × (zs.0 ≡ applied r ys))))) (id⊢ 𝓤 _) $ pick ! (λ zs.
-        split ! $ move ! (1 ∷ []) $ heard ! ((r ≡ effectOf (scanned s ys)) × (zs.0 ≡ applied r ys)) (λ e₂. fsplit ! $ fsplit ! $ move ! (1 ∷ []) $ feq_l ! (λ l.
+        split ! $ move ! (1 ∷ []) $ use1 𝓛 (some (λ (zs : List Job × (Unit {0} × Unit {0})). ‵ (lasts serve.ended (κ', tt) (x, (s, tt)) zs) ⊛ raw (fact 𝓤 ((r ≡ effect_of (scanned s ys)) × (zs.0 ≡ applied r ys))))) (id⊢ 𝓤 _) $ pick ! (λ zs.
+        split ! $ move ! (1 ∷ []) $ heard ! ((r ≡ effect_of (scanned s ys)) × (zs.0 ≡ applied r ys)) (λ e₂. fsplit ! $ fsplit ! $ move ! (1 ∷ []) $ feq_l ! (λ l.
         move ! (2 ∷ []) $ split ! $ move ! (1 ∷ []) $ peeks ! P.the_row (Is P.the_row) (shows 𝓛 P.the_row) r (w₂ ∷ []) (λ is₂.
-        land ! (from ! (stop !)) (init ! 16 refl ((LL.lawful P.the_type P'.the_laws 𝓛).typed r _ is₂).0) $ rewrite ! 16 (λ (u : Val). ‵ (fat full_share P'.mir l₇ 0 u)) (tellP r w₂ is₂) refl $ drop ! $
+        land ! (from ! (stop !)) (init ! 16 refl ((LL.lawful P.the_type P'.the_laws 𝓛).typed r _ is₂).0) $ rewrite ! 16 (λ (u : Val). ‵ (fat full_share P'.mir l₇ 0 u)) (tell_p r w₂ is₂) refl $ drop ! $
         -- [the table's token; its last list; …; the desk's cell; what it owns; the open borrow; obs; auth; the numbers; the locals from 9 on]: `desk_of`
-        nothing ! $ use1 𝓛 (raw ((DeskC 𝓛 at_mem run).pre (to-desk 𝓛 at_mem run r))) (goes-desk 𝓛 at_mem run r (isP r w₂ is₂)) $
-        calls_at ! fm (DeskC 𝓛 at_mem run) known-desk (to-desk 𝓛 at_mem run r) (and_then ! (load ! (from ! (stop !)) (look ! 16 refl)) (no_more !)) (λ w₃.
+        nothing ! $ use1 𝓛 (raw ((DeskC 𝓛 at_mem run).pre (to_desk 𝓛 at_mem run r))) (goes_desk 𝓛 at_mem run r (is_p r w₂ is₂)) $
+        calls_at ! fm (DeskC 𝓛 at_mem run) known-desk (to_desk 𝓛 at_mem run r) (and_then ! (load ! (from ! (stop !)) (look ! 16 refl)) (no_more !)) (λ w₃.
         use1 𝓛 (later (some (λ (e : Desk). (‵ ftrue ⊛ ‵ ((D.the_row).own_val e (w₃ ∷ []))) ⊛ raw (ensured 𝓛 desk-of.ended (desk-of.clauses 𝓛 at_mem run) tt (r, tt) tt e)))) (id⊢ 𝓤 _) $ await ! tt $ pick ! (λ e.
         split ! $ move ! (1 ∷ []) $ use1 𝓛 (raw (fact 𝓤 (e ≡ r.desk))) (said-desk 𝓛 at_mem run r e) $ heard ! (e ≡ r.desk) (λ e₃. split ! $ drop ! $
         peeks ! D.the_row (Is D.the_row) (shows 𝓛 D.the_row) e (w₃ ∷ []) (λ is₃.
-        land ! (from ! (stop !)) (init ! 14 refl ((LL.lawful D.the_type D'.the_laws 𝓛).typed e _ is₃).0) $ rewrite ! 14 (λ (u : Val). ‵ (fat full_share D'.mir l₈ 0 u)) (tellD e w₃ is₃) refl $ drop ! $
-        assigns ! (of_opd ! (load ! (from ! (stop !)) (look ! 13 refl))) (from ! (hop ! (look ! 27 refl) (stop !))) (store_raw ! 3 refl ((LL.lawful D.the_type D'.the_laws 𝓛).typed e _ (isD e w₃ is₃)).0) $
+        land ! (from ! (stop !)) (init ! 14 refl ((LL.lawful D.the_type D'.the_laws 𝓛).typed e _ is₃).0) $ rewrite ! 14 (λ (u : Val). ‵ (fat full_share D'.mir l₈ 0 u)) (tell_d e w₃ is₃) refl $ drop ! $
+        assigns ! (of_opd ! (load ! (from ! (stop !)) (look ! 13 refl))) (from ! (hop ! (look ! 27 refl) (stop !))) (store_raw ! 3 refl ((LL.lawful D.the_type D'.the_laws 𝓛).typed e _ (is_d e w₃ is₃)).0) $
         -- `answer_of`
-        nothing ! $ use1 𝓛 (raw ((AnswerC 𝓛 at_mem run).pre (to-answer 𝓛 at_mem run r))) (goes-answer 𝓛 at_mem run r (isP r w₂ is₂)) $
-        calls_at ! fm (AnswerC 𝓛 at_mem run) known-answer (to-answer 𝓛 at_mem run r) (and_then ! (load ! (from ! (stop !)) (look ! 16 refl)) (no_more !)) (λ u.
+        nothing ! $ use1 𝓛 (raw ((AnswerC 𝓛 at_mem run).pre (to_answer 𝓛 at_mem run r))) (goes_answer 𝓛 at_mem run r (is_p r w₂ is₂)) $
+        calls_at ! fm (AnswerC 𝓛 at_mem run) known-answer (to_answer 𝓛 at_mem run r) (and_then ! (load ! (from ! (stop !)) (look ! 16 refl)) (no_more !)) (λ u.
         use1 𝓛 (later (some (λ (z : Answer). (‵ ftrue ⊛ ‵ ((N.the_row).own_val z (u ∷ []))) ⊛ raw (ensured 𝓛 answer-of.ended (answer-of.clauses 𝓛 at_mem run) tt (r, tt) tt z)))) (id⊢ 𝓤 _) $ await ! tt $ pick ! (λ z.
         split ! $ move ! (1 ∷ []) $ use1 𝓛 (raw (fact 𝓤 (z ≡ r.answer))) (said-answer 𝓛 at_mem run r z) $ heard ! (z ≡ r.answer) (λ e₄. split ! $ drop ! $
         peeks ! N.the_row (Is N.the_row) (shows 𝓛 N.the_row) z (u ∷ []) (λ is₄.
         land ! (from ! (stop !)) (init ! 30 refl ((EL.lawful N.the_type N'.the_laws 𝓛 tt).typed z _ is₄).0) $
         -- the desk's borrow is closed at the new desk
-        move ! (5 ∷ []) $ drop ! $ owned ! D.the_row (Is D.the_row) (LL.makes D.the_type D'.the_plain 𝓛) e _ (isD e w₃ is₃) $ move ! (5 ∷ 0 ∷ 6 ∷ 7 ∷ 8 ∷ []) $ closes ! tt D.the_row e (dmach e ∷ []) b o $
+        move ! (5 ∷ []) $ drop ! $ owned ! D.the_row (Is D.the_row) (LL.makes D.the_type D'.the_plain 𝓛) e _ (is_d e w₃ is₃) $ move ! (5 ∷ 0 ∷ 6 ∷ 7 ∷ 8 ∷ []) $ closes ! tt D.the_row e (dmach e ∷ []) b o $
         returns ! (look ! 28 refl) $ forget ! 8 refl $ forget ! 10 refl $ forget ! 12 refl $ forget ! 14 refl $ forget ! 16 refl $ forget ! 18 refl $ forget ! 20 refl $ forget ! 22 refl $ forget ! 24 refl $ forget ! 26 refl $ forget ! 28 refl $
         move ! (28 ∷ 29 ∷ []) $ free1 ! $ move ! (26 ∷ 27 ∷ []) $ free1 ! $ move ! (24 ∷ 25 ∷ []) $ free1 ! $ move ! (22 ∷ 23 ∷ []) $ free1 ! $ move ! (20 ∷ 21 ∷ []) $ free1 ! $ move ! (18 ∷ 19 ∷ []) $ free1 ! $ move ! (16 ∷ 17 ∷ []) $ free1 ! $ move ! (14 ∷ 15 ∷ []) $ free1 ! $ move ! (12 ∷ 13 ∷ []) $ free1 ! $ move ! (10 ∷ 11 ∷ []) $ free1 ! $ move ! (8 ∷ 9 ∷ []) $ free1 ! $ free0 ! $
         keep ! (0 ∷ 1 ∷ 2 ∷ 3 ∷ 4 ∷ 5 ∷ []) $ by ! (exits r e z u zs.0 (leaves r s e₂.0 e₁) e₃ e₄ e₂.1 l))))))))))))))))))))))))))))))))

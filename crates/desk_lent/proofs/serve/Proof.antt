@@ -45,7 +45,7 @@ use denote.Triple.Table.{entered, cited}
 use denote.Triple.Walked.{says, Stays, stay_none, gave_slice, walk_of, Goes-none, Goes-gave_slice, Walks, ends_at, walked, walk_Meets}
 use denote.Exit.{yes}
 use Rattle.desk_reading.specs.Reading.{scanned}
-use Rattle.desk_engine.specs.Deciding.{effectOf, applied}
+use Rattle.desk_engine.specs.Deciding.{effect_of, applied}
 use Rattle.desk.specs.declared.Job.{Job}
 use Rattle.desk_reading.specs.declared.scan.Scan.{Scan}
 use Rattle.desk_engine.specs.declared.effect.Effect.{Effect}
@@ -133,8 +133,8 @@ module _ {M : Type 1} {𝓤 : Ura M} (𝓛 : Logic 𝓤) (mem : Memory → SProp
   goes-effect-of : (r : Scan) → Is S.the_row r (smach r ∷ []) → ent 𝓤 (sem 𝓛 ftrue) ((DecideC 𝓛 mem run).pre (to-effect-of r))
   goes-effect-of r is = qed 𝓛 (‵ ftrue ∷ []) ∵ nothing ! $ owned ! S.the_row (Is S.the_row) (LL.makes S.the_type S'.the_plain 𝓛) r _ is $ fjoin ! $ move ! (1 ∷ 0 ∷ []) $ join ! $ frame ! $ done !
 
-  said-effect-of : (r : Scan) (e : Effect) → ent 𝓤 (ensured 𝓛 effect_of.ended (effect_of.clauses 𝓛 mem run) tt (r, tt) tt e) (fact 𝓤 (e ≡ effectOf r))
-  said-effect-of r e = ex_e 𝓤 _ (λ ws. snd∗ 𝓤 (sem 𝓛 (lasts effect_of.ended tt (r, tt) ws)) (fact 𝓤 (e ≡ effectOf r)))
+  said-effect-of : (r : Scan) (e : Effect) → ent 𝓤 (ensured 𝓛 effect_of.ended (effect_of.clauses 𝓛 mem run) tt (r, tt) tt e) (fact 𝓤 (e ≡ effect_of r))
+  said-effect-of r e = ex_e 𝓤 _ (λ ws. snd∗ 𝓤 (sem 𝓛 (lasts effect_of.ended tt (r, tt) ws)) (fact 𝓤 (e ≡ effect_of r)))
 
   -- what `apply` is passed: the table at its own lifetime, share and name
   abbrev to-update : Effect → (UpdateC 𝓛 mem run).Ghost
@@ -145,7 +145,7 @@ module _ {M : Type 1} {𝓤 : Ura M} (𝓛 : Logic 𝓤) (mem : Memory → SProp
       qed 𝓛 ((‵ (flft κ q) ⊛ ‵ ftrue) ∷ ‵ ((MutSlice (named 0) κ J.the_row).own_val (x γ) (sv ∷ [])) ∷ []) ∵
       nothing ! $ owned ! P.the_row (Is P.the_row) (LL.makes P.the_type P'.the_plain 𝓛) r _ is $ fjoin ! $ move ! (2 ∷ 0 ∷ []) $ fjoin ! $ move ! (1 ∷ 0 ∷ []) $ join ! $ frame ! $ done !
 
-  exits : (r : Effect) (zs : List Job) → r ≡ effectOf (scanned s ys) → zs ≡ applied r ys → length zs ≡ n → Is P.the_row r (pmach r ∷ []) → ent 𝓤 (⋆ 𝓛 ((‵ (flft κ q) ⊛ ‵ ftrue) ∷ ‵ (finally J.the_row γ zs) ∷ [])) (Post (pmach r))
+  exits : (r : Effect) (zs : List Job) → r ≡ effect_of (scanned s ys) → zs ≡ applied r ys → length zs ≡ n → Is P.the_row r (pmach r ∷ []) → ent 𝓤 (⋆ 𝓛 ((‵ (flft κ q) ⊛ ‵ ftrue) ∷ ‵ (finally J.the_row γ zs) ∷ [])) (Post (pmach r))
   exits r zs er ez l is =
       qed 𝓛 ((‵ (flft κ q) ⊛ ‵ ftrue) ∷ ‵ (finally J.the_row γ zs) ∷ []) ∵
       suffices ! _ (ends_at 𝓛 f.ended stayed (f.clauses 𝓛 mem run) (((κ, tt), (q, tt), tt, a, at), tt) (pmach r) r (zs, (tt, tt)) (l, (tt, tt))) $ says ! (er, ez) $ frame ! $
@@ -191,7 +191,7 @@ module _ {M : Type 1} {𝓤 : Ura M} (𝓛 : Logic 𝓤) (mem : Memory → SProp
         nothing ! $ use1 𝓛 (raw ((DecideC 𝓛 mem run).pre (to-effect-of p))) (goes-effect-of p (isS p w isp)) $
         calls_at ! fm (DecideC 𝓛 mem run) known-effect-of (to-effect-of p) (and_then ! (load ! (from ! (stop !)) (look ! 19 refl)) (no_more !)) (λ v.
         use1 𝓛 (later (some (λ (r : Effect). (‵ ftrue ⊛ ‵ ((P.the_row).own_val r (v ∷ []))) ⊛ raw (ensured 𝓛 effect_of.ended (effect_of.clauses 𝓛 mem run) tt (p, tt) tt r)))) (id⊢ 𝓤 _) $ await ! tt $ pick ! (λ r.
-        split ! $ move ! (1 ∷ []) $ use1 𝓛 (raw (fact 𝓤 (r ≡ effectOf p))) (said-effect-of p r) $ heard ! (r ≡ effectOf p) (λ er. split ! $ drop ! $
+        split ! $ move ! (1 ∷ []) $ use1 𝓛 (raw (fact 𝓤 (r ≡ effect_of p))) (said-effect-of p r) $ heard ! (r ≡ effect_of p) (λ er. split ! $ drop ! $
         peeks ! P.the_row (Is P.the_row) (shows 𝓛 P.the_row) r (v ∷ []) (λ is.
         land ! (from ! (stop !)) (init ! 17 refl ((LL.lawful P.the_type P'.the_laws 𝓛).typed r _ is).0) $ rewrite ! 17 (λ (u : Val). ‵ (fat full_share P'.mir l₄ 0 u)) (toldP r v is) refl $ drop ! $
         -- the same context: `apply`
@@ -210,7 +210,7 @@ module _ {M : Type 1} {𝓤 : Ura M} (𝓛 : Logic 𝓤) (mem : Memory → SProp
         assigns ! (of_opd ! (load ! (from ! (stop !)) (look ! 16 refl))) (from ! (stop !)) (init ! 24 refl ((LL.lawful P.the_type P'.the_laws 𝓛).typed r _ (isP r v is)).0) $
         returns ! (look ! 24 refl) $ forget ! 6 refl $ forget ! 8 refl $ forget ! 10 refl $ forget ! 12 refl $ forget ! 14 refl $ forget ! 16 refl $ forget ! 18 refl $ forget ! 20 refl $ forget ! 22 refl $ forget ! 24 refl $
         move ! (24 ∷ 25 ∷ []) $ free1 ! $ move ! (22 ∷ 23 ∷ []) $ free1 ! $ move ! (20 ∷ 21 ∷ []) $ free1 ! $ move ! (18 ∷ 19 ∷ []) $ free1 ! $ move ! (16 ∷ 17 ∷ []) $ free1 ! $ move ! (14 ∷ 15 ∷ []) $ free1 ! $ move ! (12 ∷ 13 ∷ []) $ free1 ! $ move ! (10 ∷ 11 ∷ []) $ free1 ! $ move ! (8 ∷ 9 ∷ []) $ free1 ! $ move ! (6 ∷ 7 ∷ []) $ free1 ! $ free0 ! $
-        keep ! (1 ∷ 2 ∷ []) $ by ! (exits r zs.0 (er ∙ ap effectOf ep) ez l (isP r v is))))))))))))))))))))))))))))
+        keep ! (1 ∷ 2 ∷ []) $ by ! (exits r zs.0 (er ∙ ap effect_of ep) ez l (isP r v is))))))))))))))))))))))))))))
 
 module _ {M : Type 1} {𝓤 : Ura M} (𝓛 : Logic 𝓤) (mem : Memory → SProp 𝓤) (run : Routine → Fun 𝓤) where
   open 𝓛 use {H}

@@ -45,10 +45,10 @@ use denote.Triple.Walked.{says, Stays, stay_none, stay_slice, walk_of, Goes-none
 use denote.Exit.{yes}
 use borrow.Author.Tests.{ltb-true, ltb-false}
 use Rattle.desk.specs.Table.{none}
-use Rattle.desk_records.specs.Folds.{movedUp}
+use Rattle.desk_records.specs.Folds.{moved_up}
 use Rattle.desk.specs.declared.Job.{Job}
-use Rattle.desk_walks.proofs.Up.{byte_fits, ahead-start, ahead-up, ahead-nearer, ahead-one, ahead-zero, behind, next_fits}
-use Rattle.desk_walks.proofs.Along.{move_at, moveAt-zero, moveAt-length, moveAt-more, moveAt-read, moveAt-end}
+use Rattle.desk_walks.proofs.Up.{byte_fits, ahead_start, ahead_up, ahead_nearer, ahead_one, ahead_zero, behind, next_fits}
+use Rattle.desk_walks.proofs.Along.{move_at, move_at_zero, move_at_length, move_at_more, move_at_read, move_at_end}
 use Rattle.desk.specs.contracts.Job as J
 use Rattle.desk.proofs.Job.TheLaws as J'
 use Rattle.desk_walks.specs.contracts.drop_pass.Key.{name as #desk-walks·drop_pass}
@@ -91,7 +91,7 @@ module _ {M : Type 1} {𝓤 : Ura M} (𝓛 : Logic 𝓤) (mem : Memory → SProp
   abbrev Post : Val → SProp 𝓤
   Post = (walk_of 𝓛 f.ended stayed (f.clauses 𝓛 mem run)).post (((κ, tt), (q, tt), tt, a, at), tt)
 
-  exits : (zs : List Job) → zs ≡ movedUp k ys → length zs ≡ n → ent 𝓤 (⋆ 𝓛 (‵ (fobs γ ((coded_holeys J.the_row).code (heres J.the_row zs))) ∷ ‵ (fbor κ (Held J.the_row (length zs) b o γ)) ∷ ‵ (flft κ q) ∷ [])) (Post vunit)
+  exits : (zs : List Job) → zs ≡ moved_up k ys → length zs ≡ n → ent 𝓤 (⋆ 𝓛 (‵ (fobs γ ((coded_holeys J.the_row).code (heres J.the_row zs))) ∷ ‵ (fbor κ (Held J.the_row (length zs) b o γ)) ∷ ‵ (flft κ q) ∷ [])) (Post vunit)
   exits zs e l =
       qed 𝓛 (‵ (fobs γ ((coded_holeys J.the_row).code (heres J.the_row zs))) ∷ ‵ (fbor κ (Held J.the_row (length zs) b o γ)) ∷ ‵ (flft κ q) ∷ []) ∵
       suffices ! _ (ends_at 𝓛 f.ended stayed (f.clauses 𝓛 mem run) (((κ, tt), (q, tt), tt, a, at), tt) vunit tt (zs, (tt, tt)) (l, (tt, tt))) $ says ! e $
@@ -111,7 +111,7 @@ module _ {M : Type 1} {𝓤 : Ura M} (𝓛 : Logic 𝓤) (mem : Memory → SProp
   Nearer-wf = InvImage.wf (λ (i : Upto). n - (k + i.0)) lt-wf_rel.wf
 
   abbrev start : Upto
-  start = (0, (ahead-start n k, subst (λ (m : ℕ). m < 2 ^ 64) (ahead-zero k) k-fits))
+  start = (0, (ahead_start n k, subst (λ (m : ℕ). m < 2 ^ 64) (ahead_zero k) k-fits))
 
   module _ (𝓣 : Tables 𝓤 H) (fm : FmC 𝓤 H 𝓛.laws 𝓣.C) (l₀ l₁ l₂ l₃ l₄ l₅ l₆ l₇ l₈ l₉ m₀ : ℕ) where
     abbrev C : Calls 𝓤 H
@@ -167,10 +167,10 @@ module _ {M : Type 1} {𝓤 : Ura M} (𝓛 : Logic 𝓤) (mem : Memory → SProp
         -- [obs; the borrow; the token; _10 at 3; …; _4 at 15; _3 at 17; …]
         assigns ! (bin ! (load ! (from ! (stop !)) (look ! 17 refl)) (lit ! tt) (record { fits = up_fits })) (from ! (stop !)) (store ! 17 refl (tt, record { fits = up_fits })) $
         assigns_last ! (bin ! (load ! (from ! (stop !)) (look ! 15 refl)) (lit ! tt) (record { fits = far-up })) (from ! (stop !)) (store ! 15 refl (tt, record { fits = far-up })) $
-        rewrite ! 15 (λ (m : ℕ). ‵ (fat full_share word l₄ 0 (vint w64 m))) (ahead-one k i) refl $
+        rewrite ! 15 (λ (m : ℕ). ‵ (fat full_share word l₄ 0 (vint w64 m))) (ahead_one k i) refl $
         forget ! 3 refl $ forget ! 5 refl $ forget ! 7 refl $ forget ! 9 refl $ forget ! 11 refl $ forget ! 13 refl $
         move ! (3 ∷ 4 ∷ 5 ∷ 6 ∷ 7 ∷ 8 ∷ 9 ∷ 10 ∷ 11 ∷ 12 ∷ 13 ∷ 14 ∷ 15 ∷ 16 ∷ 17 ∷ 18 ∷ 19 ∷ 20 ∷ 21 ∷ 22 ∷ 23 ∷ 24 ∷ []) $
-        again ! Nearer At x (i + 1, (next_le, subst (λ (m : ℕ). m < 2 ^ 64) (ahead-one k i) far-up)) (ahead-nearer n k i within)))
+        again ! Nearer At x (i + 1, (next_le, subst (λ (m : ℕ). m < 2 ^ 64) (ahead_one k i) far-up)) (ahead_nearer n k i within)))
       where
         i : ℕ
         i = x.0
@@ -188,13 +188,13 @@ module _ {M : Type 1} {𝓤 : Ura M} (𝓛 : Logic 𝓤) (mem : Memory → SProp
         elem = get_or tbl (k + i) none
 
         this-length : length tbl ≡ n
-        this-length = moveAt-length k ys i x.1.0
+        this-length = move_at_length k ys i x.1.0
 
         next_le : k + (i + 1) ≤ max n k
-        next_le = ahead-up n k i within
+        next_le = ahead_up n k i within
 
         next-length : length (tb (i + 1)) ≡ n
-        next-length = moveAt-length k ys (i + 1) next_le
+        next-length = move_at_length k ys (i + 1) next_le
 
         far-in : k + i < length tbl
         far-in = subst (λ (m : ℕ). k + i < m) (sym this-length) within
@@ -203,10 +203,10 @@ module _ {M : Type 1} {𝓤 : Ura M} (𝓛 : Logic 𝓤) (mem : Memory → SProp
         near-in = subst (λ (m : ℕ). i < m) (sym this-length) near
 
         read : elem ≡ get_or ys (k + i) none
-        read = moveAt-read k ys i within
+        read = move_at_read k ys i within
 
         next-table : set tbl i (get_or ys (k + i) none) ≡ tb (i + 1)
-        next-table = moveAt-more k ys i within
+        next-table = move_at_more k ys i within
 
         far-fits : (k + i) * 16 < 2 ^ 64
         far-fits = byte_fits n (k + i) room.1 within
@@ -227,7 +227,7 @@ module _ {M : Type 1} {𝓤 : Ura M} (𝓛 : Logic 𝓤) (mem : Memory → SProp
         returns ! (look ! 20 refl) $ forget ! 6 refl $ forget ! 8 refl $ forget ! 12 refl $ forget ! 14 refl $ forget ! 16 refl $ forget ! 18 refl $ forget ! 20 refl $
         move ! (20 ∷ 21 ∷ []) $ free1 ! $ move ! (18 ∷ 19 ∷ []) $ free1 ! $ move ! (16 ∷ 17 ∷ []) $ free1 ! $ move ! (14 ∷ 15 ∷ []) $ free1 ! $ move ! (12 ∷ 13 ∷ []) $ free1 ! $ move ! (10 ∷ 11 ∷ []) $ free1 ! $
         move ! (8 ∷ 9 ∷ []) $ free1 ! $ move ! (6 ∷ 7 ∷ []) $ free1 ! $ move ! (4 ∷ 5 ∷ []) $ free1 ! $ move ! (2 ∷ 3 ∷ []) $ free1 ! $ free1 ! $ free0 ! $
-        by ! (exits (tb x.0) (moveAt-end k ys x.0 x.1.0 (ltb-false (k + x.0) n e)) (moveAt-length k ys x.0 x.1.0))
+        by ! (exits (tb x.0) (move_at_end k ys x.0 x.1.0 (ltb-false (k + x.0) n e)) (move_at_length k ys x.0 x.1.0))
 
     turns : (x : Upto) → Sq 𝓛 (At x) (runs C Λ En code-mir.turn-1 (any_q (Turned x)))
     turns x = turned x (ltb (k + x.0) n) refl
@@ -245,9 +245,9 @@ module _ {M : Type 1} {𝓤 : Ura M} (𝓛 : Logic 𝓤) (mem : Memory → SProp
       move ! (23 ∷ []) $ fsplit ! $ fsplit ! $ drop1 ! $ fsplit ! $
       -- [obs; the borrow; what k owns; the locals from 3; the token]
       move ! (25 ∷ []) $ split ! $ keep ! (5 ∷ 6 ∷ 7 ∷ 8 ∷ 9 ∷ 10 ∷ 11 ∷ 12 ∷ 13 ∷ 14 ∷ 15 ∷ 16 ∷ 17 ∷ 18 ∷ 19 ∷ 20 ∷ 21 ∷ 22 ∷ 23 ∷ 24 ∷ 25 ∷ 26 ∷ 2 ∷ 3 ∷ 0 ∷ []) $
-      rewrite ! 12 (λ (m : ℕ). ‵ (fat full_share (ty_int w64) l₄ 0 (vint w64 m))) (ahead-zero k) refl $
-      rewrite ! 22 (λ (l : List Job). ‵ (fobs γ ((coded_holeys J.the_row).code (heres J.the_row l)))) (sym (moveAt-zero k ys)) refl $
-      rewrite ! 23 (λ (l : List Job). ‵ (fbor κ (Held J.the_row (length l) b o γ))) (sym (moveAt-zero k ys)) refl $
+      rewrite ! 12 (λ (m : ℕ). ‵ (fat full_share (ty_int w64) l₄ 0 (vint w64 m))) (ahead_zero k) refl $
+      rewrite ! 22 (λ (l : List Job). ‵ (fobs γ ((coded_holeys J.the_row).code (heres J.the_row l)))) (sym (move_at_zero k ys)) refl $
+      rewrite ! 23 (λ (l : List Job). ‵ (fbor κ (Held J.the_row (length l) b o γ))) (sym (move_at_zero k ys)) refl $
       looped 𝓣 fm l₀ l₁ l₂ l₃ l₄ l₅ l₆ l₇ l₈ l₉ m₀)))))))))))
 
 module _ {M : Type 1} {𝓤 : Ura M} (𝓛 : Logic 𝓤) (mem : Memory → SProp 𝓤) (run : Routine → Fun 𝓤) where

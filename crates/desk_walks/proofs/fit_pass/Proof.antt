@@ -47,13 +47,13 @@ use denote.Triple.Walked.{says, Stays, stay_none, stay_slice, walk_of, Goes-none
 use denote.Exit.{yes}
 use borrow.Author.Tests.{ltb-true, ltb-false}
 use Rattle.desk.specs.Table.{none}
-use Rattle.desk_records.specs.Folds.{foldBack}
-use Rattle.desk_writing.specs.Writing.{fitOut, fitStep, fittedAll}
+use Rattle.desk_records.specs.Folds.{fold_back}
+use Rattle.desk_writing.specs.Writing.{fit_out, fit_step, fitted_all}
 use Rattle.desk.specs.declared.Job.{Job}
 use Rattle.desk_writing.specs.declared.fit.Fit.{Fit}
 use borrow.Author.Count.{falls_down}
-use Rattle.desk_walks.proofs.Up.{byte_fits, fits-of, down, down_le, back-up, at_zero, at_least_one}
-use Rattle.desk_walks.proofs.Along.{foldBack-start, foldBack-more, backAt, backAt-start, backAt-end, backAt-length, backAt-read, backAt-more}
+use Rattle.desk_walks.proofs.Up.{byte_fits, fits_of, down, down_le, back_up, at_zero, at_least_one}
+use Rattle.desk_walks.proofs.Along.{fold_back-start, fold_back_more, back_at, back_at_start, back_at_end, back_at_length, back_at_read, back_at_more}
 use Rattle.desk.specs.contracts.Job as J
 use Rattle.desk.proofs.Job.TheLaws as J'
 use Rattle.desk_writing.specs.contracts.fit.Fit as S
@@ -94,8 +94,8 @@ module _ {M : Type 1} {𝓤 : Ura M} (𝓛 : Logic 𝓤) (mem : Memory → SProp
       qed 𝓛 (‵ ftrue ∷ []) ∵ nothing ! $ owned ! J.the_row (Is J.the_row) (LL.makes J.the_type J'.the_plain 𝓛) j _ isj $ fjoin ! $
       owned ! S.the_row (Is S.the_row) (LL.makes S.the_type S'.the_plain 𝓛) r _ isr $ fjoin ! $ move ! (1 ∷ 0 ∷ []) $ join ! $ frame ! $ done !
 
-  said-out : (s : Fit) (j : Job) (r : Job) → ent 𝓤 (ensured 𝓛 fit_out.ended (fit_out.clauses 𝓛 mem run) tt (s, (j, tt)) tt r) (fact 𝓤 (r ≡ fitOut s j))
-  said-out s j r = ex_e 𝓤 _ (λ ws. snd∗ 𝓤 (sem 𝓛 (lasts fit_out.ended tt (s, (j, tt)) ws)) (fact 𝓤 (r ≡ fitOut s j)))
+  said-out : (s : Fit) (j : Job) (r : Job) → ent 𝓤 (ensured 𝓛 fit_out.ended (fit_out.clauses 𝓛 mem run) tt (s, (j, tt)) tt r) (fact 𝓤 (r ≡ fit_out s j))
+  said-out s j r = ex_e 𝓤 _ (λ ws. snd∗ 𝓤 (sem 𝓛 (lasts fit_out.ended tt (s, (j, tt)) ws)) (fact 𝓤 (r ≡ fit_out s j)))
 
 -- the contract of `fit_step`, that what it is passed has what it asks, and what it says
 abbrev step-C : {M : Type 1} {𝓤 : Ura M} (𝓛 : Logic 𝓤) (mem : Memory → SProp 𝓤) (run : Routine → Fun 𝓤) → Contract 𝓤
@@ -110,8 +110,8 @@ module _ {M : Type 1} {𝓤 : Ura M} (𝓛 : Logic 𝓤) (mem : Memory → SProp
       qed 𝓛 (‵ ftrue ∷ []) ∵ nothing ! $ owned ! J.the_row (Is J.the_row) (LL.makes J.the_type J'.the_plain 𝓛) j _ isj $ fjoin ! $
       owned ! S.the_row (Is S.the_row) (LL.makes S.the_type S'.the_plain 𝓛) r _ isr $ fjoin ! $ move ! (1 ∷ 0 ∷ []) $ join ! $ frame ! $ done !
 
-  said-step : (s : Fit) (j : Job) (r : Fit) → ent 𝓤 (ensured 𝓛 fit_step.ended (fit_step.clauses 𝓛 mem run) tt (s, (j, tt)) tt r) (fact 𝓤 (r ≡ fitStep s j))
-  said-step s j r = ex_e 𝓤 _ (λ ws. snd∗ 𝓤 (sem 𝓛 (lasts fit_step.ended tt (s, (j, tt)) ws)) (fact 𝓤 (r ≡ fitStep s j)))
+  said-step : (s : Fit) (j : Job) (r : Fit) → ent 𝓤 (ensured 𝓛 fit_step.ended (fit_step.clauses 𝓛 mem run) tt (s, (j, tt)) tt r) (fact 𝓤 (r ≡ fit_step s j))
+  said-step s j r = ex_e 𝓤 _ (λ ws. snd∗ 𝓤 (sem 𝓛 (lasts fit_step.ended tt (s, (j, tt)) ws)) (fact 𝓤 (r ≡ fit_step s j)))
 
 abbrev stayed : Stays (f.ended).signature.params (f.ended).kept
 stayed = (stay_slice (0 ∷ []) tt (plain (λ _. J.the_row)), (stay_none (λ _. S.the_row) yes, tt))
@@ -136,15 +136,15 @@ module _ {M : Type 1} {𝓤 : Ura M} (𝓛 : Logic 𝓤) (mem : Memory → SProp
 
   -- the table and the state at i
   abbrev tb : ℕ → List Job
-  tb i = backAt fitStep fitOut s ys i
+  tb i = back_at fit_step fit_out s ys i
 
   abbrev st : ℕ → Fit
-  st i = foldBack fitStep s (drop i ys)
+  st i = fold_back fit_step s (drop i ys)
 
   abbrev Post : Val → SProp 𝓤
   Post = (walk_of 𝓛 f.ended stayed (f.clauses 𝓛 mem run)).post (((κ, tt), (q, tt), tt, a, at), tt)
 
-  exits : (zs : List Job) → zs ≡ fittedAll s ys → length zs ≡ n → ent 𝓤 (⋆ 𝓛 (‵ (fobs γ ((coded_holeys J.the_row).code (heres J.the_row zs))) ∷ ‵ (fbor κ (Held J.the_row (length zs) b o γ)) ∷ ‵ (flft κ q) ∷ [])) (Post vunit)
+  exits : (zs : List Job) → zs ≡ fitted_all s ys → length zs ≡ n → ent 𝓤 (⋆ 𝓛 (‵ (fobs γ ((coded_holeys J.the_row).code (heres J.the_row zs))) ∷ ‵ (fbor κ (Held J.the_row (length zs) b o γ)) ∷ ‵ (flft κ q) ∷ [])) (Post vunit)
   exits zs e l =
       qed 𝓛 (‵ (fobs γ ((coded_holeys J.the_row).code (heres J.the_row zs))) ∷ ‵ (fbor κ (Held J.the_row (length zs) b o γ)) ∷ ‵ (flft κ q) ∷ []) ∵
       suffices ! _ (ends_at 𝓛 f.ended stayed (f.clauses 𝓛 mem run) (((κ, tt), (q, tt), tt, a, at), tt) vunit tt (zs, (tt, tt)) (l, (tt, tt))) $ says ! e $
@@ -157,14 +157,14 @@ module _ {M : Type 1} {𝓤 : Ura M} (𝓛 : Logic 𝓤) (mem : Memory → SProp
   le_refl m = omega arith
 
   start-state : s ≡ st n
-  start-state = sym (foldBack-start fitStep s ys)
+  start-state = sym (fold_back-start fit_step s ys)
 
   start-table : ys ≡ tb n
-  start-table = sym (backAt-start fitStep fitOut s ys)
+  start-table = sym (back_at_start fit_step fit_out s ys)
 
-  whole-table : tb 0 ≡ fittedAll s ys
-  unfolding fittedAll
-  whole-table = backAt-end fitStep fitOut s ys
+  whole-table : tb 0 ≡ fitted_all s ys
+  unfolding fitted_all
+  whole-table = back_at_end fit_step fit_out s ys
 
   -- how far the loop is, and that the state there is a value of its type
   abbrev Upto : Type 0
@@ -224,7 +224,7 @@ module _ {M : Type 1} {𝓤 : Ura M} (𝓛 : Logic 𝓤) (mem : Memory → SProp
         nothing ! $ use1 𝓛 (raw ((out-C 𝓛 mem run).pre (to_out 𝓛 mem run here elem))) (goes-out 𝓛 mem run here elem x.1.1 isj) $
         calls_at ! fm (out-C 𝓛 mem run) known_out (to_out 𝓛 mem run here elem) (and_then ! (load ! (from ! (stop !)) (look ! 23 refl)) (and_then ! (load ! (from ! (stop !)) (look ! 19 refl)) (no_more !))) (λ w.
         use1 𝓛 (later (some (λ (r : Job). (‵ ftrue ⊛ ‵ ((J.the_row).own_val r (w ∷ []))) ⊛ raw (ensured 𝓛 fit_out.ended (fit_out.clauses 𝓛 mem run) tt (here, (elem, tt)) tt r)))) (id⊢ 𝓤 _) $ await ! tt $ pick ! (λ r.
-        split ! $ move ! (1 ∷ []) $ use1 𝓛 (raw (fact 𝓤 (r ≡ fitOut here elem))) (said-out 𝓛 mem run here elem r) $ heard ! (r ≡ fitOut here elem) (λ er. split ! $ drop1 ! $
+        split ! $ move ! (1 ∷ []) $ use1 𝓛 (raw (fact 𝓤 (r ≡ fit_out here elem))) (said-out 𝓛 mem run here elem r) $ heard ! (r ≡ fit_out here elem) (λ er. split ! $ drop1 ! $
         peeks ! J.the_row (Is J.the_row) (shows 𝓛 J.the_row) r (w ∷ []) (λ isr.
         -- [what the result owns; jobs[i]; what it owns; the others; the open borrow; obs; auth; _11 at 7; …; _6 at 17; _5 at 19; _4 at 21; _3; _2; _1 at 27; _0]
         land ! (from ! (stop !)) (init ! 17 refl ((LL.lawful J.the_type J'.the_laws 𝓛).typed r _ isr).0) $
@@ -234,19 +234,19 @@ module _ {M : Type 1} {𝓤 : Ura M} (𝓛 : Logic 𝓤) (mem : Memory → SProp
         assigns ! (of_opd ! (load ! (from ! (stop !)) (look ! 17 refl))) (from ! (hop ! (look ! 7 refl) (stop !))) (store_raw ! 1 refl ((LL.lawful J.the_type J'.the_laws 𝓛).typed r _ isr).0) $
         -- the element is put back, and the borrow is closed
         move ! (2 ∷ []) $ drop1 ! $ move ! (1 ∷ 0 ∷ []) $ elem_put ! J.the_row full_share tbl i r (w ∷ []) b o within' $
-        rewrite ! 0 (λ (l : List Job). ‵ (row J.the_row full_share l b o)) (ap (set tbl i) (er ∙ ap (fitOut here) read) ∙ next-table) refl $
+        rewrite ! 0 (λ (l : List Job). ‵ (row J.the_row full_share l b o)) (ap (set tbl i) (er ∙ ap (fit_out here) read) ∙ next-table) refl $
         closes_slice ! tt J.the_row tbl (tb i) (next-length ∙ sym this-length) b o $
         -- [obs; the borrow; the token; _11 at 3; …; _5 at 15; _4 at 17; _3 at 19; …]
         nothing ! $ use1 𝓛 (raw ((step-C 𝓛 mem run).pre (to_step 𝓛 mem run here elem))) (goes_step 𝓛 mem run here elem x.1.1 isj) $
         calls_at_last ! fm (step-C 𝓛 mem run) Known-step (to_step 𝓛 mem run here elem) (and_then ! (load ! (from ! (stop !)) (look ! 20 refl)) (and_then ! (load ! (from ! (stop !)) (look ! 16 refl)) (no_more !))) (λ u.
         use1 𝓛 (later (some (λ (r₂ : Fit). (‵ ftrue ⊛ ‵ ((S.the_row).own_val r₂ (u ∷ []))) ⊛ raw (ensured 𝓛 fit_step.ended (fit_step.clauses 𝓛 mem run) tt (here, (elem, tt)) tt r₂)))) (id⊢ 𝓤 _) $ await ! tt $ pick ! (λ r₂.
-        split ! $ move ! (1 ∷ []) $ use1 𝓛 (raw (fact 𝓤 (r₂ ≡ fitStep here elem))) (said-step 𝓛 mem run here elem r₂) $ heard ! (r₂ ≡ fitStep here elem) (λ er₂. split ! $ drop1 ! $
+        split ! $ move ! (1 ∷ []) $ use1 𝓛 (raw (fact 𝓤 (r₂ ≡ fit_step here elem))) (said-step 𝓛 mem run here elem r₂) $ heard ! (r₂ ≡ fit_step here elem) (λ er₂. split ! $ drop1 ! $
         peeks ! S.the_row (Is S.the_row) (shows 𝓛 S.the_row) r₂ (u ∷ []) (λ isr₂. drop1 ! $
         land_last ! (from ! (stop !)) (store ! 19 refl ((LL.lawful S.the_type S'.the_laws 𝓛).typed r₂ _ isr₂).0) $
         forget ! 3 refl $ forget ! 5 refl $ forget ! 7 refl $ forget ! 9 refl $ forget ! 11 refl $ forget ! 13 refl $ forget ! 15 refl $
-        rewrite ! 19 (λ (v : Val). ‵ (fat full_share S'.mir l₃ 0 v)) (ap only (LL.tells S.the_type S'.the_laws r₂ (u ∷ []) isr₂) ∙ ap smach (er₂ ∙ ap (fitStep here) read ∙ next-state)) refl $
+        rewrite ! 19 (λ (v : Val). ‵ (fat full_share S'.mir l₃ 0 v)) (ap only (LL.tells S.the_type S'.the_laws r₂ (u ∷ []) isr₂) ∙ ap smach (er₂ ∙ ap (fit_step here) read ∙ next-state)) refl $
         move ! (3 ∷ 4 ∷ 5 ∷ 6 ∷ 7 ∷ 8 ∷ 9 ∷ 10 ∷ 11 ∷ 12 ∷ 13 ∷ 14 ∷ 15 ∷ 16 ∷ 17 ∷ 18 ∷ 19 ∷ 20 ∷ 21 ∷ 22 ∷ 23 ∷ 24 ∷ 25 ∷ 26 ∷ []) $
-        again ! Nearer At x (i, (next_le, is-here r₂ (st i) (er₂ ∙ ap (fitStep here) read ∙ next-state) (subst (Is S.the_row r₂) (LL.tells S.the_type S'.the_laws r₂ (u ∷ []) isr₂) isr₂))) next-near)))))))))
+        again ! Nearer At x (i, (next_le, is-here r₂ (st i) (er₂ ∙ ap (fit_step here) read ∙ next-state) (subst (Is S.the_row r₂) (LL.tells S.the_type S'.the_laws r₂ (u ∷ []) isr₂) isr₂))) next-near)))))))))
       where
         i : ℕ
         i = x.0 - 1
@@ -267,13 +267,13 @@ module _ {M : Type 1} {𝓤 : Ura M} (𝓛 : Logic 𝓤) (mem : Memory → SProp
         elem = get_or tbl i none
 
         this-length : length tbl ≡ n
-        this-length = backAt-length fitStep fitOut s ys x.0 x.1.0
+        this-length = back_at_length fit_step fit_out s ys x.0 x.1.0
 
         next_le : i ≤ n
         next_le = down_le n x.0 x.1.0
 
         next-length : length (tb i) ≡ n
-        next-length = backAt-length fitStep fitOut s ys i next_le
+        next-length = back_at_length fit_step fit_out s ys i next_le
 
         next-near : i < x.0
         next-near = falls_down x.0 some_left
@@ -282,19 +282,19 @@ module _ {M : Type 1} {𝓤 : Ura M} (𝓛 : Logic 𝓤) (mem : Memory → SProp
         within' = subst (λ (k : ℕ). i < k) (sym this-length) within
 
         it : i + 1 ≡ x.0
-        it = back-up x.0 some_left
+        it = back_up x.0 some_left
 
         read : elem ≡ get_or ys i none
-        read = subst (λ (k : ℕ). get_or (tb k) i none ≡ get_or ys i none) it (backAt-read fitStep fitOut s ys i within)
+        read = subst (λ (k : ℕ). get_or (tb k) i none ≡ get_or ys i none) it (back_at_read fit_step fit_out s ys i within)
 
-        next-table : set tbl i (fitOut here (get_or ys i none)) ≡ tb i
-        next-table = subst (λ (k : ℕ). set (tb k) i (fitOut (st k) (get_or ys i none)) ≡ tb i) it (backAt-more fitStep fitOut s ys i within)
+        next-table : set tbl i (fit_out here (get_or ys i none)) ≡ tb i
+        next-table = subst (λ (k : ℕ). set (tb k) i (fit_out (st k) (get_or ys i none)) ≡ tb i) it (back_at_more fit_step fit_out s ys i within)
 
-        next-state : fitStep here (get_or ys i none) ≡ st i
-        next-state = subst (λ (k : ℕ). fitStep (st k) (get_or ys i none) ≡ st i) it (foldBack-more fitStep s ys i within)
+        next-state : fit_step here (get_or ys i none) ≡ st i
+        next-state = subst (λ (k : ℕ). fit_step (st k) (get_or ys i none) ≡ st i) it (fold_back_more fit_step s ys i within)
 
         i-fits : i < 2 ^ 64
-        i-fits = fits-of n i next_le room.0
+        i-fits = fits_of n i next_le room.0
 
         mul-fits : i * 16 < 2 ^ 64
         mul-fits = byte_fits n i room.1 within
@@ -305,14 +305,14 @@ module _ {M : Type 1} {𝓤 : Ura M} (𝓛 : Logic 𝓤) (mem : Memory → SProp
         returns ! (look ! 22 refl) $ forget ! 8 refl $ forget ! 14 refl $ forget ! 16 refl $ forget ! 18 refl $ forget ! 20 refl $ forget ! 22 refl $
         move ! (22 ∷ 23 ∷ []) $ free1 ! $ move ! (20 ∷ 21 ∷ []) $ free1 ! $ move ! (18 ∷ 19 ∷ []) $ free1 ! $ move ! (16 ∷ 17 ∷ []) $ free1 ! $ move ! (14 ∷ 15 ∷ []) $ free1 ! $ move ! (12 ∷ 13 ∷ []) $ free1 ! $ move ! (10 ∷ 11 ∷ []) $ free1 ! $
         move ! (8 ∷ 9 ∷ []) $ free1 ! $ move ! (6 ∷ 7 ∷ []) $ free1 ! $ move ! (4 ∷ 5 ∷ []) $ free1 ! $ move ! (2 ∷ 3 ∷ []) $ free1 ! $ free1 ! $ free0 ! $
-        by ! (exits (tb x.0) (ap tb (at_zero x.0 (ltb-false 0 x.0 e)) ∙ whole-table) (backAt-length fitStep fitOut s ys x.0 x.1.0))
+        by ! (exits (tb x.0) (ap tb (at_zero x.0 (ltb-false 0 x.0 e)) ∙ whole-table) (back_at_length fit_step fit_out s ys x.0 x.1.0))
 
     turns : (x : Upto) → Sq 𝓛 (At x) (runs C Λ En code-mir.turn-1 (any_q (Turned x)))
     turns x = turned x (ltb 0 x.0) refl
 
     -- the loop, from the first turn, and the rest of the body
-    looped : Sq 𝓛 (At (n, (le_refl n, is-here s (st n) (sym (foldBack-start fitStep s ys)) is₀))) (runs C Λ En code-mir.t-3 (at_ret En Post))
-    looped = first ! $ blocks ! $ loops ! 𝓣 Nearer Nearer-wf At turns (n, (le_refl n, is-here s (st n) (sym (foldBack-start fitStep s ys)) is₀))
+    looped : Sq 𝓛 (At (n, (le_refl n, is-here s (st n) (sym (fold_back-start fit_step s ys)) is₀))) (runs C Λ En code-mir.t-3 (at_ret En Post))
+    looped = first ! $ blocks ! $ loops ! 𝓣 Nearer Nearer-wf At turns (n, (le_refl n, is-here s (st n) (sym (fold_back-start fit_step s ys)) is₀))
 
   walk : (𝓣 : Tables 𝓤 H) → FmC 𝓤 H 𝓛.laws 𝓣.C → Triple 𝓤 (𝓣.C #desk-writing·fit_out) (out-C 𝓛 mem run) → Triple 𝓤 (𝓣.C #desk-writing·fit_step) (step-C 𝓛 mem run)
       → ent 𝓤 (on_entry 𝓛 f.signature (κ, tt) (q, tt) a at) (WpFn 𝓤 H 𝓣.C 𝓣.Λ code.function (sv ∷ smach s ∷ []) Post)

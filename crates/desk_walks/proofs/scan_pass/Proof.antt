@@ -47,11 +47,11 @@ use denote.Exit.{yes}
 use borrow.Author.Tests.{ltb-true, ltb-false}
 use Rattle.desk.specs.Table.{none}
 use Rattle.desk_records.specs.Folds.{fold}
-use Rattle.desk_reading.specs.Reading.{scanStep, scanned}
+use Rattle.desk_reading.specs.Reading.{scan_step, scanned}
 use Rattle.desk.specs.declared.Job.{Job}
 use Rattle.desk_reading.specs.declared.scan.Scan.{Scan}
 use borrow.Author.Count.{falls}
-use Rattle.desk_walks.proofs.Up.{byte_fits, up, fits-of, at-end}
+use Rattle.desk_walks.proofs.Up.{byte_fits, up, fits_of, at_end}
 use Rattle.desk_walks.proofs.Along.{fold-zero, fold_end, fold_more}
 use Rattle.desk.specs.contracts.Job as J
 use Rattle.desk.proofs.Job.TheLaws as J'
@@ -93,8 +93,8 @@ module _ {M : Type 1} {𝓤 : Ura M} (𝓛 : Logic 𝓤) (mem : Memory → SProp
       qed 𝓛 (‵ ftrue ∷ []) ∵ nothing ! $ owned ! J.the_row (Is J.the_row) (LL.makes J.the_type J'.the_plain 𝓛) j _ isj $ fjoin ! $
       owned ! S.the_row (Is S.the_row) (LL.makes S.the_type S'.the_plain 𝓛) r _ isr $ fjoin ! $ move ! (1 ∷ 0 ∷ []) $ join ! $ frame ! $ done !
 
-  said : (s : Scan) (j : Job) (r : Scan) → ent 𝓤 (ensured 𝓛 step.ended (step.clauses 𝓛 mem run) tt (s, (j, tt)) tt r) (fact 𝓤 (r ≡ scanStep s j))
-  said s j r = ex_e 𝓤 _ (λ ws. snd∗ 𝓤 (sem 𝓛 (lasts step.ended tt (s, (j, tt)) ws)) (fact 𝓤 (r ≡ scanStep s j)))
+  said : (s : Scan) (j : Job) (r : Scan) → ent 𝓤 (ensured 𝓛 step.ended (step.clauses 𝓛 mem run) tt (s, (j, tt)) tt r) (fact 𝓤 (r ≡ scan_step s j))
+  said s j r = ex_e 𝓤 _ (λ ws. snd∗ 𝓤 (sem 𝓛 (lasts step.ended tt (s, (j, tt)) ws)) (fact 𝓤 (r ≡ scan_step s j)))
 
 module _ {M : Type 1} {𝓤 : Ura M} (𝓛 : Logic 𝓤) (mem : Memory → SProp 𝓤) (run : Routine → Fun 𝓤) (κ : Lft) (q : Share) (b o : ℕ) (γ : GName) (ys : List Job) (s : Scan) (room : Room J.the_row (length ys)) (is₀ : Is S.the_row s (smach s ∷ [])) where
   open 𝓛 use {H}
@@ -113,7 +113,7 @@ module _ {M : Type 1} {𝓤 : Ura M} (𝓛 : Logic 𝓤) (mem : Memory → SProp
 
   -- the state after i jobs
   abbrev st : ℕ → Scan
-  st i = fold scanStep s (take i ys)
+  st i = fold scan_step s (take i ys)
 
   abbrev Post : Val → SProp 𝓤
   Post = (walk_of 𝓛 f.ended stayed (f.clauses 𝓛 mem run)).post (((κ, tt), (q, tt), tt, a, at), tt)
@@ -137,17 +137,17 @@ module _ {M : Type 1} {𝓤 : Ura M} (𝓛 : Logic 𝓤) (mem : Memory → SProp
 
   all_seen : st n ≡ scanned s ys
   unfolding scanned
-  all_seen = fold_end scanStep s ys
+  all_seen = fold_end scan_step s ys
 
   none_seen : s ≡ st 0
-  none_seen = sym (fold-zero scanStep s ys)
+  none_seen = sym (fold-zero scan_step s ys)
 
   abbrev start : Upto
   start = (0, (zero-le, subst (λ (z : Scan). Is S.the_row z (smach z ∷ [])) none_seen is₀))
 
   -- the state after one job more
-  one_more : (i : ℕ) → i < n → scanStep (st i) (get_or ys i none) ≡ st (i + 1)
-  one_more i h = fold_more scanStep s ys i h
+  one_more : (i : ℕ) → i < n → scan_step (st i) (get_or ys i none) ≡ st (i + 1)
+  one_more i h = fold_more scan_step s ys i h
 
   module _ (𝓣 : Tables 𝓤 H) (fm : FmC 𝓤 H 𝓛.laws 𝓣.C) (known : Triple 𝓤 (𝓣.C #desk-reading·scan_step) (StepC 𝓛 mem run)) (l₀ l₁ l₂ l₃ l₄ l₅ l₆ l₇ l₈ l₉ : ℕ) where
     abbrev C : Calls 𝓤 H
@@ -195,7 +195,7 @@ module _ {M : Type 1} {𝓤 : Ura M} (𝓛 : Logic 𝓤) (mem : Memory → SProp
         nothing ! $ use1 𝓛 (raw ((StepC 𝓛 mem run).pre (to 𝓛 mem run (st i) elem))) (goes_step 𝓛 mem run (st i) elem x.1.1 isj) $
         calls_at ! fm (StepC 𝓛 mem run) known (to 𝓛 mem run (st i) elem) (and_then ! (load ! (from ! (stop !)) (look ! 15 refl)) (and_then ! (load ! (from ! (stop !)) (look ! 11 refl)) (no_more !))) (λ w.
         use1 𝓛 (later (some (λ (r : Scan). (‵ ftrue ⊛ ‵ ((S.the_row).own_val r (w ∷ []))) ⊛ raw (ensured 𝓛 step.ended (step.clauses 𝓛 mem run) tt (st i, (elem, tt)) tt r)))) (id⊢ 𝓤 _) $ await ! tt $ pick ! (λ r.
-        split ! $ move ! (1 ∷ []) $ use1 𝓛 (raw (fact 𝓤 (r ≡ scanStep (st i) elem))) (said 𝓛 mem run (st i) elem r) $ heard ! (r ≡ scanStep (st i) elem) (λ er. split ! $ drop ! $
+        split ! $ move ! (1 ∷ []) $ use1 𝓛 (raw (fact 𝓤 (r ≡ scan_step (st i) elem))) (said 𝓛 mem run (st i) elem r) $ heard ! (r ≡ scan_step (st i) elem) (λ er. split ! $ drop ! $
         peeks ! S.the_row (Is S.the_row) (shows 𝓛 S.the_row) r (w ∷ []) (λ isr. drop ! $
         land ! (from ! (stop !)) (store ! 14 refl ((LL.lawful S.the_type S'.the_laws 𝓛).typed r _ isr).0) $
         assigns_last ! (bin ! (load ! (from ! (stop !)) (look ! 12 refl)) (lit ! tt) (record { fits = up_fits })) (from ! (stop !)) (store ! 12 refl (tt, record { fits = up_fits })) $
@@ -214,13 +214,13 @@ module _ {M : Type 1} {𝓤 : Ura M} (𝓛 : Logic 𝓤) (mem : Memory → SProp
         within = ltb-true i n e
 
         i-fits : i < 2 ^ 64
-        i-fits = fits-of n i x.1.0 room.0
+        i-fits = fits_of n i x.1.0 room.0
 
         mul-fits : i * 16 < 2 ^ 64
         mul-fits = byte_fits n i room.1 within
 
         up_fits : i + 1 < 2 ^ 64
-        up_fits = fits-of n (i + 1) (up n i within) room.0
+        up_fits = fits_of n (i + 1) (up n i within) room.0
     turned x false e =
         assigns ! (of_opd ! (load ! (from ! (fld ! refl (stop !))) (look_in ! 16 (sub ! 1 refl (whole !))))) (from ! (stop !)) (init ! 6 refl (tt, record { fits = room.0 })) $
         assigns ! (bin ! (load ! (from ! (stop !)) (look ! 10 refl)) (load ! (from ! (stop !)) (look ! 6 refl)) tt) (from ! (stop !)) (init ! 4 refl (tt, tt)) $
@@ -228,7 +228,7 @@ module _ {M : Type 1} {𝓤 : Ura M} (𝓛 : Logic 𝓤) (mem : Memory → SProp
         assigns ! (of_opd ! (load ! (from ! (stop !)) (look ! 12 refl))) (from ! (stop !)) (init ! 18 refl ((LL.lawful S.the_type S'.the_laws 𝓛).typed (st x.0) _ x.1.1).0) $
         returns ! (look ! 18 refl) $ forget ! 4 refl $ forget ! 6 refl $ forget ! 10 refl $ forget ! 12 refl $ forget ! 14 refl $ forget ! 16 refl $ forget ! 18 refl $
         move ! (18 ∷ 19 ∷ []) $ free1 ! $ move ! (16 ∷ 17 ∷ []) $ free1 ! $ move ! (14 ∷ 15 ∷ []) $ free1 ! $ move ! (12 ∷ 13 ∷ []) $ free1 ! $ move ! (10 ∷ 11 ∷ []) $ free1 ! $ move ! (8 ∷ 9 ∷ []) $ free1 ! $ move ! (6 ∷ 7 ∷ []) $ free1 ! $ move ! (4 ∷ 5 ∷ []) $ free1 ! $ move ! (2 ∷ 3 ∷ []) $ free1 ! $ free1 ! $ free0 ! $
-        keep ! (0 ∷ 2 ∷ []) $ by ! (exits (st x.0) (ap st (at-end n x.0 x.1.0 (ltb-false x.0 n e)) ∙ all_seen) x.1.1)
+        keep ! (0 ∷ 2 ∷ []) $ by ! (exits (st x.0) (ap st (at_end n x.0 x.1.0 (ltb-false x.0 n e)) ∙ all_seen) x.1.1)
 
     turns : (x : Upto) → Sq 𝓛 (At x) (runs C Λ En code-mir.turn-1 (any_q (Turned x)))
     turns x = turned x (ltb x.0 n) refl

@@ -47,12 +47,12 @@ use denote.Exit.{yes}
 use borrow.Author.Tests.{ltb-true, ltb-false}
 use Rattle.desk.specs.Table.{none}
 use Rattle.desk_records.specs.Folds.{fold}
-use Rattle.desk_writing.specs.Writing.{shiftOut, shiftStep, shifted}
+use Rattle.desk_writing.specs.Writing.{shift_out, shift_step, shifted}
 use Rattle.desk.specs.declared.Job.{Job}
 use Rattle.desk_writing.specs.declared.shift.Shift.{Shift}
 use borrow.Author.Count.{falls}
-use Rattle.desk_walks.proofs.Up.{byte_fits, up, fits-of, at-end}
-use Rattle.desk_walks.proofs.Along.{fold-zero, fold_more, forthAt, forthAt-zero, forthAt-end, forthAt-length, forthAt-read, forthAt-more}
+use Rattle.desk_walks.proofs.Up.{byte_fits, up, fits_of, at_end}
+use Rattle.desk_walks.proofs.Along.{fold-zero, fold_more, forth_at, forth_at_zero, forth_at_end, forth_at_length, forth_at_read, forth_at_more}
 use Rattle.desk.specs.contracts.Job as J
 use Rattle.desk.proofs.Job.TheLaws as J'
 use Rattle.desk_writing.specs.contracts.shift.Shift as S
@@ -93,8 +93,8 @@ module _ {M : Type 1} {𝓤 : Ura M} (𝓛 : Logic 𝓤) (mem : Memory → SProp
       qed 𝓛 (‵ ftrue ∷ []) ∵ nothing ! $ owned ! J.the_row (Is J.the_row) (LL.makes J.the_type J'.the_plain 𝓛) j _ isj $ fjoin ! $
       owned ! S.the_row (Is S.the_row) (LL.makes S.the_type S'.the_plain 𝓛) r _ isr $ fjoin ! $ move ! (1 ∷ 0 ∷ []) $ join ! $ frame ! $ done !
 
-  said-out : (s : Shift) (j : Job) (r : Job) → ent 𝓤 (ensured 𝓛 shift_out.ended (shift_out.clauses 𝓛 mem run) tt (s, (j, tt)) tt r) (fact 𝓤 (r ≡ shiftOut s j))
-  said-out s j r = ex_e 𝓤 _ (λ ws. snd∗ 𝓤 (sem 𝓛 (lasts shift_out.ended tt (s, (j, tt)) ws)) (fact 𝓤 (r ≡ shiftOut s j)))
+  said-out : (s : Shift) (j : Job) (r : Job) → ent 𝓤 (ensured 𝓛 shift_out.ended (shift_out.clauses 𝓛 mem run) tt (s, (j, tt)) tt r) (fact 𝓤 (r ≡ shift_out s j))
+  said-out s j r = ex_e 𝓤 _ (λ ws. snd∗ 𝓤 (sem 𝓛 (lasts shift_out.ended tt (s, (j, tt)) ws)) (fact 𝓤 (r ≡ shift_out s j)))
 
 -- the contract of `shift_step`, that what it is passed has what it asks, and what it says
 abbrev step-C : {M : Type 1} {𝓤 : Ura M} (𝓛 : Logic 𝓤) (mem : Memory → SProp 𝓤) (run : Routine → Fun 𝓤) → Contract 𝓤
@@ -109,8 +109,8 @@ module _ {M : Type 1} {𝓤 : Ura M} (𝓛 : Logic 𝓤) (mem : Memory → SProp
       qed 𝓛 (‵ ftrue ∷ []) ∵ nothing ! $ owned ! J.the_row (Is J.the_row) (LL.makes J.the_type J'.the_plain 𝓛) j _ isj $ fjoin ! $
       owned ! S.the_row (Is S.the_row) (LL.makes S.the_type S'.the_plain 𝓛) r _ isr $ fjoin ! $ move ! (1 ∷ 0 ∷ []) $ join ! $ frame ! $ done !
 
-  said-step : (s : Shift) (j : Job) (r : Shift) → ent 𝓤 (ensured 𝓛 shift_step.ended (shift_step.clauses 𝓛 mem run) tt (s, (j, tt)) tt r) (fact 𝓤 (r ≡ shiftStep s j))
-  said-step s j r = ex_e 𝓤 _ (λ ws. snd∗ 𝓤 (sem 𝓛 (lasts shift_step.ended tt (s, (j, tt)) ws)) (fact 𝓤 (r ≡ shiftStep s j)))
+  said-step : (s : Shift) (j : Job) (r : Shift) → ent 𝓤 (ensured 𝓛 shift_step.ended (shift_step.clauses 𝓛 mem run) tt (s, (j, tt)) tt r) (fact 𝓤 (r ≡ shift_step s j))
+  said-step s j r = ex_e 𝓤 _ (λ ws. snd∗ 𝓤 (sem 𝓛 (lasts shift_step.ended tt (s, (j, tt)) ws)) (fact 𝓤 (r ≡ shift_step s j)))
 
 abbrev stayed : Stays (f.ended).signature.params (f.ended).kept
 stayed = (stay_slice (0 ∷ []) tt (plain (λ _. J.the_row)), (stay_none (λ _. S.the_row) yes, tt))
@@ -135,10 +135,10 @@ module _ {M : Type 1} {𝓤 : Ura M} (𝓛 : Logic 𝓤) (mem : Memory → SProp
 
   -- the table and the state at i
   abbrev tb : ℕ → List Job
-  tb i = forthAt shiftStep shiftOut s ys i
+  tb i = forth_at shift_step shift_out s ys i
 
   abbrev st : ℕ → Shift
-  st i = fold shiftStep s (take i ys)
+  st i = fold shift_step s (take i ys)
 
   abbrev Post : Val → SProp 𝓤
   Post = (walk_of 𝓛 f.ended stayed (f.clauses 𝓛 mem run)).post (((κ, tt), (q, tt), tt, a, at), tt)
@@ -153,14 +153,14 @@ module _ {M : Type 1} {𝓤 : Ura M} (𝓛 : Logic 𝓤) (mem : Memory → SProp
       feq_i ! (List Val) (vunit ∷ []) (vunit ∷ []) refl $ done !
 
   start-state : s ≡ st 0
-  start-state = sym (fold-zero shiftStep s ys)
+  start-state = sym (fold-zero shift_step s ys)
 
   start-table : ys ≡ tb 0
-  start-table = sym (forthAt-zero shiftStep shiftOut s ys)
+  start-table = sym (forth_at_zero shift_step shift_out s ys)
 
   whole-table : tb n ≡ shifted s ys
   unfolding shifted
-  whole-table = forthAt-end shiftStep shiftOut s ys
+  whole-table = forth_at_end shift_step shift_out s ys
 
   -- how far the loop is, and that the state there is a value of its type
   abbrev Upto : Type 0
@@ -220,7 +220,7 @@ module _ {M : Type 1} {𝓤 : Ura M} (𝓛 : Logic 𝓤) (mem : Memory → SProp
         nothing ! $ use1 𝓛 (raw ((out-C 𝓛 mem run).pre (to_out 𝓛 mem run here elem))) (goes-out 𝓛 mem run here elem x.1.1 isj) $
         calls_at ! fm (out-C 𝓛 mem run) known_out (to_out 𝓛 mem run here elem) (and_then ! (load ! (from ! (stop !)) (look ! 23 refl)) (and_then ! (load ! (from ! (stop !)) (look ! 19 refl)) (no_more !))) (λ w.
         use1 𝓛 (later (some (λ (r : Job). (‵ ftrue ⊛ ‵ ((J.the_row).own_val r (w ∷ []))) ⊛ raw (ensured 𝓛 shift_out.ended (shift_out.clauses 𝓛 mem run) tt (here, (elem, tt)) tt r)))) (id⊢ 𝓤 _) $ await ! tt $ pick ! (λ r.
-        split ! $ move ! (1 ∷ []) $ use1 𝓛 (raw (fact 𝓤 (r ≡ shiftOut here elem))) (said-out 𝓛 mem run here elem r) $ heard ! (r ≡ shiftOut here elem) (λ er. split ! $ drop1 ! $
+        split ! $ move ! (1 ∷ []) $ use1 𝓛 (raw (fact 𝓤 (r ≡ shift_out here elem))) (said-out 𝓛 mem run here elem r) $ heard ! (r ≡ shift_out here elem) (λ er. split ! $ drop1 ! $
         peeks ! J.the_row (Is J.the_row) (shows 𝓛 J.the_row) r (w ∷ []) (λ isr.
         -- [what the result owns; jobs[i]; what it owns; the others; the open borrow; obs; auth; _11 at 7; …; _6 at 17; _5 at 19; _4 at 21; _3; _2; _1 at 27; _0]
         land ! (from ! (stop !)) (init ! 17 refl ((LL.lawful J.the_type J'.the_laws 𝓛).typed r _ isr).0) $
@@ -230,20 +230,20 @@ module _ {M : Type 1} {𝓤 : Ura M} (𝓛 : Logic 𝓤) (mem : Memory → SProp
         assigns ! (of_opd ! (load ! (from ! (stop !)) (look ! 17 refl))) (from ! (hop ! (look ! 7 refl) (stop !))) (store_raw ! 1 refl ((LL.lawful J.the_type J'.the_laws 𝓛).typed r _ isr).0) $
         -- the element is put back, and the borrow is closed
         move ! (2 ∷ []) $ drop1 ! $ move ! (1 ∷ 0 ∷ []) $ elem_put ! J.the_row full_share tbl i r (w ∷ []) b o within' $
-        rewrite ! 0 (λ (l : List Job). ‵ (row J.the_row full_share l b o)) (ap (set tbl i) (er ∙ ap (shiftOut here) read) ∙ next-table) refl $
+        rewrite ! 0 (λ (l : List Job). ‵ (row J.the_row full_share l b o)) (ap (set tbl i) (er ∙ ap (shift_out here) read) ∙ next-table) refl $
         closes_slice ! tt J.the_row tbl (tb (i + 1)) (next-length ∙ sym this-length) b o $
         -- [obs; the borrow; the token; _11 at 3; …; _5 at 15; _4 at 17; _3 at 19; …]
         nothing ! $ use1 𝓛 (raw ((step-C 𝓛 mem run).pre (to_step 𝓛 mem run here elem))) (goes_step 𝓛 mem run here elem x.1.1 isj) $
         calls_at ! fm (step-C 𝓛 mem run) Known-step (to_step 𝓛 mem run here elem) (and_then ! (load ! (from ! (stop !)) (look ! 20 refl)) (and_then ! (load ! (from ! (stop !)) (look ! 16 refl)) (no_more !))) (λ u.
         use1 𝓛 (later (some (λ (r₂ : Shift). (‵ ftrue ⊛ ‵ ((S.the_row).own_val r₂ (u ∷ []))) ⊛ raw (ensured 𝓛 shift_step.ended (shift_step.clauses 𝓛 mem run) tt (here, (elem, tt)) tt r₂)))) (id⊢ 𝓤 _) $ await ! tt $ pick ! (λ r₂.
-        split ! $ move ! (1 ∷ []) $ use1 𝓛 (raw (fact 𝓤 (r₂ ≡ shiftStep here elem))) (said-step 𝓛 mem run here elem r₂) $ heard ! (r₂ ≡ shiftStep here elem) (λ er₂. split ! $ drop1 ! $
+        split ! $ move ! (1 ∷ []) $ use1 𝓛 (raw (fact 𝓤 (r₂ ≡ shift_step here elem))) (said-step 𝓛 mem run here elem r₂) $ heard ! (r₂ ≡ shift_step here elem) (λ er₂. split ! $ drop1 ! $
         peeks ! S.the_row (Is S.the_row) (shows 𝓛 S.the_row) r₂ (u ∷ []) (λ isr₂. drop1 ! $
         land ! (from ! (stop !)) (store ! 19 refl ((LL.lawful S.the_type S'.the_laws 𝓛).typed r₂ _ isr₂).0) $
         assigns_last ! (bin ! (load ! (from ! (stop !)) (look ! 17 refl)) (lit ! tt) (record { fits = up_fits })) (from ! (stop !)) (store ! 17 refl (tt, record { fits = up_fits })) $
         forget ! 3 refl $ forget ! 5 refl $ forget ! 7 refl $ forget ! 9 refl $ forget ! 11 refl $ forget ! 13 refl $ forget ! 15 refl $
-        rewrite ! 19 (λ (v : Val). ‵ (fat full_share S'.mir l₃ 0 v)) (ap only (LL.tells S.the_type S'.the_laws r₂ (u ∷ []) isr₂) ∙ ap smach (er₂ ∙ ap (shiftStep here) read ∙ next-state)) refl $
+        rewrite ! 19 (λ (v : Val). ‵ (fat full_share S'.mir l₃ 0 v)) (ap only (LL.tells S.the_type S'.the_laws r₂ (u ∷ []) isr₂) ∙ ap smach (er₂ ∙ ap (shift_step here) read ∙ next-state)) refl $
         move ! (3 ∷ 4 ∷ 5 ∷ 6 ∷ 7 ∷ 8 ∷ 9 ∷ 10 ∷ 11 ∷ 12 ∷ 13 ∷ 14 ∷ 15 ∷ 16 ∷ 17 ∷ 18 ∷ 19 ∷ 20 ∷ 21 ∷ 22 ∷ 23 ∷ 24 ∷ 25 ∷ 26 ∷ []) $
-        again ! Nearer At x ((i + 1), (next_le, is-here r₂ (st (i + 1)) (er₂ ∙ ap (shiftStep here) read ∙ next-state) (subst (Is S.the_row r₂) (LL.tells S.the_type S'.the_laws r₂ (u ∷ []) isr₂) isr₂))) next-near)))))))))
+        again ! Nearer At x ((i + 1), (next_le, is-here r₂ (st (i + 1)) (er₂ ∙ ap (shift_step here) read ∙ next-state) (subst (Is S.the_row r₂) (LL.tells S.the_type S'.the_laws r₂ (u ∷ []) isr₂) isr₂))) next-near)))))))))
       where
         i : ℕ
         i = x.0
@@ -261,13 +261,13 @@ module _ {M : Type 1} {𝓤 : Ura M} (𝓛 : Logic 𝓤) (mem : Memory → SProp
         elem = get_or tbl i none
 
         this-length : length tbl ≡ n
-        this-length = forthAt-length shiftStep shiftOut s ys i x.1.0
+        this-length = forth_at_length shift_step shift_out s ys i x.1.0
 
         next_le : i + 1 ≤ n
         next_le = up n i within
 
         next-length : length (tb (i + 1)) ≡ n
-        next-length = forthAt-length shiftStep shiftOut s ys (i + 1) next_le
+        next-length = forth_at_length shift_step shift_out s ys (i + 1) next_le
 
         next-near : n - (i + 1) < n - i
         next-near = falls n i within
@@ -276,19 +276,19 @@ module _ {M : Type 1} {𝓤 : Ura M} (𝓛 : Logic 𝓤) (mem : Memory → SProp
         within' = subst (λ (k : ℕ). i < k) (sym this-length) within
 
         read : elem ≡ get_or ys i none
-        read = forthAt-read shiftStep shiftOut s ys i within
+        read = forth_at_read shift_step shift_out s ys i within
 
-        next-table : set tbl i (shiftOut here (get_or ys i none)) ≡ tb (i + 1)
-        next-table = forthAt-more shiftStep shiftOut s ys i within
+        next-table : set tbl i (shift_out here (get_or ys i none)) ≡ tb (i + 1)
+        next-table = forth_at_more shift_step shift_out s ys i within
 
-        next-state : shiftStep here (get_or ys i none) ≡ st (i + 1)
-        next-state = fold_more shiftStep s ys i within
+        next-state : shift_step here (get_or ys i none) ≡ st (i + 1)
+        next-state = fold_more shift_step s ys i within
 
         mul-fits : i * 16 < 2 ^ 64
         mul-fits = byte_fits n i room.1 within
 
         up_fits : i + 1 < 2 ^ 64
-        up_fits = fits-of n (i + 1) next_le room.0
+        up_fits = fits_of n (i + 1) next_le room.0
     turned x false e =
         assigns ! (of_opd ! (load ! (from ! (fld ! refl (stop !))) (look_in ! 20 (sub ! 1 refl (whole !))))) (from ! (stop !)) (init ! 8 refl (tt, record { fits = room.0 })) $
         assigns ! (bin ! (load ! (from ! (stop !)) (look ! 14 refl)) (load ! (from ! (stop !)) (look ! 8 refl)) tt) (from ! (stop !)) (init ! 6 refl (tt, tt)) $
@@ -297,14 +297,14 @@ module _ {M : Type 1} {𝓤 : Ura M} (𝓛 : Logic 𝓤) (mem : Memory → SProp
         returns ! (look ! 22 refl) $ forget ! 6 refl $ forget ! 8 refl $ forget ! 14 refl $ forget ! 16 refl $ forget ! 18 refl $ forget ! 20 refl $ forget ! 22 refl $
         move ! (22 ∷ 23 ∷ []) $ free1 ! $ move ! (20 ∷ 21 ∷ []) $ free1 ! $ move ! (18 ∷ 19 ∷ []) $ free1 ! $ move ! (16 ∷ 17 ∷ []) $ free1 ! $ move ! (14 ∷ 15 ∷ []) $ free1 ! $ move ! (12 ∷ 13 ∷ []) $ free1 ! $ move ! (10 ∷ 11 ∷ []) $ free1 ! $
         move ! (8 ∷ 9 ∷ []) $ free1 ! $ move ! (6 ∷ 7 ∷ []) $ free1 ! $ move ! (4 ∷ 5 ∷ []) $ free1 ! $ move ! (2 ∷ 3 ∷ []) $ free1 ! $ free1 ! $ free0 ! $
-        by ! (exits (tb x.0) (ap tb (at-end n x.0 x.1.0 (ltb-false x.0 n e)) ∙ whole-table) (forthAt-length shiftStep shiftOut s ys x.0 x.1.0))
+        by ! (exits (tb x.0) (ap tb (at_end n x.0 x.1.0 (ltb-false x.0 n e)) ∙ whole-table) (forth_at_length shift_step shift_out s ys x.0 x.1.0))
 
     turns : (x : Upto) → Sq 𝓛 (At x) (runs C Λ En code-mir.turn-1 (any_q (Turned x)))
     turns x = turned x (ltb x.0 n) refl
 
     -- the loop, from the first turn, and the rest of the body
-    looped : Sq 𝓛 (At (0, (zero-le, is-here s (st 0) (sym (fold-zero shiftStep s ys)) is₀))) (runs C Λ En code-mir.t-3 (at_ret En Post))
-    looped = first ! $ blocks ! $ loops ! 𝓣 Nearer Nearer-wf At turns (0, (zero-le, is-here s (st 0) (sym (fold-zero shiftStep s ys)) is₀))
+    looped : Sq 𝓛 (At (0, (zero-le, is-here s (st 0) (sym (fold-zero shift_step s ys)) is₀))) (runs C Λ En code-mir.t-3 (at_ret En Post))
+    looped = first ! $ blocks ! $ loops ! 𝓣 Nearer Nearer-wf At turns (0, (zero-le, is-here s (st 0) (sym (fold-zero shift_step s ys)) is₀))
 
   walk : (𝓣 : Tables 𝓤 H) → FmC 𝓤 H 𝓛.laws 𝓣.C → Triple 𝓤 (𝓣.C #desk-writing·shift_out) (out-C 𝓛 mem run) → Triple 𝓤 (𝓣.C #desk-writing·shift_step) (step-C 𝓛 mem run)
       → ent 𝓤 (on_entry 𝓛 f.signature (κ, tt) (q, tt) a at) (WpFn 𝓤 H 𝓣.C 𝓣.Λ code.function (sv ∷ smach s ∷ []) Post)

@@ -2,15 +2,15 @@ use mathlib.Core.Path.{◌≡◌, refl}
 use Prim.Native.Nat.{◌≤◌, ◌-◌, ◌/◌, min}
 use native.Mathlib.Omega.{arith}
 use lib.ListN.{length, length-set}
-use Rattle.file_codec.specs.Bytes.{numsOf}
+use Rattle.file_codec.specs.Bytes.{nums_of}
 use Rattle.file_codec.specs.Inner.{over}
-use Rattle.file_codec.proofs.Bytes.{over-more, numsOf-length}
+use Rattle.file_codec.proofs.Bytes.{over_more, nums_of-length}
 use borrow.Author.Rules.{rules}
 use Rattle.file_codec.proofs.load.Statement.{statement}
 use Rattle.file_codec.proofs.load.Tie as tie
 
 abbrev invariant-loop : tie.invariant-loop
-invariant-loop body table₀ n k₀ table k = (k ≤ n) × (table ≡ over (numsOf body) k table₀) × (length table ≡ length table₀)
+invariant-loop body table₀ n k₀ table k = (k ≤ n) × (table ≡ over (nums_of body) k table₀) × (length table ≡ length table₀)
 
 abbrev decreases-loop : tie.decreases-loop
 decreases-loop body table₀ n k₀ table k = n - k
@@ -37,7 +37,7 @@ loop-less : tie.Need-loop-smaller invariant-loop decreases-loop
 loop-less c = search rules
 
 loop-again : tie.Need-loop-preserved invariant-loop decreases-loop
-loop-again c = (search rules, rw (c.before.before.loop.invariant.1, c.number.ensures) (over-more (numsOf c.before.before.before.before.before.before.args.body.now) c.before.before.loop.k c.before.before.before.before.before.before.args.table.now (omega (arith, numsOf-length c.before.before.before.before.before.before.args.body.now)) (search rules)), simp length-set c.before.before.loop.invariant.2)
+loop-again c = (search rules, rw (c.before.before.loop.invariant.1, c.number.ensures) (over_more (nums_of c.before.before.before.before.before.before.args.body.now) c.before.before.loop.k c.before.before.before.before.before.before.args.table.now (omega (arith, nums_of-length c.before.before.before.before.before.before.args.body.now)) (search rules)), simp length-set c.before.before.loop.invariant.2)
 
 same_length : tie.Need-same-length invariant-loop decreases-loop
 same_length c = c.before.loop.invariant.2

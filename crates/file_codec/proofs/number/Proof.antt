@@ -1,7 +1,7 @@
 use mathlib.Core.Path.{sym}
 use lib.ListN.{get_or-eq_default}
-use Rattle.file_codec.specs.Bytes.{numsOf}
-use Rattle.file_codec.proofs.Bytes.{numsOf-at, numsOf-length}
+use Rattle.file_codec.specs.Bytes.{nums_of}
+use Rattle.file_codec.proofs.Bytes.{nums_of_at, nums_of-length}
 use borrow.Author.Rules.{rules}
 use Rattle.file_codec.proofs.number.Statement.{statement}
 use Rattle.file_codec.proofs.number.Tie as tie
@@ -34,10 +34,10 @@ add-result : tie.Need-overflow-add-result
 add-result c = search rules
 
 returns : tie.Need-returns
-returns c = rw (c.before.before.byte.ensures.0, c.byte2.ensures.0) (sym (numsOf-at _ _ c.before.before.before.before.if1.true))
+returns c = rw (c.before.before.byte.ensures.0, c.byte2.ensures.0) (sym (nums_of_at _ _ c.before.before.before.before.if1.true))
 
 returns-2 : tie.Need-returns-2
-returns-2 c = sym (get_or-eq_default (numsOf c.before.before.args.body.now) 0 (rw (numsOf-length c.before.before.args.body.now) c.if1.false))
+returns-2 c = sym (get_or-eq_default (nums_of c.before.before.args.body.now) 0 (rw (nums_of-length c.before.before.args.body.now) c.if1.false))
 
 pub number-spec : {M : Type 1} → statement M
 number-spec =

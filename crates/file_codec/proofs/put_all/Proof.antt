@@ -3,7 +3,7 @@ use Prim.Native.Nat.{◌≤◌, ◌-◌, ◌*◌}
 use lib.ListN.{length, length-set}
 use Rattle.file_codec.specs.Bytes.{bytes_of}
 use Rattle.file_codec.specs.Inner.{over}
-use Rattle.file_codec.proofs.Bytes.{put-more, put-done}
+use Rattle.file_codec.proofs.Bytes.{put_more, put_done}
 use borrow.Author.Rules.{rules}
 use Rattle.file_codec.proofs.put_all.Statement.{statement}
 use Rattle.file_codec.proofs.put_all.Tie as tie
@@ -36,13 +36,13 @@ loop-less : tie.Need-loop-smaller invariant-loop decreases-loop
 loop-less c = search rules
 
 loop-again : tie.Need-loop-preserved invariant-loop decreases-loop
-loop-again c = (search rules, c.before.before.put.ensures ∙ rw c.before.before.before.before.before.before.loop.invariant.1 (put-more c.before.before.before.before.before.before.before.before.before.args.table.now c.before.before.before.before.before.before.loop.k c.before.before.before.before.before.before.before.before.before.args.out.now (search rules) (search rules)), ap length c.before.before.put.ensures ∙ simp length-set c.before.before.before.before.before.before.loop.invariant.2)
+loop-again c = (search rules, c.before.before.put.ensures ∙ rw c.before.before.before.before.before.before.loop.invariant.1 (put_more c.before.before.before.before.before.before.before.before.before.args.table.now c.before.before.before.before.before.before.loop.k c.before.before.before.before.before.before.before.before.before.args.out.now (search rules) (search rules)), ap length c.before.before.put.ensures ∙ simp length-set c.before.before.before.before.before.before.loop.invariant.2)
 
 same_length : tie.Need-same-length invariant-loop decreases-loop
 same_length c = c.before.loop.invariant.2
 
 returns : tie.Need-returns invariant-loop decreases-loop
-returns c = let e : c.before.loop.k ≡ length c.before.before.before.before.args.table.now = search rules in rw e at c.before.loop.invariant.1 ∙ put-done _ _
+returns c = let e : c.before.loop.k ≡ length c.before.before.before.before.args.table.now = search rules in rw e at c.before.loop.invariant.1 ∙ put_done _ _
 
 pub put-all-spec : {M : Type 1} → statement M
 put-all-spec =

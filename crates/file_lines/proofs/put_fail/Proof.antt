@@ -1,5 +1,5 @@
 use Rattle.output.proofs.Put.{and_then}
-use Rattle.file_lines.specs.Lines.{failLine}
+use Rattle.file_lines.specs.Lines.{fail_line}
 use borrow.Author.Rules.{rules}
 use Rattle.file_lines.proofs.put_fail.Statement.{statement}
 use Rattle.file_lines.proofs.put_fail.Tie as tie
@@ -26,7 +26,7 @@ same_length : tie.Need-same-length
 same_length c = search rules
 
 returns : tie.Need-returns
-unfolding failLine
+unfolding fail_line
 returns c = let p = c.before.before.put-text.ensures.place in (and_then (and_then c.before.before.before.before.before.before.before.before.before.before.before.before.put-field.ensures.0 c.before.before.before.before.before.before.before.put-field2.ensures.0) c.before.before.put-text.ensures, search rules)
 
 pub put-fail-spec : {M : Type 1} → statement M

@@ -1,5 +1,5 @@
 use Rattle.output.proofs.Put.{and_then}
-use Rattle.file_lines.specs.Lines.{frameLine}
+use Rattle.file_lines.specs.Lines.{frame_line}
 use borrow.Author.Rules.{rules}
 use Rattle.file_lines.proofs.put_frame.Statement.{statement}
 use Rattle.file_lines.proofs.put_frame.Tie as tie
@@ -20,7 +20,7 @@ same_length : tie.Need-same-length
 same_length c = search rules
 
 returns : tie.Need-returns
-unfolding frameLine
+unfolding frame_line
 returns c = let p = c.before.before.put-text.ensures.place in (and_then c.before.before.before.before.before.before.before.put-field.ensures.0 c.before.before.put-text.ensures, search rules)
 
 pub put-frame-spec : {M : Type 1} → statement M

@@ -2,9 +2,9 @@ use mathlib.Core.Path.{sym, ◌∙◌}
 use Prim.Native.Nat.{◌*◌, ◌≤◌}
 use lib.ListN.{length}
 use lib.Seq.{length-take-le}
-use Rattle.file_listing.specs.Listing.{listingOf}
-use Rattle.file_runs.proofs.Loaded.{parts_held, tasks-held, runs-held}
-use Rattle.file_listing.proofs.Tables.{listable, tables-listed}
+use Rattle.file_listing.specs.Listing.{listing_of}
+use Rattle.file_runs.proofs.Loaded.{parts_held, tasks_held, runs_held}
+use Rattle.file_listing.proofs.Tables.{listable, tables_listed}
 use borrow.Author.Rules.{rules}
 use Rattle.file_listing.proofs.compose.Statement.{statement}
 use Rattle.file_listing.proofs.compose.Tie as tie
@@ -58,20 +58,20 @@ slice-aggregate-put-tables-3 : tie.Need-slice-aggregate-put-tables-3
 slice-aggregate-put-tables-3 c = let h = rw c.before.before.before.before.c2.given.1 at c.before.before.before.before.before.before.before.before.before.load-file.ensures.1.0 in let m : 2 * c.before.before.before.before.c2.given.0.1.1.1.1.0 ≤ length c.before.before.before.before.before.before.before.before.before.load-file.new.1.1.1.0 = search rules in sym (length-take-le (2 * c.before.before.before.before.c2.given.0.1.1.1.1.0) c.before.before.before.before.before.before.before.before.before.load-file.new.1.1.1.0 m)
 
 put-tables-requires : tie.Need-put-tables-requires
-put-tables-requires c κs = rw (parts_held c.before.before.before.before.before.before.before.before.before.before.before.before.before.before.before.before.args.file.now c.before.before.before.before.before.c2.given.0.0 c.before.before.before.before.before.c2.given.0.1.0 c.before.before.before.before.before.c2.given.0.1.1.0 c.before.before.before.before.before.c2.given.0.1.1.1.0 c.before.before.before.before.before.c2.given.0.1.1.1.1.0 (sym c.before.before.before.before.before.before.before.before.before.before.load-file.ensures.0 ∙ c.before.before.before.before.before.c2.given.1) _ c.before.before.before.before.before.before.before.before.before.before.load-file.ensures.1.1.0, tasks-held c.before.before.before.before.before.before.before.before.before.before.before.before.before.before.before.before.args.file.now c.before.before.before.before.before.c2.given.0.0 c.before.before.before.before.before.c2.given.0.1.0 c.before.before.before.before.before.c2.given.0.1.1.0 c.before.before.before.before.before.c2.given.0.1.1.1.0 c.before.before.before.before.before.c2.given.0.1.1.1.1.0 (sym c.before.before.before.before.before.before.before.before.before.before.load-file.ensures.0 ∙ c.before.before.before.before.before.c2.given.1) _ c.before.before.before.before.before.before.before.before.before.before.load-file.ensures.1.1.1.0, runs-held c.before.before.before.before.before.before.before.before.before.before.before.before.before.before.before.before.args.file.now c.before.before.before.before.before.c2.given.0.0 c.before.before.before.before.before.c2.given.0.1.0 c.before.before.before.before.before.c2.given.0.1.1.0 c.before.before.before.before.before.c2.given.0.1.1.1.0 c.before.before.before.before.before.c2.given.0.1.1.1.1.0 (sym c.before.before.before.before.before.before.before.before.before.before.load-file.ensures.0 ∙ c.before.before.before.before.before.c2.given.1) _ c.before.before.before.before.before.before.before.before.before.before.load-file.ensures.1.1.1.1) (listable c.before.before.before.before.before.before.before.before.before.before.before.before.before.before.before.before.args.file.now c.before.before.before.before.before.c2.given.0.0 c.before.before.before.before.before.c2.given.0.1.0 c.before.before.before.before.before.c2.given.0.1.1.0 c.before.before.before.before.before.c2.given.0.1.1.1.0 c.before.before.before.before.before.c2.given.0.1.1.1.1.0 (sym c.before.before.before.before.before.before.before.before.before.before.load-file.ensures.0 ∙ c.before.before.before.before.before.c2.given.1))
+put-tables-requires c κs = rw (parts_held c.before.before.before.before.before.before.before.before.before.before.before.before.before.before.before.before.args.file.now c.before.before.before.before.before.c2.given.0.0 c.before.before.before.before.before.c2.given.0.1.0 c.before.before.before.before.before.c2.given.0.1.1.0 c.before.before.before.before.before.c2.given.0.1.1.1.0 c.before.before.before.before.before.c2.given.0.1.1.1.1.0 (sym c.before.before.before.before.before.before.before.before.before.before.load-file.ensures.0 ∙ c.before.before.before.before.before.c2.given.1) _ c.before.before.before.before.before.before.before.before.before.before.load-file.ensures.1.1.0, tasks_held c.before.before.before.before.before.before.before.before.before.before.before.before.before.before.before.before.args.file.now c.before.before.before.before.before.c2.given.0.0 c.before.before.before.before.before.c2.given.0.1.0 c.before.before.before.before.before.c2.given.0.1.1.0 c.before.before.before.before.before.c2.given.0.1.1.1.0 c.before.before.before.before.before.c2.given.0.1.1.1.1.0 (sym c.before.before.before.before.before.before.before.before.before.before.load-file.ensures.0 ∙ c.before.before.before.before.before.c2.given.1) _ c.before.before.before.before.before.before.before.before.before.before.load-file.ensures.1.1.1.0, runs_held c.before.before.before.before.before.before.before.before.before.before.before.before.before.before.before.before.args.file.now c.before.before.before.before.before.c2.given.0.0 c.before.before.before.before.before.c2.given.0.1.0 c.before.before.before.before.before.c2.given.0.1.1.0 c.before.before.before.before.before.c2.given.0.1.1.1.0 c.before.before.before.before.before.c2.given.0.1.1.1.1.0 (sym c.before.before.before.before.before.before.before.before.before.before.load-file.ensures.0 ∙ c.before.before.before.before.before.c2.given.1) _ c.before.before.before.before.before.before.before.before.before.before.load-file.ensures.1.1.1.1) (listable c.before.before.before.before.before.before.before.before.before.before.before.before.before.before.before.before.args.file.now c.before.before.before.before.before.c2.given.0.0 c.before.before.before.before.before.c2.given.0.1.0 c.before.before.before.before.before.c2.given.0.1.1.0 c.before.before.before.before.before.c2.given.0.1.1.1.0 c.before.before.before.before.before.c2.given.0.1.1.1.1.0 (sym c.before.before.before.before.before.before.before.before.before.before.load-file.ensures.0 ∙ c.before.before.before.before.before.c2.given.1))
 
 same_length : tie.Need-same-length
 same_length c = search rules
 
 returns : tie.Need-returns
-unfolding listingOf
+unfolding listing_of
 returns c = (rw (← c.before.before.before.before.before.before.before.before.before.before.load-file.ensures.0, c.before.before.before.before.before.c.given.1) c.before.before.put-refusal.ensures.0, search rules)
 
 same-length-2 : tie.Need-same-length-2
 same-length-2 c = search rules
 
 returns-2 : tie.Need-returns-2
-returns-2 c = (rw (← tables-listed c.before.before.before.before.before.before.before.before.before.before.before.before.before.before.before.before.before.before.before.args.file.now c.before.before.before.before.before.before.before.before.c2.given.0.0 c.before.before.before.before.before.before.before.before.c2.given.0.1.0 c.before.before.before.before.before.before.before.before.c2.given.0.1.1.0 c.before.before.before.before.before.before.before.before.c2.given.0.1.1.1.0 c.before.before.before.before.before.before.before.before.c2.given.0.1.1.1.1.0 (sym c.before.before.before.before.before.before.before.before.before.before.before.before.before.load-file.ensures.0 ∙ c.before.before.before.before.before.before.before.before.c2.given.1), ← parts_held c.before.before.before.before.before.before.before.before.before.before.before.before.before.before.before.before.before.before.before.args.file.now c.before.before.before.before.before.before.before.before.c2.given.0.0 c.before.before.before.before.before.before.before.before.c2.given.0.1.0 c.before.before.before.before.before.before.before.before.c2.given.0.1.1.0 c.before.before.before.before.before.before.before.before.c2.given.0.1.1.1.0 c.before.before.before.before.before.before.before.before.c2.given.0.1.1.1.1.0 (sym c.before.before.before.before.before.before.before.before.before.before.before.before.before.load-file.ensures.0 ∙ c.before.before.before.before.before.before.before.before.c2.given.1) _ c.before.before.before.before.before.before.before.before.before.before.before.before.before.load-file.ensures.1.1.0, ← tasks-held c.before.before.before.before.before.before.before.before.before.before.before.before.before.before.before.before.before.before.before.args.file.now c.before.before.before.before.before.before.before.before.c2.given.0.0 c.before.before.before.before.before.before.before.before.c2.given.0.1.0 c.before.before.before.before.before.before.before.before.c2.given.0.1.1.0 c.before.before.before.before.before.before.before.before.c2.given.0.1.1.1.0 c.before.before.before.before.before.before.before.before.c2.given.0.1.1.1.1.0 (sym c.before.before.before.before.before.before.before.before.before.before.before.before.before.load-file.ensures.0 ∙ c.before.before.before.before.before.before.before.before.c2.given.1) _ c.before.before.before.before.before.before.before.before.before.before.before.before.before.load-file.ensures.1.1.1.0, ← runs-held c.before.before.before.before.before.before.before.before.before.before.before.before.before.before.before.before.before.before.before.args.file.now c.before.before.before.before.before.before.before.before.c2.given.0.0 c.before.before.before.before.before.before.before.before.c2.given.0.1.0 c.before.before.before.before.before.before.before.before.c2.given.0.1.1.0 c.before.before.before.before.before.before.before.before.c2.given.0.1.1.1.0 c.before.before.before.before.before.before.before.before.c2.given.0.1.1.1.1.0 (sym c.before.before.before.before.before.before.before.before.before.before.before.before.before.load-file.ensures.0 ∙ c.before.before.before.before.before.before.before.before.c2.given.1) _ c.before.before.before.before.before.before.before.before.before.before.before.before.before.load-file.ensures.1.1.1.1) c.before.before.put-tables.ensures.0, search rules)
+returns-2 c = (rw (← tables_listed c.before.before.before.before.before.before.before.before.before.before.before.before.before.before.before.before.before.before.before.args.file.now c.before.before.before.before.before.before.before.before.c2.given.0.0 c.before.before.before.before.before.before.before.before.c2.given.0.1.0 c.before.before.before.before.before.before.before.before.c2.given.0.1.1.0 c.before.before.before.before.before.before.before.before.c2.given.0.1.1.1.0 c.before.before.before.before.before.before.before.before.c2.given.0.1.1.1.1.0 (sym c.before.before.before.before.before.before.before.before.before.before.before.before.before.load-file.ensures.0 ∙ c.before.before.before.before.before.before.before.before.c2.given.1), ← parts_held c.before.before.before.before.before.before.before.before.before.before.before.before.before.before.before.before.before.before.before.args.file.now c.before.before.before.before.before.before.before.before.c2.given.0.0 c.before.before.before.before.before.before.before.before.c2.given.0.1.0 c.before.before.before.before.before.before.before.before.c2.given.0.1.1.0 c.before.before.before.before.before.before.before.before.c2.given.0.1.1.1.0 c.before.before.before.before.before.before.before.before.c2.given.0.1.1.1.1.0 (sym c.before.before.before.before.before.before.before.before.before.before.before.before.before.load-file.ensures.0 ∙ c.before.before.before.before.before.before.before.before.c2.given.1) _ c.before.before.before.before.before.before.before.before.before.before.before.before.before.load-file.ensures.1.1.0, ← tasks_held c.before.before.before.before.before.before.before.before.before.before.before.before.before.before.before.before.before.before.before.args.file.now c.before.before.before.before.before.before.before.before.c2.given.0.0 c.before.before.before.before.before.before.before.before.c2.given.0.1.0 c.before.before.before.before.before.before.before.before.c2.given.0.1.1.0 c.before.before.before.before.before.before.before.before.c2.given.0.1.1.1.0 c.before.before.before.before.before.before.before.before.c2.given.0.1.1.1.1.0 (sym c.before.before.before.before.before.before.before.before.before.before.before.before.before.load-file.ensures.0 ∙ c.before.before.before.before.before.before.before.before.c2.given.1) _ c.before.before.before.before.before.before.before.before.before.before.before.before.before.load-file.ensures.1.1.1.0, ← runs_held c.before.before.before.before.before.before.before.before.before.before.before.before.before.before.before.before.before.before.before.args.file.now c.before.before.before.before.before.before.before.before.c2.given.0.0 c.before.before.before.before.before.before.before.before.c2.given.0.1.0 c.before.before.before.before.before.before.before.before.c2.given.0.1.1.0 c.before.before.before.before.before.before.before.before.c2.given.0.1.1.1.0 c.before.before.before.before.before.before.before.before.c2.given.0.1.1.1.1.0 (sym c.before.before.before.before.before.before.before.before.before.before.before.before.before.load-file.ensures.0 ∙ c.before.before.before.before.before.before.before.before.c2.given.1) _ c.before.before.before.before.before.before.before.before.before.before.before.before.before.load-file.ensures.1.1.1.1) c.before.before.put-tables.ensures.0, search rules)
 
 pub compose-spec : {M : Type 1} → statement M
 compose-spec =

@@ -3,7 +3,7 @@ use mathlib.Core.Path.{sym}
 use Prim.Native.Nat.{◌≤◌}
 use lib.ListN.{length}
 use lib.Seq.{length-take-le}
-use Rattle.file_listing.proofs.Tables.{listed-short, listed-text}
+use Rattle.file_listing.proofs.Tables.{listed-short, listed_text}
 use borrow.Author.Rules.{rules}
 use Rattle.file_listing.proofs.listing.Statement.{statement}
 use Rattle.file_listing.proofs.listing.Tie as tie
@@ -30,7 +30,7 @@ same_length : tie.Need-same-length
 same_length c = search rules
 
 returns-2 : tie.Need-returns-2
-returns-2 c = let l = listed-text _ _ _ c.before.before.before.before.before.before.before.before.before.before.before.args.out.now _ c.before.before.before.before.before.before.before.compose.ensures.0 (search rules) (search rules) _ _ c.before.before.put-text.ensures in ((l.0, l.1), omega (arith, c.before.before.before.before.before.before.before.compose.ensures.0.place, c.before.before.before.before.before.before.before.compose.ensures.1))
+returns-2 c = let l = listed_text _ _ _ c.before.before.before.before.before.before.before.before.before.before.before.args.out.now _ c.before.before.before.before.before.before.before.compose.ensures.0 (search rules) (search rules) _ _ c.before.before.put-text.ensures in ((l.0, l.1), omega (arith, c.before.before.before.before.before.before.before.compose.ensures.0.place, c.before.before.before.before.before.before.before.compose.ensures.1))
 
 pub listing-spec : {M : Type 1} → statement M
 listing-spec =

@@ -1,4 +1,4 @@
-use Rattle.file_listing.specs.Listing.{tablesLines}
+use Rattle.file_listing.specs.Listing.{tables_lines}
 use borrow.Author.Rules.{rules}
 use Rattle.file_listing.proofs.put_checked.Statement.{statement}
 use Rattle.file_listing.proofs.put_checked.Tie as tie
@@ -28,14 +28,14 @@ same_length : tie.Need-same-length
 same_length c = search rules
 
 returns : tie.Need-returns
-unfolding tablesLines
+unfolding tables_lines
 returns c = (rw (c.before.before.before.before.before.before.before.before.before.before.before.before.before.before.requires.1, ← rw (c.before.before.before.before.before.before.before.before.filed.ensures, c.before.before.before.before.before.before.before.before.before.rule-of.ensures) at c.before.before.before.before.before.before.before.scan.ensures, c.before.before.before.before.before.checked.given.1) c.before.before.put-refusal.ensures.0, search rules)
 
 same-length-2 : tie.Need-same-length-2
 same-length-2 c = search rules
 
 returns-2 : tie.Need-returns-2
-unfolding tablesLines
+unfolding tables_lines
 returns-2 c = (rw (c.before.before.before.before.before.before.before.before.before.before.before.before.before.requires.1, ← rw (c.before.before.before.before.before.before.before.filed.ensures, c.before.before.before.before.before.before.before.before.rule-of.ensures) at c.before.before.before.before.before.before.scan.ensures, c.before.before.before.before.enum_told.given.1) (rw c.before.before.before.before.before.before.before.before.rule-of.ensures at c.before.before.put-page.ensures.0), search rules)
 
 pub put-checked-spec : {M : Type 1} → statement M

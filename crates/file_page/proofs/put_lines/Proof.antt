@@ -2,16 +2,16 @@ use mathlib.Core.Path.{◌≡◌, refl}
 use Prim.Native.Nat.{◌≤◌, ◌+◌, ◌-◌, ◌*◌}
 use lib.ListN.{length}
 use Rattle.output.specs.Put.{Put}
-use Rattle.rules.specs.Limits.{longestLine}
+use Rattle.rules.specs.Limits.{longest_line}
 use Rattle.rules.specs.Walk.{gathered}
-use Rattle.file_page.specs.Inner.{lineBy}
+use Rattle.file_page.specs.Inner.{line_by}
 use Rattle.output.proofs.Put.{lines_none, lines_more}
 use borrow.Author.Rules.{rules}
 use Rattle.file_page.proofs.put_lines.Statement.{statement}
 use Rattle.file_page.proofs.put_lines.Tie as tie
 
 abbrev invariant-loop : tie.invariant-loop
-invariant-loop table points ticks out₀ start n at₀ j₀ out at j = (j ≤ n) × Put out₀ start (gathered (lineBy table points ticks) j) at out × (at ≤ start + longestLine * j) × (length out ≡ length out₀)
+invariant-loop table points ticks out₀ start n at₀ j₀ out at j = (j ≤ n) × Put out₀ start (gathered (line_by table points ticks) j) at out × (at ≤ start + longest_line * j) × (length out ≡ length out₀)
 
 abbrev decreases-loop : tie.decreases-loop
 decreases-loop table points ticks out₀ start n at₀ j₀ out at j = n - j

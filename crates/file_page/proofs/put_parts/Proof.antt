@@ -2,16 +2,16 @@ use mathlib.Core.Path.{◌≡◌, refl}
 use Prim.Native.Nat.{◌≤◌, ◌+◌, ◌-◌, ◌*◌}
 use lib.ListN.{length}
 use Rattle.output.specs.Put.{Put}
-use Rattle.rules.specs.Limits.{longestLine}
+use Rattle.rules.specs.Limits.{longest_line}
 use Rattle.rules.specs.Walk.{gathered}
-use Rattle.file_page.specs.Page.{partLine}
+use Rattle.file_page.specs.Page.{part_line}
 use Rattle.output.proofs.Put.{lines_none, lines_more}
 use borrow.Author.Rules.{rules}
 use Rattle.file_page.proofs.put_parts.Statement.{statement}
 use Rattle.file_page.proofs.put_parts.Tie as tie
 
 abbrev invariant-loop : tie.invariant-loop
-invariant-loop rule plan parts out₀ start n at₀ k₀ out at k = (k ≤ n) × Put out₀ start (gathered (partLine rule plan parts) k) at out × (at ≤ start + longestLine * k) × (length out ≡ length out₀)
+invariant-loop rule plan parts out₀ start n at₀ k₀ out at k = (k ≤ n) × Put out₀ start (gathered (part_line rule plan parts) k) at out × (at ≤ start + longest_line * k) × (length out ≡ length out₀)
 
 abbrev decreases-loop : tie.decreases-loop
 decreases-loop rule plan parts out₀ start n at₀ k₀ out at k = n - k

@@ -1,5 +1,5 @@
 use mathlib.Core.Path.{refl}
-use Rattle.file_page.proofs.Lines.{fail-line, pass-line}
+use Rattle.file_page.proofs.Lines.{fail_line_lem, pass-line}
 use borrow.Author.Rules.{rules}
 use Rattle.file_page.proofs.put_task.Statement.{statement}
 use Rattle.file_page.proofs.put_task.Tie as tie
@@ -32,7 +32,7 @@ same_length : tie.Need-same-length
 same_length c = search rules
 
 returns : tie.Need-returns
-returns c = (rw (← fail-line c.before.before.before.before.before.before.before.before.before.before.before.before.before.before.args.table.now c.before.before.before.before.before.before.before.before.before.before.before.before.before.before.args.points.now c.before.before.before.before.before.before.before.before.before.before.before.before.before.before.args.ticks.now c.before.before.before.before.before.before.before.before.before.before.before.before.before.before.args.j _ _ _ _ _ c.before.before.before.before.before.before.before.before.before.partition.ensures c.before.before.before.before.before.before.before.before.wide.ensures c.before.before.before.before.before.before.deadline.ensures c.before.before.before.before.before.wide2.ensures refl (search rules)) c.before.before.put-fail.ensures.0, search rules)
+returns c = (rw (← fail_line_lem c.before.before.before.before.before.before.before.before.before.before.before.before.before.before.args.table.now c.before.before.before.before.before.before.before.before.before.before.before.before.before.before.args.points.now c.before.before.before.before.before.before.before.before.before.before.before.before.before.before.args.ticks.now c.before.before.before.before.before.before.before.before.before.before.before.before.before.before.args.j _ _ _ _ _ c.before.before.before.before.before.before.before.before.before.partition.ensures c.before.before.before.before.before.before.before.before.wide.ensures c.before.before.before.before.before.before.deadline.ensures c.before.before.before.before.before.wide2.ensures refl (search rules)) c.before.before.put-fail.ensures.0, search rules)
 
 add-put-pass : tie.Need-overflow-add-put-pass
 add-put-pass c = search rules

@@ -16,7 +16,7 @@ slice-aggregate-judge-all-2 : tie.Need-slice-aggregate-judge-all-2
 slice-aggregate-judge-all-2 c = search rules
 
 judge-all-requires : tie.Need-judge-all-requires
-judge-all-requires c κs = let g = c.before.before.before.before.before.before.before.requires.0 in (g.few-tasks, rw c.before.before.partitions.ensures g.good, search rules, search rules)
+judge-all-requires c κs = let g = c.before.before.before.before.before.before.before.requires.0 in (g.few_tasks, rw c.before.before.partitions.ensures g.good, search rules, search rules)
 
 slice-aggregate-put-lines : tie.Need-slice-aggregate-put-lines
 slice-aggregate-put-lines c = search rules

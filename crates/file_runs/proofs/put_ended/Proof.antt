@@ -1,11 +1,11 @@
 use borrow.Author.Tests.{eq-eqb, ne_eqb}
-use Rattle.output.proofs.Put.{put-none}
+use Rattle.output.proofs.Put.{put_none}
 use borrow.Author.Rules.{rules}
 use Rattle.file_runs.proofs.put_ended.Statement.{statement}
 use Rattle.file_runs.proofs.put_ended.Tie as tie
 
 returns : tie.Need-returns
-returns c = (rw (eq-eqb _ _ c.if1.true) (put-none _ _), search rules)
+returns c = (rw (eq-eqb _ _ c.if1.true) (put_none _ _), search rules)
 
 put-run-requires : tie.Need-put-run-requires
 put-run-requires c κs = search rules

@@ -4,8 +4,8 @@ use native.Mathlib.Nat.{add-zero}
 use native.Mathlib.Omega.{arith}
 use lib.ListN.{length, replicate}
 use Rattle.output.specs.Put.{Put}
-use Rattle.output.proofs.Put.{put-none, put_one, and_then}
-use Rattle.file_runs.proofs.Ticks.{rep-more}
+use Rattle.output.proofs.Put.{put_none, put_one, and_then}
+use Rattle.file_runs.proofs.Ticks.{rep_more}
 use borrow.Author.Rules.{rules}
 use Rattle.file_runs.proofs.put_ticks.Statement.{statement}
 use Rattle.file_runs.proofs.put_ticks.Tie as tie
@@ -17,7 +17,7 @@ abbrev decreases-loop : tie.decreases-loop
 decreases-loop out₀ at owner n k₀ out k = n - k
 
 loop-holds : tie.Need-loop-init invariant-loop decreases-loop
-loop-holds c = (search rules, rw add-zero (put-none _ _), refl)
+loop-holds c = (search rules, rw add-zero (put_none _ _), refl)
 
 add-put-number : tie.Need-overflow-add-put-number invariant-loop decreases-loop
 add-put-number c = search rules
@@ -32,7 +32,7 @@ loop-less : tie.Need-loop-smaller invariant-loop decreases-loop
 loop-less c = search rules
 
 loop-again : tie.Need-loop-preserved invariant-loop decreases-loop
-loop-again c = let e : c.before.before.before.before.before.before.before.args.at + (c.before.before.before.before.before.loop.k + 1) ≡ c.before.before.before.before.before.before.before.args.at + c.before.before.before.before.before.loop.k + 1 = omega arith in (search rules, rw (← rep-more c.before.before.before.before.before.loop.k c.before.before.before.before.before.before.before.args.owner) (and_then c.before.before.before.before.before.loop.invariant.1 (put_one e c.before.before.put-number.ensures.1)), search rules)
+loop-again c = let e : c.before.before.before.before.before.before.before.args.at + (c.before.before.before.before.before.loop.k + 1) ≡ c.before.before.before.before.before.before.before.args.at + c.before.before.before.before.before.loop.k + 1 = omega arith in (search rules, rw (← rep_more c.before.before.before.before.before.loop.k c.before.before.before.before.before.before.before.args.owner) (and_then c.before.before.before.before.before.loop.invariant.1 (put_one e c.before.before.put-number.ensures.1)), search rules)
 
 add-result : tie.Need-overflow-add-result invariant-loop decreases-loop
 add-result c = search rules

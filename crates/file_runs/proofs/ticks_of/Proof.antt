@@ -3,28 +3,28 @@ use Prim.Native.Nat.{◌≤◌, ◌<◌, ◌-◌, ◌+◌, ◌*◌, ◌/◌}
 use native.Mathlib.Omega.{arith}
 use lib.ListN.{length, take}
 use Rattle.output.specs.Put.{Put}
-use Rattle.file_runs.specs.Ticks.{ticksOf}
-use Rattle.output.proofs.Put.{put-none, and_then}
+use Rattle.file_runs.specs.Ticks.{ticks_of}
+use Rattle.output.proofs.Put.{put_none, and_then}
 use Rattle.file_runs.proofs.Ticks.{run_more, ticks-all, ticks-none, ticks-some}
 use borrow.Author.Rules.{rules}
 use Rattle.file_runs.proofs.ticks_of.Statement.{statement}
 use Rattle.file_runs.proofs.ticks_of.Tie as tie
 
 abbrev invariant-loop : tie.invariant-loop
-invariant-loop runs out₀ n at₀ k₀ out at k = (k ≤ n) × Put out₀ 0 (ticksOf (take (2 * k) runs)) at out × (at ≤ 65536 * k) × (length out ≡ length out₀)
+invariant-loop runs out₀ n at₀ k₀ out at k = (k ≤ n) × Put out₀ 0 (ticks_of (take (2 * k) runs)) at out × (at ≤ 65536 * k) × (length out ≡ length out₀)
 
 abbrev decreases-loop : tie.decreases-loop
 decreases-loop runs out₀ n at₀ k₀ out at k = n - k
 
 returns : tie.Need-returns invariant-loop decreases-loop
-returns c = rw (ticks-none c.before.before.before.args.runs.now c.if1.true) (put-none _ _)
+returns c = rw (ticks-none c.before.before.before.args.runs.now c.if1.true) (put_none _ _)
 
 runs-requires : tie.Need-runs-requires invariant-loop decreases-loop
 runs-requires c κs = search rules
 
 loop-holds : tie.Need-loop-init invariant-loop decreases-loop
-unfolding ticksOf
-loop-holds c = (search rules, put-none _ _, search rules, refl)
+unfolding ticks_of
+loop-holds c = (search rules, put_none _ _, search rules, refl)
 
 run-owner-requires : tie.Need-run-owner-requires invariant-loop decreases-loop
 run-owner-requires c κs = search rules

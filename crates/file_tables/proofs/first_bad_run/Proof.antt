@@ -4,14 +4,14 @@ use native.Mathlib.Omega.{arith}
 use Rattle.rules.specs.Walk.{first, fails, sum}
 use Rattle.rules.proofs.First.{first-zero, first_more, first_found, first_done}
 use Rattle.rules.proofs.Sum.{sum-zero}
-use Rattle.file_tables.specs.Runs.{runLength, goodRun}
-use Rattle.file_tables.proofs.Chain.{total-more, run-bad, run-good}
+use Rattle.file_tables.specs.Runs.{run_length, good_run}
+use Rattle.file_tables.proofs.Chain.{total_more, run_bad, run_good}
 use borrow.Author.Rules.{rules}
 use Rattle.file_tables.proofs.first_bad_run.Statement.{statement}
 use Rattle.file_tables.proofs.first_bad_run.Tie as tie
 
 abbrev invariant-loop : tie.invariant-loop
-invariant-loop table parts frame n total₀ k₀ total k = (k ≤ n) × (first (fails (goodRun parts frame table)) k ≡ k) × (total ≡ sum (runLength table) k) × (total ≤ 65536 * k)
+invariant-loop table parts frame n total₀ k₀ total k = (k ≤ n) × (first (fails (good_run parts frame table)) k ≡ k) × (total ≡ sum (run_length table) k) × (total ≤ 65536 * k)
 
 abbrev decreases-loop : tie.decreases-loop
 decreases-loop table parts frame n total₀ k₀ total k = n - k
@@ -32,10 +32,10 @@ add_total : tie.Need-overflow-add-total invariant-loop decreases-loop
 add_total c = search rules
 
 good-run-requires : tie.Need-good-run-requires invariant-loop decreases-loop
-good-run-requires c κs = (search rules, total-more c.before.before.before.before.before.before.args.table.now _ _ _ c.before.before.before.loop.invariant.2 (c.wide.ensures ∙ c.before.run_length.ensures))
+good-run-requires c κs = (search rules, total_more c.before.before.before.before.before.before.args.table.now _ _ _ c.before.before.before.loop.invariant.2 (c.wide.ensures ∙ c.before.run_length.ensures))
 
 returns : tie.Need-returns invariant-loop decreases-loop
-returns c = sym (first_found _ _ _ (omega arith) c.before.before.before.before.before.loop.invariant.1 (run-bad _ _ _ _ _ c.before.good-run.ensures c.if1.true))
+returns c = sym (first_found _ _ _ (omega arith) c.before.before.before.before.before.loop.invariant.1 (run_bad _ _ _ _ _ c.before.good-run.ensures c.if1.true))
 
 add-k : tie.Need-overflow-add-k invariant-loop decreases-loop
 add-k c = search rules
@@ -44,7 +44,7 @@ loop-less : tie.Need-loop-smaller invariant-loop decreases-loop
 loop-less c = search rules
 
 loop-again : tie.Need-loop-preserved invariant-loop decreases-loop
-loop-again c = (search rules, first_more _ _ c.before.before.before.before.before.loop.invariant.1 (run-good _ _ _ _ _ c.before.good-run.ensures c.if1.false), total-more c.before.before.before.before.before.before.before.before.args.table.now _ _ _ c.before.before.before.before.before.loop.invariant.2 (c.before.before.wide.ensures ∙ c.before.before.before.run_length.ensures), search rules)
+loop-again c = (search rules, first_more _ _ c.before.before.before.before.before.loop.invariant.1 (run_good _ _ _ _ _ c.before.good-run.ensures c.if1.false), total_more c.before.before.before.before.before.before.before.before.args.table.now _ _ _ c.before.before.before.before.before.loop.invariant.2 (c.before.before.wide.ensures ∙ c.before.before.before.run_length.ensures), search rules)
 
 returns-2 : tie.Need-returns-2 invariant-loop decreases-loop
 returns-2 c = rw (← c.before.before.runs.ensures) (sym (first_done _ _ _ c.before.loop.invariant.0 (search rules) c.before.loop.invariant.1))

@@ -1,7 +1,7 @@
 use mathlib.Core.Path.{sym, ◌∙◌}
 use native.Mathlib.Omega.{arith}
 use borrow.Author.Tests.{not-true, not-false}
-use Rattle.file_tables.proofs.Chain.{counted-runs, file-2, file-3, file-tables, file-runs}
+use Rattle.file_tables.proofs.Chain.{counted-runs, file_2, file_3, file-tables, file-runs}
 use borrow.Author.Rules.{rules}
 use Rattle.file_tables.proofs.judge_file.Statement.{statement}
 use Rattle.file_tables.proofs.judge_file.Tie as tie
@@ -10,13 +10,13 @@ good-edition-requires : tie.Need-good-edition-requires
 good-edition-requires c κs = search rules
 
 returns : tie.Need-returns
-returns c = file-2 _ _ _ _ _ (sym c.before.good-edition.ensures ∙ not-true _ c.if1.true)
+returns c = file_2 _ _ _ _ _ (sym c.before.good-edition.ensures ∙ not-true _ c.if1.true)
 
 runs-counted-requires : tie.Need-runs-counted-requires
 runs-counted-requires c κs = search rules
 
 returns-2 : tie.Need-returns-2
-returns-2 c = file-3 _ _ _ _ _ (sym c.before.before.before.good-edition.ensures ∙ not-false _ c.before.before.if1.false) (sym c.before.runs-counted.ensures ∙ not-true _ c.if2.true)
+returns-2 c = file_3 _ _ _ _ _ (sym c.before.before.before.good-edition.ensures ∙ not-false _ c.before.before.if1.false) (sym c.before.runs-counted.ensures ∙ not-true _ c.if2.true)
 
 filed-requires : tie.Need-filed-requires
 filed-requires c κs = search rules

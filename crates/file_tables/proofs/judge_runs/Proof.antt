@@ -1,4 +1,4 @@
-use Rattle.file_tables.proofs.Chain.{runs-8, runs-good}
+use Rattle.file_tables.proofs.Chain.{runs_8, runs_good}
 use borrow.Author.Rules.{rules}
 use Rattle.file_tables.proofs.judge_runs.Statement.{statement}
 use Rattle.file_tables.proofs.judge_runs.Tie as tie
@@ -13,10 +13,10 @@ add-t7 : tie.Need-overflow-add-t7
 add-t7 c = search rules
 
 returns : tie.Need-returns
-returns c = runs-8 _ _ _ _ c.before.before.first-bad-run.ensures (rw c.before.runs.ensures at c.if1.true)
+returns c = runs_8 _ _ _ _ c.before.before.first-bad-run.ensures (rw c.before.runs.ensures at c.if1.true)
 
 returns-2 : tie.Need-returns-2
-returns-2 c = runs-good _ _ _ _ c.before.before.first-bad-run.ensures (rw c.before.runs.ensures at c.if1.false)
+returns-2 c = runs_good _ _ _ _ c.before.before.first-bad-run.ensures (rw c.before.runs.ensures at c.if1.false)
 
 pub judge-runs-spec : {M : Type 1} → statement M
 judge-runs-spec = tie.close (tie.spec first-bad-run-requires runs-requires add-t7 returns returns-2)

@@ -1,4 +1,4 @@
-use Rattle.file_tables.specs.Runs.{runLength}
+use Rattle.file_tables.specs.Runs.{run_length}
 use borrow.Author.Rules.{rules}
 use Rattle.file_tables.proofs.run_length.Statement.{statement}
 use Rattle.file_tables.proofs.run_length.Tie as tie
@@ -7,7 +7,7 @@ field-at-requires : tie.Need-field-at-requires
 field-at-requires c κs = search rules
 
 returns : tie.Need-returns
-unfolding runLength
+unfolding run_length
 returns c = c.field_at.ensures
 
 pub run-length-spec : {M : Type 1} → statement M

@@ -1,6 +1,6 @@
 use mathlib.Core.Path.{sym, ◌∙◌}
 use native.Mathlib.Omega.{arith}
-use Rattle.file_write.proofs.Writer.{good-small, write-tables, write-12, write-all}
+use Rattle.file_write.proofs.Writer.{good-small, write-tables, write_12, write-all}
 use borrow.Author.Rules.{rules}
 use Rattle.file_write.proofs.write_answer.Statement.{statement}
 use Rattle.file_write.proofs.write_answer.Tie as tie
@@ -27,7 +27,7 @@ add-size-3 : tie.Need-overflow-add-size-3
 add-size-3 c = let s = good-small _ _ _ _ _ (sym c.before.before.judge-file.ensures ∙ c.enum_told.given.1) in search rules
 
 returns : tie.Need-returns
-returns c = write-12 _ _ _ _ _ _ (sym c.before.before.before.judge-file.ensures ∙ c.before.enum_told.given.1) _ (omega arith) c.if1.true
+returns c = write_12 _ _ _ _ _ _ (sym c.before.before.before.judge-file.ensures ∙ c.before.enum_told.given.1) _ (omega arith) c.if1.true
 
 returns-2 : tie.Need-returns-2
 returns-2 c = write-tables _ _ _ _ _ _ _ (sym c.before.before.before.judge-file.ensures ∙ c.before.judged.given.1)

@@ -1,8 +1,8 @@
 use mathlib.Core.Path.{sym, ap, ◌∙◌}
 use lib.ListN.{length}
 use lib.Seq.{length-take-le}
-use Rattle.output.proofs.Put.{put-taken}
-use Rattle.file_listing.specs.Listing.{listingOf}
+use Rattle.output.proofs.Put.{put_taken}
+use Rattle.file_listing.specs.Listing.{listing_of}
 use Rattle.file_listing.proofs.Proved.{proved}
 use borrow.Author.Rules.{rules}
 use Rattle.list.proofs.list_input.Statement.{statement}
@@ -21,8 +21,8 @@ returns : tie.Need-returns
 returns c =
     let p = c.before.before.before.before.before.before.before.requires in
     let a = c.before.before.before.before.before.before.before.args in
-    let s = put-taken c.before.before.compose.ensures.0 (search rules) in
-    (λ b e. s.1 ∙ ap listingOf e ∙ proved.listing-first b (length a.file.now) p.1, s.0)
+    let s = put_taken c.before.before.compose.ensures.0 (search rules) in
+    (λ b e. s.1 ∙ ap listing_of e ∙ proved.listing_first b (length a.file.now) p.1, s.0)
 
 pub list-input-spec : {M : Type 1} → statement M
 list-input-spec = tie.close (tie.spec slice-aggregate-compose compose-requires same_length returns)

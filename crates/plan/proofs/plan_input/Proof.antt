@@ -3,8 +3,8 @@ use mathlib.Core.List.{List}
 use Prim.Native.Nat.{ℕ}
 use lib.ListN.{length, take}
 use lib.Seq.{length-take-le}
-use Rattle.rules.specs.Limits.{longestFile}
-use Rattle.output.proofs.Put.{put-taken}
+use Rattle.rules.specs.Limits.{longest_file}
+use Rattle.output.proofs.Put.{put_taken}
 use Rattle.share_plan.specs.Answer.{answer_of}
 use Rattle.share_plan.proofs.Proved.{proved}
 use borrow.Author.Rules.{rules}
@@ -24,10 +24,10 @@ returns : tie.Need-returns
 returns c =
     let p = c.before.before.before.before.before.before.before.requires in
     let a = c.before.before.before.before.before.before.before.args in
-    let s = put-taken c.before.before.plan.ensures.0 (search rules) in (
+    let s = put_taken c.before.before.plan.ensures.0 (search rules) in (
       λ t e.
-          s.1 ∙ proved.answer-room a.edition (take a.n a.text.now) (length a.out.now) p.2
-          ∙ ap (λ (x : List ℕ). answer_of a.edition x longestFile) e ∙ proved.answer-first a.edition t (length a.text.now) longestFile p.1,
+          s.1 ∙ proved.answer_room a.edition (take a.n a.text.now) (length a.out.now) p.2
+          ∙ ap (λ (x : List ℕ). answer_of a.edition x longest_file) e ∙ proved.answer_first a.edition t (length a.text.now) longest_file p.1,
       s.0,
     )
 

@@ -23,7 +23,7 @@ same_length c = c.before.before.lay.ensures.as_long
 returns : tie.Need-returns
 returns c =
     let a = laid _ _ _ _ (sym c.before.before.before.before.before.before.before.build-answer.ensures ∙ c.before.before.before.before.before.built.given.1) in
-    (sym c.before.before.before.before.before.built.given.1 ∙ c.before.before.before.before.before.before.before.build-answer.ensures, rw (← a.is-frame) (named-list _ _ _ _ a.fits c.before.before.lay.ensures))
+    (sym c.before.before.before.before.before.built.given.1 ∙ c.before.before.before.before.before.before.before.build-answer.ensures, rw (← a.is_frame) (named-list _ _ _ _ a.fits c.before.before.lay.ensures))
 
 returns-2 : tie.Need-returns-2
 returns-2 c = (sym c.before.built2.given.1 ∙ c.before.before.before.build-answer.ensures, refl)

@@ -1,5 +1,5 @@
 use mathlib.Core.Path.{sym, ◌∙◌}
-use Rattle.plan_build.proofs.Orders.{build-tables, build-laid, good-few}
+use Rattle.plan_build.proofs.Orders.{build_tables, build_laid, good-few}
 use borrow.Author.Rules.{rules}
 use Rattle.plan_build.proofs.build_answer.Statement.{statement}
 use Rattle.plan_build.proofs.build_answer.Tie as tie
@@ -17,10 +17,10 @@ lay-answer-requires : tie.Need-lay-answer-requires
 lay-answer-requires c κs = good-few _ _ 0 (sym c.before.before.judge-partitions.ensures ∙ c.enum_told.given.1)
 
 returns : tie.Need-returns
-returns c = build-tables _ _ _ _ (sym c.before.before.before.judge-partitions.ensures ∙ c.before.tables.given.1)
+returns c = build_tables _ _ _ _ (sym c.before.before.before.judge-partitions.ensures ∙ c.before.tables.given.1)
 
 returns-2 : tie.Need-returns-2
-returns-2 c = build-laid _ _ _ (sym c.before.before.before.judge-partitions.ensures ∙ c.before.enum_told.given.1) _ c.lay-answer.ensures
+returns-2 c = build_laid _ _ _ (sym c.before.before.before.judge-partitions.ensures ∙ c.before.enum_told.given.1) _ c.lay-answer.ensures
 
 pub build-answer-spec : {M : Type 1} → statement M
 build-answer-spec =

@@ -1,5 +1,5 @@
 use mathlib.Core.Path.{sym, ◌∙◌}
-use Rattle.plan_check.proofs.Orders.{check-tables, check-plan}
+use Rattle.plan_check.proofs.Orders.{check-tables, check_plan}
 use borrow.Author.Rules.{rules}
 use Rattle.plan_check.proofs.check.Statement.{statement}
 use Rattle.plan_check.proofs.check.Tie as tie
@@ -20,7 +20,7 @@ returns : tie.Need-returns
 returns c = check-tables _ _ _ _ (sym c.before.before.before.judge-partitions.ensures ∙ c.before.tables.given.1)
 
 returns-2 : tie.Need-returns-2
-returns-2 c = check-plan _ _ _ (sym c.before.before.before.judge-partitions.ensures ∙ c.before.enum_told.given.1) _ c.check-plan.ensures
+returns-2 c = check_plan _ _ _ (sym c.before.before.before.judge-partitions.ensures ∙ c.before.enum_told.given.1) _ c.check-plan.ensures
 
 pub check-spec : {M : Type 1} → statement M
 check-spec =

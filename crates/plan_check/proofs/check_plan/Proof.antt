@@ -1,5 +1,5 @@
 use mathlib.Core.Path.{sym, ◌∙◌}
-use Rattle.plan_check.proofs.Orders.{plan-8, plan-9}
+use Rattle.plan_check.proofs.Orders.{plan_8, plan_9}
 use borrow.Author.Rules.{rules}
 use Rattle.plan_check.proofs.check_plan.Statement.{statement}
 use Rattle.plan_check.proofs.check_plan.Tie as tie
@@ -20,10 +20,10 @@ scan-requires : tie.Need-scan-requires
 scan-requires c κs = search rules
 
 returns : tie.Need-returns
-returns c = plan-8 _ _ _ _ _ (sym c.before.before.before.judge-ticks.ensures ∙ c.before.ticks.given.1)
+returns c = plan_8 _ _ _ _ _ (sym c.before.before.before.judge-ticks.ensures ∙ c.before.ticks.given.1)
 
 returns-2 : tie.Need-returns-2
-returns-2 c = plan-9 _ _ _ _ (sym c.before.before.before.before.judge-ticks.ensures ∙ c.before.before.enum_told.given.1) _ (rw c.before.rule-of.ensures at c.scan.ensures)
+returns-2 c = plan_9 _ _ _ _ (sym c.before.before.before.before.judge-ticks.ensures ∙ c.before.before.enum_told.given.1) _ (rw c.before.rule-of.ensures at c.scan.ensures)
 
 pub check-plan-spec : {M : Type 1} → statement M
 check-plan-spec =

@@ -6,7 +6,7 @@ use Rattle.rules.specs.Terms.{wanted}
 use Rattle.theory.specs.Plan.{held}
 use Rattle.plan_check.specs.Check.{short_at}
 use Rattle.rules.specs.declared.Finding.TheVariants.{Good}
-use Rattle.plan_check.proofs.Orders.{shortIn, short-no, whole, stopped, served}
+use Rattle.plan_check.proofs.Orders.{short_in, short_no, whole, stopped, served}
 use borrow.Author.Rules.{rules}
 use Rattle.plan_check.proofs.scan.Statement.{statement}
 use Rattle.plan_check.proofs.scan.Tie as tie
@@ -24,7 +24,7 @@ abbrev decreases-loop : tie.decreases-loop
 decreases-loop rule terms plan parts f n found₀ k m q stretch₀ found stretch = f - stretch.start
 
 abbrev invariant-scan : tie.invariant-scan
-invariant-scan rule terms plan parts f n found₀ k₀ found k = (k ≤ n) × (found ≡ Good) × (first (shortIn rule (wanted terms parts) plan parts) k ≡ k)
+invariant-scan rule terms plan parts f n found₀ k₀ found k = (k ≤ n) × (found ≡ Good) × (first (short_in rule (wanted terms parts) plan parts) k ≡ k)
 
 abbrev decreases-scan : tie.decreases-scan
 decreases-scan rule terms plan parts f n found₀ k₀ found k = n - k
@@ -71,7 +71,7 @@ loop-again : tie.Need-loop-preserved invariant-loop decreases-loop invariant-sca
 loop-again c =
     let l = c.before.before.before.before.before.loop in
     let e = c.next-stretch.ensures in
-    (search rules, l.invariant.1, e.1 ∙ l.invariant.2, e.2, e.3, rw e.0 (first_more _ _ l.invariant.5 (short-no _ _ _ _ _ _ _ _ _ (l.invariant.2 ∙ c.before.before.before.before.before.before.before.before.wide.ensures ∙ c.before.before.before.before.before.before.before.before.before.cycle.ensures) c.before.before.before.before.before.before.before.wanted.ensures l.invariant.3 c.before.if2.false)))
+    (search rules, l.invariant.1, e.1 ∙ l.invariant.2, e.2, e.3, rw e.0 (first_more _ _ l.invariant.5 (short_no _ _ _ _ _ _ _ _ _ (l.invariant.2 ∙ c.before.before.before.before.before.before.before.before.wide.ensures ∙ c.before.before.before.before.before.before.before.before.before.cycle.ensures) c.before.before.before.before.before.before.before.wanted.ensures l.invariant.3 c.before.if2.false)))
 
 add-k : tie.Need-overflow-add-k invariant-loop decreases-loop invariant-scan decreases-scan
 add-k c = search rules

@@ -14,7 +14,7 @@ enum_told : tie.Need-enum-told
 enum_told c = search rules
 
 give-requires : tie.Need-give-requires
-give-requires c κs = let a = changeable _ c.before.before.before.before.before.before.before.before.before.before.args.parts.now _ _ _ (sym c.before.before.before.before.judge-change.ensures ∙ c.before.before.enum_told.given.1) in let z = sized _ _ a.plans in (a.inside, z.0, omega (arith, a.new-owner, z.1), row-long _ _ _ _ a.list-is a.new-owner, row-long _ _ _ _ a.list-is a.old-owner)
+give-requires c κs = let a = changeable _ c.before.before.before.before.before.before.before.before.before.before.args.parts.now _ _ _ (sym c.before.before.before.before.judge-change.ensures ∙ c.before.before.enum_told.given.1) in let z = sized _ _ a.plans in (a.inside, z.0, omega (arith, a.new_owner, z.1), row-long _ _ _ _ a.list_is a.new_owner, row-long _ _ _ _ a.list_is a.old_owner)
 
 enum-known-found : tie.Need-enum-known-found
 enum-known-found c = search rules
@@ -26,7 +26,7 @@ same-length-2 : tie.Need-same-length-2
 same-length-2 c = c.before.before.before.before.give.ensures.1.2.as_long ∙ c.before.before.before.before.give.ensures.1.1.as_long
 
 returns : tie.Need-returns
-returns c = let a = changeable _ c.before.before.before.before.before.before.before.before.before.before.before.before.before.before.before.args.parts.now _ _ _ (sym c.before.before.before.before.before.before.before.before.before.judge-change.ensures ∙ c.before.before.before.before.before.before.before.enum_told.given.1) in (sym c.before.before.before.before.before.before.before.enum_told.given.1 ∙ c.before.before.before.before.before.before.before.before.before.judge-change.ensures, c.before.before.before.before.give.ensures.0, recounts _ _ _ a.inside _ _ _ _ a.list-is a.old-owner a.new-owner (rw c.before.before.before.before.give.ensures.0 at c.before.before.before.before.give.ensures.1.1) (rw c.before.before.before.before.give.ensures.0 at c.before.before.before.before.give.ensures.1.2))
+returns c = let a = changeable _ c.before.before.before.before.before.before.before.before.before.before.before.before.before.before.before.args.parts.now _ _ _ (sym c.before.before.before.before.before.before.before.before.before.judge-change.ensures ∙ c.before.before.before.before.before.before.before.enum_told.given.1) in (sym c.before.before.before.before.before.before.before.enum_told.given.1 ∙ c.before.before.before.before.before.before.before.before.before.judge-change.ensures, c.before.before.before.before.give.ensures.0, recounts _ _ _ a.inside _ _ _ _ a.list_is a.old_owner a.new_owner (rw c.before.before.before.before.give.ensures.0 at c.before.before.before.before.give.ensures.1.1) (rw c.before.before.before.before.give.ensures.0 at c.before.before.before.before.give.ensures.1.2))
 
 same-length-3 : tie.Need-same-length-3
 same-length-3 c = search rules

@@ -1,6 +1,6 @@
 use mathlib.Core.Path.{refl, ◌∙◌}
 use lib.ListN.{length-set}
-use Rattle.counts.proofs.Changing.{owner-row, owner-fits}
+use Rattle.counts.proofs.Changing.{owner-row, owner_fits}
 use borrow.Author.Rules.{rules}
 use Rattle.plan_counts.proofs.give.Statement.{statement}
 use Rattle.plan_counts.proofs.give.Tie as tie
@@ -24,7 +24,7 @@ slice-write-plan : tie.Need-slice-write-plan
 slice-write-plan c = search rules
 
 fill-row-requires : tie.Need-fill-row-requires
-fill-row-requires c κs = (simp length-set c.before.before.before.before.before.before.requires.1, simp length-set (owner-fits _ _ _ _ c.before.before.wide.ensures c.before.before.before.before.before.before.requires.4))
+fill-row-requires c κs = (simp length-set c.before.before.before.before.before.before.requires.1, simp length-set (owner_fits _ _ _ _ c.before.before.wide.ensures c.before.before.before.before.before.before.requires.4))
 
 fill-row-requires-2 : tie.Need-fill-row-requires-2
 fill-row-requires-2 c κs = (simp length-set c.before.before.before.before.before.before.before.before.before.before.before.requires.1, simp length-set (rw c.before.before.before.before.fill-row.ensures.as_long c.before.before.before.before.before.before.before.before.before.before.before.requires.3))

@@ -1,5 +1,5 @@
 use mathlib.Core.Path.{sym, ◌∙◌}
-use Rattle.counts.proofs.Asking.{held-refused, held-holds, one-looks}
+use Rattle.counts.proofs.Asking.{held-refused, held-holds, one_looks}
 use borrow.Author.Rules.{rules}
 use Rattle.plan_counts.proofs.held.Statement.{statement}
 use Rattle.plan_counts.proofs.held.Tie as tie
@@ -29,13 +29,13 @@ enum_told : tie.Need-enum-told
 enum_told c = search rules
 
 look-up-requires : tie.Need-look-up-requires
-look-up-requires c κs = one-looks _ c.before.before.before.before.before.before.before.before.before.before.before.args.parts.now _ _ _ _ (sym (rw (c.before.before.before.unless-good2.ensures, c.before.before.before.before.before.unless-good.ensures, c.before.before.before.before.good-stretch.ensures, c.before.before.before.before.before.before.good-name.ensures, c.before.before.before.before.before.before.before.partitions.ensures) at c.before.before.judge-call.ensures) ∙ c.enum_told.given.1)
+look-up-requires c κs = one_looks _ c.before.before.before.before.before.before.before.before.before.before.before.args.parts.now _ _ _ _ (sym (rw (c.before.before.before.unless-good2.ensures, c.before.before.before.before.before.unless_good_lem.ensures, c.before.before.before.before.good-stretch.ensures, c.before.before.before.before.before.before.good-name.ensures, c.before.before.before.before.before.before.before.partitions.ensures) at c.before.before.judge-call.ensures) ∙ c.enum_told.given.1)
 
 returns : tie.Need-returns
-returns c = held-refused _ c.before.before.before.before.before.before.before.before.before.before.before.before.args.parts.now _ _ _ _ _ (sym (rw (c.before.before.before.before.unless-good2.ensures, c.before.before.before.before.before.before.unless-good.ensures, c.before.before.before.before.before.good-stretch.ensures, c.before.before.before.before.before.before.before.good-name.ensures, c.before.before.before.before.before.before.before.before.partitions.ensures) at c.before.before.before.judge-call.ensures) ∙ c.before.found.given.1)
+returns c = held-refused _ c.before.before.before.before.before.before.before.before.before.before.before.before.args.parts.now _ _ _ _ _ (sym (rw (c.before.before.before.before.unless-good2.ensures, c.before.before.before.before.before.before.unless_good_lem.ensures, c.before.before.before.before.before.good-stretch.ensures, c.before.before.before.before.before.before.before.good-name.ensures, c.before.before.before.before.before.before.before.before.partitions.ensures) at c.before.before.before.judge-call.ensures) ∙ c.before.found.given.1)
 
 returns-2 : tie.Need-returns-2
-returns-2 c = held-holds _ c.before.before.before.before.before.before.before.before.before.before.before.before.args.parts.now _ _ _ _ (sym (rw (c.before.before.before.before.unless-good2.ensures, c.before.before.before.before.before.before.unless-good.ensures, c.before.before.before.before.before.good-stretch.ensures, c.before.before.before.before.before.before.before.good-name.ensures, c.before.before.before.before.before.before.before.before.partitions.ensures) at c.before.before.before.judge-call.ensures) ∙ c.before.enum_told.given.1) _ c.look_up.ensures
+returns-2 c = held-holds _ c.before.before.before.before.before.before.before.before.before.before.before.before.args.parts.now _ _ _ _ (sym (rw (c.before.before.before.before.unless-good2.ensures, c.before.before.before.before.before.before.unless_good_lem.ensures, c.before.before.before.before.before.good-stretch.ensures, c.before.before.before.before.before.before.before.good-name.ensures, c.before.before.before.before.before.before.before.before.partitions.ensures) at c.before.before.before.judge-call.ensures) ∙ c.before.enum_told.given.1) _ c.look_up.ensures
 
 pub held_spec : {M : Type 1} → statement M
 held_spec =

@@ -1,4 +1,4 @@
-use Rattle.counts.specs.Counts.{changeOf}
+use Rattle.counts.specs.Counts.{change_of}
 use borrow.Author.Rules.{rules}
 use Rattle.plan_counts.proofs.judge_change.Statement.{statement}
 use Rattle.plan_counts.proofs.judge_change.Tie as tie
@@ -16,8 +16,8 @@ judge-call-requires : tie.Need-judge-call-requires
 judge-call-requires c κs = search rules
 
 returns : tie.Need-returns
-unfolding changeOf
-returns c = rw (c.before.unless-good2.ensures, c.before.before.unless-good.ensures, c.before.before.before.partitions.ensures) at c.judge-call.ensures
+unfolding change_of
+returns c = rw (c.before.unless-good2.ensures, c.before.before.unless_good_lem.ensures, c.before.before.before.partitions.ensures) at c.judge-call.ensures
 
 pub judge-change-spec : {M : Type 1} → statement M
 judge-change-spec =

@@ -1,5 +1,5 @@
 use mathlib.Core.Path.{sym, ◌∙◌}
-use Rattle.counts.proofs.Asking.{many-whole, many-refused, many-fills}
+use Rattle.counts.proofs.Asking.{many-whole, many_refused, many_fills}
 use borrow.Author.Rules.{rules}
 use Rattle.plan_counts.proofs.many_answer.Statement.{statement}
 use Rattle.plan_counts.proofs.many_answer.Tie as tie
@@ -29,10 +29,10 @@ enum_told : tie.Need-enum-told
 enum_told c = search rules
 
 returns-2 : tie.Need-returns-2
-returns-2 c = many-refused _ c.before.before.before.before.before.before.before.before.before.before.before.before.before.args.parts.now _ c.before.before.before.before.before.before.before.before.before.before.before.before.before.args.asked.now _ c.before.before.before.before.before.before.before.before.if1.false _ c.before.before.before.before.before.before.before.questions.ensures _ (sym (rw (c.before.before.before.before.judge-stretches.ensures, c.before.before.before.before.before.judge-names.ensures, c.before.before.before.before.before.before.partitions.ensures) at c.before.before.before.judge-call.ensures) ∙ c.before.found.given.1)
+returns-2 c = many_refused _ c.before.before.before.before.before.before.before.before.before.before.before.before.before.args.parts.now _ c.before.before.before.before.before.before.before.before.before.before.before.before.before.args.asked.now _ c.before.before.before.before.before.before.before.before.if1.false _ c.before.before.before.before.before.before.before.questions.ensures _ (sym (rw (c.before.before.before.before.judge-stretches.ensures, c.before.before.before.before.before.judge-names.ensures, c.before.before.before.before.before.before.partitions.ensures) at c.before.before.before.judge-call.ensures) ∙ c.before.found.given.1)
 
 returns-3 : tie.Need-returns-3
-returns-3 c = many-fills _ c.before.before.before.before.before.before.before.before.before.before.before.before.args.parts.now _ c.before.before.before.before.before.before.before.before.before.before.before.before.args.asked.now _ c.before.before.before.before.before.before.before.if1.false _ c.before.before.before.before.before.before.questions.ensures (sym (rw (c.before.before.before.judge-stretches.ensures, c.before.before.before.before.judge-names.ensures, c.before.before.before.before.before.partitions.ensures) at c.before.before.judge-call.ensures) ∙ c.enum_told.given.1)
+returns-3 c = many_fills _ c.before.before.before.before.before.before.before.before.before.before.before.before.args.parts.now _ c.before.before.before.before.before.before.before.before.before.before.before.before.args.asked.now _ c.before.before.before.before.before.before.before.if1.false _ c.before.before.before.before.before.before.questions.ensures (sym (rw (c.before.before.before.judge-stretches.ensures, c.before.before.before.before.judge-names.ensures, c.before.before.before.before.before.partitions.ensures) at c.before.before.judge-call.ensures) ∙ c.enum_told.given.1)
 
 pub many-answer-spec : {M : Type 1} → statement M
 many-answer-spec =

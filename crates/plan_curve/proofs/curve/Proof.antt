@@ -1,6 +1,6 @@
 use mathlib.Core.Path.{refl, sym, ◌∙◌}
 use Rattle.rules.proofs.Named.{named-list}
-use Rattle.plan_curve.proofs.Answers.{other-edition, short, enough}
+use Rattle.plan_curve.proofs.Answers.{other_edition, short, enough}
 use borrow.Author.Rules.{rules}
 use borrow.Author.Tests.{not-true, not-false}
 use Rattle.plan_curve.proofs.curve.Statement.{statement}
@@ -10,7 +10,7 @@ good-edition-requires : tie.Need-good-edition-requires
 good-edition-requires c κs = search rules
 
 returns : tie.Need-returns
-returns c = (other-edition _ _ _ (sym c.before.good-edition.ensures ∙ not-true _ c.if1.true), refl)
+returns c = (other_edition _ _ _ (sym c.before.good-edition.ensures ∙ not-true _ c.if1.true), refl)
 
 add-needed : tie.Need-overflow-add-needed
 add-needed c = search rules

@@ -1,7 +1,7 @@
 use mathlib.Core.Path.{sym}
 use lib.Seq.{length-take-le}
-use Rattle.rules.proofs.Named.{named-as}
-use Rattle.plan_curve.proofs.Rounds.{rounds-least}
+use Rattle.rules.proofs.Named.{named_as}
+use Rattle.plan_curve.proofs.Rounds.{rounds_least}
 use borrow.Author.Rules.{rules}
 use Rattle.plan_curve.proofs.draw.Statement.{statement}
 use Rattle.plan_curve.proofs.draw.Tie as tie
@@ -19,7 +19,7 @@ same_length : tie.Need-same-length
 same_length c = c.before.before.draw-frames.ensures.as_long
 
 returns : tie.Need-returns
-returns c = let e = c.before.before.before.before.before.frame-for.ensures in named-as _ _ _ _ _ (λ t l. rounds-least _ _ _ _ t e.1 e.0) c.before.before.draw-frames.ensures
+returns c = let e = c.before.before.before.before.before.frame-for.ensures in named_as _ _ _ _ _ (λ t l. rounds_least _ _ _ _ t e.1 e.0) c.before.before.draw-frames.ensures
 
 pub draw-spec : {M : Type 1} → statement M
 draw-spec =

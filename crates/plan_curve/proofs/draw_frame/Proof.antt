@@ -3,8 +3,8 @@ use mathlib.Core.Path.{◌≡◌, refl, ◌∙◌}
 use lib.ListN.{length}
 use native.Mathlib.Omega.{arith}
 use Rattle.rules.specs.Inner.{AsNamed}
-use Rattle.rules.proofs.Named.{named_self, named-then}
-use Rattle.plan_curve.proofs.Lowered.{lowered, lowered_none, lowered-turn, lowered-done}
+use Rattle.rules.proofs.Named.{named_self, named_then}
+use Rattle.plan_curve.proofs.Lowered.{lowered, lowered_none, lowered_turn, lowered_done}
 use borrow.Author.Rules.{rules}
 use Rattle.plan_curve.proofs.draw_frame.Statement.{statement}
 use Rattle.plan_curve.proofs.draw_frame.Tie as tie
@@ -31,13 +31,13 @@ loop-less : tie.Need-loop-smaller invariant-loop decreases-loop
 loop-less c = search rules
 
 loop-again : tie.Need-loop-preserved invariant-loop decreases-loop
-loop-again c = (search rules, c.before.before.lower-at.ensures.as_long ∙ c.before.before.before.before.before.loop.invariant.1, lowered-turn _ _ _ _ _ _ _ _ c.before.before.before.before.before.loop.invariant.2 c.before.before.lower-at.ensures)
+loop-again c = (search rules, c.before.before.lower-at.ensures.as_long ∙ c.before.before.before.before.before.loop.invariant.1, lowered_turn _ _ _ _ _ _ _ _ c.before.before.before.before.before.loop.invariant.2 c.before.before.lower-at.ensures)
 
 same_length : tie.Need-same-length invariant-loop decreases-loop
 same_length c = c.before.loop.invariant.1 ∙ c.before.before.before.before.begin.ensures.as_long
 
 returns : tie.Need-returns invariant-loop decreases-loop
-returns c = lowered-done _ _ _ _ _ _ _ c.before.loop.invariant.0 (search rules) (named-then _ _ _ _ _ _ c.before.before.before.before.begin.ensures c.before.loop.invariant.2)
+returns c = lowered_done _ _ _ _ _ _ _ c.before.loop.invariant.0 (search rules) (named_then _ _ _ _ _ _ c.before.before.before.before.begin.ensures c.before.loop.invariant.2)
 
 pub draw-frame-spec : {M : Type 1} → statement M
 draw-frame-spec =

@@ -6,7 +6,7 @@ use Rattle.theory.specs.Plan.{service, held}
 use Rattle.theory.proofs.Plan.{held-le}
 use Rattle.plan_service.proofs.Turns.{held-turn}
 use Rattle.plan_curve.specs.Inner.{LoweredOn}
-use Rattle.plan_curve.proofs.Lowered.{row-none, row-turn, row-all, place-in-row}
+use Rattle.plan_curve.proofs.Lowered.{row-none, row-turn, row_all, place_in_row}
 use borrow.Author.Rules.{rules}
 use Rattle.plan_curve.proofs.lower_row.Statement.{statement}
 use Rattle.plan_curve.proofs.lower_row.Tie as tie
@@ -74,7 +74,7 @@ loop-again c =
       simp length-set l.invariant.2,
       search rules,
       l.invariant.4,
-      held-turn _ _ _ _ _ _ _ _ (place-in-row _ _ _ _ _ l.invariant.4 l.invariant.0 (search rules)) l.invariant.5 c.serves-at.ensures.1,
+      held-turn _ _ _ _ _ _ _ _ (place_in_row _ _ _ _ _ l.invariant.4 l.invariant.0 (search rules)) l.invariant.5 c.serves-at.ensures.1,
       row-turn _ _ _ _ _ _ _ _ _ _ _ l.invariant.6 (search rules) l.invariant.5 (c.before.smaller.ensures ∙ ap₂ min c.before.before.wide32.ensures.1 refl) refl,
     )
 
@@ -82,7 +82,7 @@ same_length : tie.Need-same-length invariant-loop decreases-loop
 same_length c = c.before.loop.invariant.2
 
 returns : tie.Need-returns invariant-loop decreases-loop
-returns c = let l = c.before.loop in let z : l.t ≡ c.before.before.before.before.args.e = omega arith in (rw z at l.invariant.5, row-all _ _ _ _ _ _ _ _ _ l.invariant.1 (search rules) l.invariant.6)
+returns c = let l = c.before.loop in let z : l.t ≡ c.before.before.before.before.args.e = omega arith in (rw z at l.invariant.5, row_all _ _ _ _ _ _ _ _ _ l.invariant.1 (search rules) l.invariant.6)
 
 pub lower-row-spec : {M : Type 1} → statement M
 lower-row-spec =

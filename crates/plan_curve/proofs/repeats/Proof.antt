@@ -4,7 +4,7 @@ use mathlib.Core.Bool.{true≢false}
 use native.Mathlib.Omega.{arith}
 use lib.ListN.{length}
 use lib.Seq.{length-take-le}
-use Rattle.plan_curve.proofs.Rounds.{AgainTo, again-none, again-more, again-all}
+use Rattle.plan_curve.proofs.Rounds.{AgainTo, again-none, again_more, again-all}
 use borrow.Author.Rules.{rules}
 use Rattle.plan_curve.proofs.repeats.Statement.{statement}
 use Rattle.plan_curve.proofs.repeats.Tie as tie
@@ -58,7 +58,7 @@ loop-less : tie.Need-loop-smaller invariant-loop decreases-loop
 loop-less c = search rules
 
 loop-again : tie.Need-loop-preserved invariant-loop decreases-loop
-loop-again c = (search rules, again-more _ _ _ _ _ _ _ c.before.before.before.before.loop.invariant.1 c.before.before.serves-at3.ensures.1 c.before.serves-at4.ensures.1 c.if3.false)
+loop-again c = (search rules, again_more _ _ _ _ _ _ _ c.before.before.before.before.loop.invariant.1 c.before.before.serves-at3.ensures.1 c.before.serves-at4.ensures.1 c.if3.false)
 
 returns-4 : tie.Need-returns-4 invariant-loop decreases-loop
 returns-4 c =

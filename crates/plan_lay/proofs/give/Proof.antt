@@ -1,6 +1,6 @@
 use Prim.Native.Nat.{◌-◌, ◌≤◌}
 use Rattle.rules.proofs.Named.{named_end}
-use Rattle.plan_lay.proofs.Passes.{Giving, giving-none, giving-turn}
+use Rattle.plan_lay.proofs.Passes.{Giving, giving_none, giving_turn}
 use borrow.Author.Rules.{rules}
 use Rattle.plan_lay.proofs.give.Statement.{statement}
 use Rattle.plan_lay.proofs.give.Tie as tie
@@ -12,7 +12,7 @@ abbrev decreases-loop : tie.decreases-loop
 decreases-loop out₀ h p q m seen₀ at₀ t₀ out seen at t = h - t
 
 loop-holds : tie.Need-loop-init invariant-loop decreases-loop
-loop-holds c = (search rules, giving-none _ _ _ _ (search rules))
+loop-holds c = (search rules, giving_none _ _ _ _ (search rules))
 
 give-tick-requires : tie.Need-give-tick-requires invariant-loop decreases-loop
 give-tick-requires c κs = search rules
@@ -32,7 +32,7 @@ loop-less c = search rules
 loop-again : tie.Need-loop-preserved invariant-loop decreases-loop
 loop-again c =
     let l = c.before.before.before.before.before.before.before.loop in
-    (search rules, giving-turn _ _ _ _ _ _ _ _ (search rules) (search rules) l.invariant.1 _ _ _ _ c.before.after.ensures c.before.before.before.before.give-tick.ensures.0 c.before.before.before.before.give-tick.ensures.1 c.seen-from.ensures)
+    (search rules, giving_turn _ _ _ _ _ _ _ _ (search rules) (search rules) l.invariant.1 _ _ _ _ c.before.after.ensures c.before.before.before.before.give-tick.ensures.0 c.before.before.before.before.give-tick.ensures.1 c.seen-from.ensures)
 
 same_length : tie.Need-same-length invariant-loop decreases-loop
 same_length c = c.before.loop.invariant.1.long

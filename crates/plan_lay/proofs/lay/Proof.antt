@@ -6,7 +6,7 @@ use Rattle.rules.specs.Table.{partitions}
 use Rattle.theory.specs.Harmonic.{planned}
 use Rattle.rules.specs.Terms.{wanted}
 use Rattle.rules.specs.Inner.{AsNamed}
-use Rattle.rules.proofs.Named.{named_self, named-then}
+use Rattle.rules.proofs.Named.{named_self, named_then}
 use Rattle.plan_lay.proofs.Passes.{planned-none, planned-turn}
 use borrow.Author.Rules.{rules}
 use Rattle.plan_lay.proofs.lay.Statement.{statement}
@@ -43,7 +43,7 @@ same_length : tie.Need-same-length invariant-loop decreases-loop
 same_length c = c.before.loop.invariant.1 ∙ c.before.before.before.before.before.clear.ensures.as_long
 
 returns : tie.Need-returns invariant-loop decreases-loop
-returns c = let e : c.before.loop.r ≡ partitions c.before.before.before.before.before.before.before.before.before.args.parts.now = omega arith in named-then _ _ _ _ _ _ c.before.before.before.before.before.clear.ensures (rw e at c.before.loop.invariant.2)
+returns c = let e : c.before.loop.r ≡ partitions c.before.before.before.before.before.before.before.before.before.args.parts.now = omega arith in named_then _ _ _ _ _ _ c.before.before.before.before.before.clear.ensures (rw e at c.before.loop.invariant.2)
 
 pub lay-spec : {M : Type 1} → statement M
 lay-spec =

@@ -1,6 +1,6 @@
 use mathlib.Core.Path.{◌∙◌}
 use native.Mathlib.Omega.{arith}
-use Rattle.theory.proofs.Order.{taken-below}
+use Rattle.theory.proofs.Order.{taken_below}
 use Rattle.plan_lay.proofs.Passes.{turn_is}
 use borrow.Author.Rules.{rules}
 use Rattle.plan_lay.proofs.turn.Statement.{statement}
@@ -19,13 +19,13 @@ wide-requires : tie.Need-wide-requires
 wide-requires c κs = search rules
 
 add-give : tie.Need-overflow-add-give
-add-give c = let f = c.before.before.before.before.before.before.before.requires in let t = taken-below c.before.before.before.before.before.before.before.args.parts.now c.before.before.before.before.before.before.before.args.r f.1 in omega (arith, c.before.before.before.before.taken.ensures, f.0.few, t)
+add-give c = let f = c.before.before.before.before.before.before.before.requires in let t = taken_below c.before.before.before.before.before.before.before.args.parts.now c.before.before.before.before.before.before.before.args.r f.1 in omega (arith, c.before.before.before.before.taken.ensures, f.0.few, t)
 
 cast-give : tie.Need-overflow-cast-give
-cast-give c = let f = c.before.before.before.before.before.before.before.requires in let t = taken-below c.before.before.before.before.before.before.before.args.parts.now c.before.before.before.before.before.before.before.args.r f.1 in omega (arith, c.before.before.before.before.taken.ensures, f.0.few, t)
+cast-give c = let f = c.before.before.before.before.before.before.before.requires in let t = taken_below c.before.before.before.before.before.before.before.args.parts.now c.before.before.before.before.before.before.before.args.r f.1 in omega (arith, c.before.before.before.before.taken.ensures, f.0.few, t)
 
 give-requires : tie.Need-give-requires
-give-requires c κs = let f = c.before.before.before.before.before.before.before.requires in let t = taken-below c.before.before.before.before.before.before.before.args.parts.now c.before.before.before.before.before.before.before.args.r f.1 in (search rules, rw (c.before.wide.ensures, c.before.before.cycle.ensures, c.before.before.before.before.taken.ensures) (f.0.cycles _ t))
+give-requires c κs = let f = c.before.before.before.before.before.before.before.requires in let t = taken_below c.before.before.before.before.before.before.before.args.parts.now c.before.before.before.before.before.before.before.args.r f.1 in (search rules, rw (c.before.wide.ensures, c.before.before.cycle.ensures, c.before.before.before.before.taken.ensures) (f.0.cycles _ t))
 
 same_length : tie.Need-same-length
 same_length c = search rules

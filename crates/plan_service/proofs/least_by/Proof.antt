@@ -3,7 +3,7 @@ use mathlib.Core.Path.{◌≡◌, sym, ap₂, ◌∙◌}
 use native.Mathlib.Omega.{arith}
 use lib.ListN.{length}
 use Rattle.rules.specs.Walk.{smallest}
-use Rattle.rules.proofs.Least.{smallest-zero, smallest-more}
+use Rattle.rules.proofs.Least.{smallest-zero, smallest_more}
 use Rattle.theory.specs.Plan.{held, least}
 use borrow.Author.Rules.{rules}
 use Rattle.plan_service.proofs.least_by.Statement.{statement}
@@ -41,7 +41,7 @@ loop-again : tie.Need-loop-preserved invariant-loop decreases-loop
 loop-again c =
     let l = c.before.before.before.before.loop in
     let e = c.next-stretch.ensures in
-    (search rules, e.1 ∙ l.invariant.1, e.2, e.3, rw e.0 (c.before.smaller.ensures ∙ ap₂ min l.invariant.4 (rw l.invariant.1 at l.invariant.2) ∙ sym (smallest-more _ _)))
+    (search rules, e.1 ∙ l.invariant.1, e.2, e.3, rw e.0 (c.before.smaller.ensures ∙ ap₂ min l.invariant.4 (rw l.invariant.1 at l.invariant.2) ∙ sym (smallest_more _ _)))
 
 returns : tie.Need-returns invariant-loop decreases-loop
 unfolding least

@@ -1,4 +1,4 @@
-use Rattle.plan_service.proofs.Turns.{serves-other}
+use Rattle.plan_service.proofs.Turns.{serves_other}
 use borrow.Author.Rules.{rules}
 use Rattle.plan_service.proofs.serves_at.Statement.{statement}
 use Rattle.plan_service.proofs.serves_at.Tie as tie
@@ -25,7 +25,7 @@ wide-requires : tie.Need-wide-requires
 wide-requires c κs = search rules
 
 returns : tie.Need-returns
-returns c = (search rules, serves-other _ _ _ _ _ (search rules) c.before.before.wide.ensures c.before.if1.true c.if2.true)
+returns c = (search rules, serves_other _ _ _ _ _ (search rules) c.before.before.wide.ensures c.before.if1.true c.if2.true)
 
 service-at-requires-2 : tie.Need-service-at-requires-2
 service-at-requires-2 c κs = search rules

@@ -1,6 +1,6 @@
 use mathlib.Core.Path.{sym, ◌∙◌}
 use borrow.Author.Rules.{rules}
-use Rattle.plan_service.proofs.Turns.{serves-owner, serves-behind, serves-none}
+use Rattle.plan_service.proofs.Turns.{serves_owner, serves_behind, serves_none}
 use Rattle.plan_service.proofs.service_at.Statement.{statement}
 use Rattle.plan_service.proofs.service_at.Tie as tie
 
@@ -32,13 +32,13 @@ wide-requires-2 : tie.Need-wide-requires-2
 wide-requires-2 c κs = search rules
 
 returns : tie.Need-returns
-returns c = rw c.before.before.before.before.enum-told2.given.1 (serves-behind _ _ _ _ (search rules) c.before.before.before.before2.ensures.1 c.before.before.before.before.before.before.wide.ensures (sym c.before.wide2.ensures ∙ c.if1.true))
+returns c = rw c.before.before.before.before.enum-told2.given.1 (serves_behind _ _ _ _ (search rules) c.before.before.before.before2.ensures.1 c.before.before.before.before.before.before.wide.ensures (sym c.before.wide2.ensures ∙ c.if1.true))
 
 returns-2 : tie.Need-returns-2
-returns-2 c = rw c.enum_told.given.1 (serves-owner _ _ _ (search rules) c.before.before.wide.ensures)
+returns-2 c = rw c.enum_told.given.1 (serves_owner _ _ _ (search rules) c.before.before.wide.ensures)
 
 returns-3 : tie.Need-returns-3
-returns-3 c = rw c.before.before.before.before.enum-told2.given.1 (serves-none _ _ _ _ (search rules) c.before.before.before.before2.ensures.1 c.before.before.before.before.before.before.wide.ensures (λ e. c.if1.false (c.before.wide2.ensures ∙ e)))
+returns-3 c = rw c.before.before.before.before.enum-told2.given.1 (serves_none _ _ _ _ (search rules) c.before.before.before.before2.ensures.1 c.before.before.before.before.before.before.wide.ensures (λ e. c.if1.false (c.before.wide2.ensures ∙ e)))
 
 pub service-at-spec : {M : Type 1} → statement M
 service-at-spec =

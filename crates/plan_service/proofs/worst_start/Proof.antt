@@ -3,8 +3,8 @@ use mathlib.Core.Path.{◌≡◌, sym, ◌∙◌}
 use lib.ListN.{length}
 use Rattle.rules.specs.Walk.{first}
 use Rattle.rules.proofs.First.{first-zero, first_more, first_found, first_done}
-use Rattle.theory.specs.Plan.{held, worst, worstStart}
-use Rattle.plan_service.proofs.Turns.{is-worst, not-worst}
+use Rattle.theory.specs.Plan.{held, worst, worst_start}
+use Rattle.plan_service.proofs.Turns.{is_worst, not-worst}
 use borrow.Author.Rules.{rules}
 use Rattle.plan_service.proofs.worst_start.Statement.{statement}
 use Rattle.plan_service.proofs.worst_start.Tie as tie
@@ -29,10 +29,10 @@ loop-holds c =
     (search rules, e.1, e.2, e.3, rw e.0 (first-zero _))
 
 returns : tie.Need-returns invariant-loop decreases-loop
-unfolding worstStart
+unfolding worst_start
 returns c =
     let l = c.before.before.before.before.loop in
-    (search rules, sym (first_found _ _ _ (search rules) l.invariant.4 (is-worst _ _ _ _ _ _ _ _ l.invariant.1 l.invariant.2 (search rules) c.if2.true)))
+    (search rules, sym (first_found _ _ _ (search rules) l.invariant.4 (is_worst _ _ _ _ _ _ _ _ l.invariant.1 l.invariant.2 (search rules) c.if2.true)))
 
 next-stretch-requires : tie.Need-next-stretch-requires invariant-loop decreases-loop
 next-stretch-requires c κs = search rules
@@ -48,7 +48,7 @@ loop-again c =
     (search rules, e.1 ∙ l.invariant.1, e.2, e.3, rw e.0 (first_more _ _ l.invariant.4 (not-worst _ _ _ _ _ _ _ _ l.invariant.1 l.invariant.2 (search rules) z)))
 
 returns-2 : tie.Need-returns-2 invariant-loop decreases-loop
-unfolding worstStart
+unfolding worst_start
 returns-2 c =
     let l = c.before.before.loop in
     (search rules, sym (first_done _ _ _ l.invariant.0 (search rules) l.invariant.4))

@@ -1,14 +1,14 @@
 use Prim.Native.Nat.{◌≤◌, ◌-◌}
 use mathlib.Core.Path.{◌≡◌, sym, ◌∙◌}
 use Rattle.rules.specs.Walk.{first, fails}
-use Rattle.rules.specs.Table.{goodPart}
+use Rattle.rules.specs.Table.{good_part}
 use Rattle.rules.proofs.First.{first-zero, first_more, first_found, first_done}
 use borrow.Author.Rules.{rules}
 use Rattle.tables.proofs.first_bad_part.Statement.{statement}
 use Rattle.tables.proofs.first_bad_part.Tie as tie
 
 abbrev invariant-loop : tie.invariant-loop
-invariant-loop parts limit n k₀ k = (k ≤ n) × (first (fails (goodPart limit parts)) k ≡ k)
+invariant-loop parts limit n k₀ k = (k ≤ n) × (first (fails (good_part limit parts)) k ≡ k)
 
 abbrev decreases-loop : tie.decreases-loop
 decreases-loop parts limit n k₀ k = n - k

@@ -1,14 +1,14 @@
 use Prim.Native.Nat.{◌≤◌, ◌-◌}
 use mathlib.Core.Path.{◌≡◌, sym, ◌∙◌}
 use Rattle.rules.specs.Walk.{first, fails}
-use Rattle.rules.specs.Table.{goodTask}
+use Rattle.rules.specs.Table.{good_task}
 use Rattle.rules.proofs.First.{first-zero, first_more, first_found, first_done}
 use borrow.Author.Rules.{rules}
 use Rattle.tables.proofs.first_bad_task.Statement.{statement}
 use Rattle.tables.proofs.first_bad_task.Tie as tie
 
 abbrev invariant-loop : tie.invariant-loop
-invariant-loop table parts n j₀ j = (j ≤ n) × (first (fails (goodTask parts table)) j ≡ j)
+invariant-loop table parts n j₀ j = (j ≤ n) × (first (fails (good_task parts table)) j ≡ j)
 
 abbrev decreases-loop : tie.decreases-loop
 decreases-loop table parts n j₀ j = n - j

@@ -1,14 +1,14 @@
 use Prim.Native.Nat.{◌≤◌, ◌-◌}
 use mathlib.Core.Path.{◌≡◌, sym, ◌∙◌}
 use Rattle.rules.specs.Walk.{first, fails}
-use Rattle.rules.specs.Table.{goodTick}
+use Rattle.rules.specs.Table.{good_tick}
 use Rattle.rules.proofs.First.{first-zero, first_more, first_found, first_done}
 use borrow.Author.Rules.{rules}
 use Rattle.tables.proofs.first_bad_tick.Statement.{statement}
 use Rattle.tables.proofs.first_bad_tick.Tie as tie
 
 abbrev invariant-loop : tie.invariant-loop
-invariant-loop plan parts n t₀ t = (t ≤ n) × (first (fails (goodTick parts plan)) t ≡ t)
+invariant-loop plan parts n t₀ t = (t ≤ n) × (first (fails (good_tick parts plan)) t ≡ t)
 
 abbrev decreases-loop : tie.decreases-loop
 decreases-loop plan parts n t₀ t = n - t

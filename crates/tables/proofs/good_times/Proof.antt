@@ -1,30 +1,30 @@
 use borrow.Author.Tests.{lt-leb, le-leb}
-use Rattle.rules.specs.Table.{goodTimes}
+use Rattle.rules.specs.Table.{good_times}
 use Rattle.tables.proofs.good_times.Statement.{statement}
 use Rattle.tables.proofs.good_times.Tie as tie
 
 returns : tie.Need-returns
-unfolding goodTimes
+unfolding good_times
 returns c = simp (lt-leb _ _ c.if1.true)
 
 returns-2 : tie.Need-returns-2
-unfolding goodTimes
+unfolding good_times
 returns-2 c = simp (le-leb _ _ c.before.if1.false, lt-leb _ _ c.if2.true)
 
 returns-3 : tie.Need-returns-3
-unfolding goodTimes
+unfolding good_times
 returns-3 c = simp (le-leb _ _ c.before.before.if1.false, le-leb _ _ c.before.if2.false, lt-leb _ _ c.if3.true)
 
 returns-4 : tie.Need-returns-4
-unfolding goodTimes
+unfolding good_times
 returns-4 c = simp (le-leb _ _ c.before.before.before.if1.false, le-leb _ _ c.before.before.if2.false, le-leb _ _ c.before.if3.false, lt-leb _ _ c.if4.true)
 
 returns-5 : tie.Need-returns-5
-unfolding goodTimes
+unfolding good_times
 returns-5 c = simp (le-leb _ _ c.before.before.before.before.if1.false, le-leb _ _ c.before.before.before.if2.false, le-leb _ _ c.before.before.if3.false, le-leb _ _ c.before.if4.false, lt-leb _ _ c.if5.true)
 
 returns-6 : tie.Need-returns-6
-unfolding goodTimes
+unfolding good_times
 returns-6 c = simp (le-leb _ _ c.before.before.before.before.if1.false, le-leb _ _ c.before.before.before.if2.false, le-leb _ _ c.before.before.if3.false, le-leb _ _ c.before.if4.false, le-leb _ _ c.if5.false)
 
 pub good-times-spec : {M : Type 1} → statement M

@@ -1,7 +1,7 @@
 use mathlib.Core.Path.{sym, ◌∙◌}
 use borrow.Author.Rules.{rules}
 use borrow.Author.Tests.{not-true, not-false}
-use Rattle.tables.proofs.Chain.{tables-2, tables-on}
+use Rattle.tables.proofs.Chain.{tables_2, tables_on}
 use Rattle.tables.proofs.judge_tables.Statement.{statement}
 use Rattle.tables.proofs.judge_tables.Tie as tie
 
@@ -9,13 +9,13 @@ good-edition-requires : tie.Need-good-edition-requires
 good-edition-requires c κs = search rules
 
 returns : tie.Need-returns
-returns c = tables-2 _ _ _ _ (sym c.before.good-edition.ensures ∙ not-true _ c.if1.true)
+returns c = tables_2 _ _ _ _ (sym c.before.good-edition.ensures ∙ not-true _ c.if1.true)
 
 judge-in-edition-requires : tie.Need-judge-in-edition-requires
 judge-in-edition-requires c κs = search rules
 
 returns-2 : tie.Need-returns-2
-returns-2 c = c.judge-in-edition.ensures ∙ tables-on _ _ _ _ (sym c.before.before.good-edition.ensures ∙ not-false _ c.before.if1.false)
+returns-2 c = c.judge-in-edition.ensures ∙ tables_on _ _ _ _ (sym c.before.before.good-edition.ensures ∙ not-false _ c.before.if1.false)
 
 pub judge-tables-spec : {M : Type 1} → statement M
 judge-tables-spec =

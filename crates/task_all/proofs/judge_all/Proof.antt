@@ -4,8 +4,8 @@ use native.Mathlib.Omega.{arith}
 use lib.ListN.{length}
 use Rattle.rules.specs.Inner.{AsNamed}
 use Rattle.rules.specs.Table.{tasks}
-use Rattle.theory.specs.Task.{taskPoint, taskTick}
-use Rattle.task_all.proofs.Marks.{judgedUpto, upto_turn, upto-none, upto_all, all-judgeable}
+use Rattle.theory.specs.Task.{task_point, task_tick}
+use Rattle.task_all.proofs.Marks.{judged_upto, upto_turn, upto-none, upto_all, all-judgeable}
 use borrow.Author.Rules.{rules}
 use Rattle.task_all.proofs.judge_all.Statement.{statement}
 use Rattle.task_all.proofs.judge_all.Tie as tie
@@ -15,8 +15,8 @@ invariant-loop rule plan table parts points₀ ticks₀ p₀ points ticks p =
     (p ≤ parts)
     × (length points ≡ length points₀)
     × (length ticks ≡ length ticks₀)
-    × AsNamed (judgedUpto table p (taskPoint rule plan table) points₀) (tasks table) points₀ points
-    × AsNamed (judgedUpto table p (taskTick rule plan table) ticks₀) (tasks table) ticks₀ ticks
+    × AsNamed (judged_upto table p (task_point rule plan table) points₀) (tasks table) points₀ points
+    × AsNamed (judged_upto table p (task_tick rule plan table) ticks₀) (tasks table) ticks₀ ticks
 
 abbrev decreases-loop : tie.decreases-loop
 decreases-loop rule plan table parts points₀ ticks₀ p₀ points ticks p = parts - p
@@ -37,7 +37,7 @@ loop-again : tie.Need-loop-preserved invariant-loop decreases-loop
 loop-again c =
     let l = c.before.before.before.before.before.before.before.before.loop in
     let e = c.before.before.before.before.judge-partition.ensures in
-    (search rules, e.points-in.as_long ∙ l.invariant.1, e.ticks-in.as_long ∙ l.invariant.2, upto_turn _ _ _ _ _ _ _ l.invariant.3 e.points-in, upto_turn _ _ _ _ _ _ _ l.invariant.4 e.ticks-in)
+    (search rules, e.points_in.as_long ∙ l.invariant.1, e.ticks_in.as_long ∙ l.invariant.2, upto_turn _ _ _ _ _ _ _ l.invariant.3 e.points_in, upto_turn _ _ _ _ _ _ _ l.invariant.4 e.ticks_in)
 
 same_length : tie.Need-same-length invariant-loop decreases-loop
 same_length c = c.before.loop.invariant.1

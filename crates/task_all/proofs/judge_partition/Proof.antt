@@ -15,10 +15,10 @@ judge-with-requires : tie.Need-judge-with-requires
 judge-with-requires c κs = (search rules, zeros-all (longest + 1), search rules, search rules, search rules, search rules)
 
 same_length : tie.Need-same-length
-same_length c = c.before.before.before.before.before.before.judge-with.ensures.points-in.as_long
+same_length c = c.before.before.before.before.before.before.judge-with.ensures.points_in.as_long
 
 same-length-2 : tie.Need-same-length-2
-same-length-2 c = c.before.before.before.before.before.before.judge-with.ensures.ticks-in.as_long
+same-length-2 c = c.before.before.before.before.before.before.judge-with.ensures.ticks_in.as_long
 
 returns : tie.Need-returns
 returns c = search rules

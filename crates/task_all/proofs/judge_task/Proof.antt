@@ -1,5 +1,5 @@
 use mathlib.Core.Path.{sym, ◌∙◌}
-use Rattle.task_all.proofs.Marks.{mark-put, mark-left}
+use Rattle.task_all.proofs.Marks.{mark_put, mark-left}
 use borrow.Author.Rules.{rules}
 use Rattle.task_all.proofs.judge_task.Statement.{statement}
 use Rattle.task_all.proofs.judge_task.Tie as tie
@@ -38,7 +38,7 @@ same-length-2 : tie.Need-same-length-2
 same-length-2 c = search rules
 
 returns : tie.Need-returns
-returns c = let e = sym c.before.before.before.before.before.partition.ensures ∙ c.before.before.before.before.if1.true in (mark-put _ _ _ _ _ _ e (rw (← c.before.before.before.budget.ensures, ← c.before.before.deadline.ensures) c.before.point-in.ensures), mark-put _ _ _ _ _ _ e (rw (← c.before.before.before.budget.ensures, ← c.before.before.deadline.ensures) c.tick-in.ensures))
+returns c = let e = sym c.before.before.before.before.before.partition.ensures ∙ c.before.before.before.before.if1.true in (mark_put _ _ _ _ _ _ e (rw (← c.before.before.before.budget.ensures, ← c.before.before.deadline.ensures) c.before.point-in.ensures), mark_put _ _ _ _ _ _ e (rw (← c.before.before.before.budget.ensures, ← c.before.before.deadline.ensures) c.tick-in.ensures))
 
 returns-2 : tie.Need-returns-2
 returns-2 c = let n = rw c.before.partition.ensures at c.if1.false in (mark-left _ _ _ _ _ n, mark-left _ _ _ _ _ n)

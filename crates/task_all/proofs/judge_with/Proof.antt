@@ -6,13 +6,13 @@ use Rattle.rules.specs.Inner.{AsNamed}
 use Rattle.rules.specs.declared.Rule.{Rule}
 use Rattle.rules.proofs.Named.{named_none, named_self, named_end}
 use Rattle.theory.specs.Plan.{least}
-use Rattle.theory.specs.Task.{taskPoint, taskTick}
-use Rattle.task_demand.specs.Inner.{allAsked}
-use Rattle.task_demand.proofs.Asking.{asked-none, asked-small, asked-more}
-use Rattle.task_points.proofs.Points.{point-is}
+use Rattle.theory.specs.Task.{task_point, task_tick}
+use Rattle.task_demand.specs.Inner.{all_asked}
+use Rattle.task_demand.proofs.Asking.{asked-none, asked-small, asked_more}
+use Rattle.task_points.proofs.Points.{point_is}
 use Rattle.task_plain.proofs.Ticks.{tick_is}
-use Rattle.task_all.specs.Inner.{judgedIn}
-use Rattle.task_all.proofs.Marks.{mark-turn, mark-long, judgeable-in, deadline-short, longest-short, none_of, drawn-in}
+use Rattle.task_all.specs.Inner.{judged_in}
+use Rattle.task_all.proofs.Marks.{mark-turn, mark-long, judgeable_in, deadline-short, longest-short, none_of, drawn_in}
 use borrow.Author.Rules.{rules}
 use Rattle.task_all.proofs.judge_with.Statement.{statement}
 use Rattle.task_all.proofs.judge_with.Tie as tie
@@ -24,10 +24,10 @@ invariant-loop plan table p curve asks₀ points₀ ticks₀ d n j₀ asks point
     × (length asks ≡ length asks₀)
     × (length points ≡ length points₀)
     × (length ticks ≡ length ticks₀)
-    × AsNamed (allAsked table p j) (d + 1) asks₀ asks
+    × AsNamed (all_asked table p j) (d + 1) asks₀ asks
     × ((rule : Rule) → AsNamed (least rule plan p) (d + 1) curve curve
-    → AsNamed (judgedIn table p (taskPoint rule plan table) points₀) j points₀ points
-    × AsNamed (judgedIn table p (taskTick rule plan table) ticks₀) j ticks₀ ticks)
+    → AsNamed (judged_in table p (task_point rule plan table) points₀) j points₀ points
+    × AsNamed (judged_in table p (task_tick rule plan table) ticks₀) j ticks₀ ticks)
 
 abbrev decreases-loop : tie.decreases-loop
 decreases-loop plan table p curve asks₀ points₀ ticks₀ d n j₀ asks points ticks j = n - j
@@ -99,10 +99,10 @@ loop-again c =
       c.before.before.ask-task.ensures.as_long ∙ l.invariant.1,
       mark-long _ _ _ _ _ _ judged.0 ∙ l.invariant.2,
       mark-long _ _ _ _ _ _ judged.1 ∙ l.invariant.3,
-      asked-more _ _ _ _ _ _ _ l.invariant.4 c.before.before.ask-task.ensures,
+      asked_more _ _ _ _ _ _ _ l.invariant.4 c.before.before.ask-task.ensures,
       λ rule w.
-          let drawn = drawn-in _ pre.0 rule _ _ _ _ _ _ _ (omega (arith, n)) e (omega (arith, d, pre.2, c.before.before.before.before.before.before.before.before.before.before.before.before.before.before.before.before.before.before.draw.ensures.as_long)) (omega (arith, d, pre.3)) w l.invariant.4 in (
-            mark-turn _ _ _ _ _ _ _ _ (l.invariant.5 rule w).0 (omega (arith, n, pre.4)) judged.0 (λ z. point-is rule _ _ _ _ _ (judgeable-in _ pre.0 _ (omega (arith, n))) (drawn z) _ _ refl refl),
+          let drawn = drawn_in _ pre.0 rule _ _ _ _ _ _ _ (omega (arith, n)) e (omega (arith, d, pre.2, c.before.before.before.before.before.before.before.before.before.before.before.before.before.before.before.before.before.before.draw.ensures.as_long)) (omega (arith, d, pre.3)) w l.invariant.4 in (
+            mark-turn _ _ _ _ _ _ _ _ (l.invariant.5 rule w).0 (omega (arith, n, pre.4)) judged.0 (λ z. point_is rule _ _ _ _ _ (judgeable_in _ pre.0 _ (omega (arith, n))) (drawn z) _ _ refl refl),
             mark-turn _ _ _ _ _ _ _ _ (l.invariant.5 rule w).1 (omega (arith, n, pre.5)) judged.1 (λ z. tick_is rule _ _ _ _ _ _ _ (drawn z) refl refl),
           ),
     )
@@ -125,7 +125,7 @@ returns-2 c =
     let n = c.before.before.tasks.ensures in
     let w = named_self _ _ _ _ (rw c.before.before.before.before.before.before.before.wide.ensures at c.before.before.before.before.before.draw.ensures) in
     let judged = l.invariant.5 _ w in
-    record { points-in = named_end _ _ _ _ _ (omega (arith, n)) (omega (arith, n)) judged.0; ticks-in = named_end _ _ _ _ _ (omega (arith, n)) (omega (arith, n)) judged.1 }
+    record { points_in = named_end _ _ _ _ _ (omega (arith, n)) (omega (arith, n)) judged.0; ticks_in = named_end _ _ _ _ _ (omega (arith, n)) (omega (arith, n)) judged.1 }
 
 pub judge-with-spec : {M : Type 1} → statement M
 judge-with-spec =

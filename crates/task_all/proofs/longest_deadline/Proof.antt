@@ -2,14 +2,14 @@ use Prim.Native.Nat.{◌-◌, ◌≤◌, max}
 use mathlib.Core.Path.{◌≡◌, sym, ap₂, ◌∙◌}
 use native.Mathlib.Omega.{arith}
 use Rattle.rules.specs.Walk.{largest}
-use Rattle.rules.proofs.Least.{largest-zero, largest-more}
-use Rattle.task_all.specs.Inner.{deadlineIn}
+use Rattle.rules.proofs.Least.{largest-zero, largest_more}
+use Rattle.task_all.specs.Inner.{deadline_in}
 use borrow.Author.Rules.{rules}
 use Rattle.task_all.proofs.longest_deadline.Statement.{statement}
 use Rattle.task_all.proofs.longest_deadline.Tie as tie
 
 abbrev invariant-loop : tie.invariant-loop
-invariant-loop table p n d₀ j₀ d j = (j ≤ n) × (d ≡ largest (deadlineIn table p) j)
+invariant-loop table p n d₀ j₀ d j = (j ≤ n) × (d ≡ largest (deadline_in table p) j)
 
 abbrev decreases-loop : tie.decreases-loop
 decreases-loop table p n d₀ j₀ d j = n - j
@@ -33,7 +33,7 @@ loop-less : tie.Need-loop-smaller invariant-loop decreases-loop
 loop-less c = search rules
 
 loop-again : tie.Need-loop-preserved invariant-loop decreases-loop
-loop-again c = (search rules, c.larger.ensures ∙ ap₂ max c.before.before.before.loop.invariant.1 c.before.deadline-in.ensures ∙ sym (largest-more _ _))
+loop-again c = (search rules, c.larger.ensures ∙ ap₂ max c.before.before.before.loop.invariant.1 c.before.deadline-in.ensures ∙ sym (largest_more _ _))
 
 returns : tie.Need-returns invariant-loop decreases-loop
 returns c = let e : c.before.loop.j ≡ c.before.before.tasks.result = omega arith in rw (← c.before.before.tasks.ensures) (rw e at c.before.loop.invariant.1)

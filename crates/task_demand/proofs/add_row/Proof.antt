@@ -3,7 +3,7 @@ use mathlib.Core.Path.{◌≡◌, refl}
 use native.Mathlib.Omega.{arith}
 use lib.ListN.{length, length-set}
 use Rattle.task_demand.specs.Inner.{Added}
-use Rattle.task_demand.proofs.Asking.{added_none, added-turn, added-all}
+use Rattle.task_demand.proofs.Asking.{added_none, added_turn, added_all}
 use borrow.Author.Rules.{rules}
 use Rattle.task_demand.proofs.add_row.Statement.{statement}
 use Rattle.task_demand.proofs.add_row.Tie as tie
@@ -45,13 +45,13 @@ loop-less : tie.Need-loop-smaller invariant-loop decreases-loop
 loop-less c = search rules
 
 loop-again : tie.Need-loop-preserved invariant-loop decreases-loop
-loop-again c = (search rules, search rules, simp length-set c.before.before.before.loop.invariant.2, added-turn _ _ _ _ _ _ _ c.before.before.before.loop.invariant.3 c.before.before.before.loop.invariant.0 (search rules) (rw c.wide32.ensures.1) refl)
+loop-again c = (search rules, search rules, simp length-set c.before.before.before.loop.invariant.2, added_turn _ _ _ _ _ _ _ c.before.before.before.loop.invariant.3 c.before.before.before.loop.invariant.0 (search rules) (rw c.wide32.ensures.1) refl)
 
 same_length : tie.Need-same-length invariant-loop decreases-loop
 same_length c = c.before.loop.invariant.2
 
 returns : tie.Need-returns invariant-loop decreases-loop
-returns c = added-all _ _ _ _ _ _ c.before.loop.invariant.1 (search rules) c.before.loop.invariant.3
+returns c = added_all _ _ _ _ _ _ c.before.loop.invariant.1 (search rules) c.before.loop.invariant.3
 
 pub add-row-spec : {M : Type 1} → statement M
 add-row-spec =

@@ -5,8 +5,8 @@ use native.Mathlib.Omega.{arith}
 use lib.ListN.{length}
 use Rattle.rules.specs.Inner.{AsNamed}
 use Rattle.rules.proofs.Named.{named_end}
-use Rattle.task_demand.specs.Inner.{withTask}
-use Rattle.task_demand.proofs.Asking.{Jobs, jobs-none, jobs-more, with_none, with_row, few-jobs, more-asked}
+use Rattle.task_demand.specs.Inner.{with_task}
+use Rattle.task_demand.proofs.Asking.{Jobs, jobs-none, jobs_more, with_none, with_row, few-jobs, more_asked}
 use borrow.Author.Rules.{rules}
 use Rattle.task_demand.proofs.add_task.Statement.{statement}
 use Rattle.task_demand.proofs.add_task.Tie as tie
@@ -15,7 +15,7 @@ abbrev invariant-loop : tie.invariant-loop
 invariant-loop asks₀ n c period all₀ t₀ asks all t =
     (t ≤ n)
     × (length asks ≡ length asks₀)
-    × AsNamed (withTask c period asks₀) t asks₀ asks
+    × AsNamed (with_task c period asks₀) t asks₀ asks
     × ((k : ℕ) × Jobs period n k t × (all ≡ c * k))
 
 abbrev decreases-loop : tie.decreases-loop
@@ -58,12 +58,12 @@ loop-again c =
     let l = c.before.before.before.before.before.before.before.before.loop in
     let k = l.invariant.3 in
     let e = rw c.before.before.before.before.before.wide2.ensures at c.before.before.before.before.smaller.ensures in
-    let all = more-asked _ _ _ _ k.2 c.before.before.before.before.before.before.wide.ensures in
+    let all = more_asked _ _ _ _ k.2 c.before.before.before.before.before.before.wide.ensures in
     let w = c.before.before.add_row.ensures in (
       omega (arith, e),
       w.as_long ∙ l.invariant.1,
       with_row _ _ _ _ _ _ _ _ _ _ c.before.before.before.before.before.before.before.before.before.before.requires.0 k.1 (search rules) e all l.invariant.2 w,
-      (k.0 + 1, jobs-more _ _ _ _ _ k.1 (search rules) e, all),
+      (k.0 + 1, jobs_more _ _ _ _ _ k.1 (search rules) e, all),
     )
 
 same_length : tie.Need-same-length invariant-loop decreases-loop

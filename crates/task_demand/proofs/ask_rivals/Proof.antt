@@ -4,14 +4,14 @@ use native.Mathlib.Omega.{arith}
 use lib.ListN.{length}
 use Rattle.rules.specs.Inner.{AsNamed}
 use Rattle.rules.specs.Table.{partition}
-use Rattle.task_demand.specs.Inner.{allAsked}
-use Rattle.task_demand.proofs.Asking.{asked-none, asked-small, asked-more, asked_of}
+use Rattle.task_demand.specs.Inner.{all_asked}
+use Rattle.task_demand.proofs.Asking.{asked-none, asked-small, asked_more, asked_of}
 use borrow.Author.Rules.{rules}
 use Rattle.task_demand.proofs.ask_rivals.Statement.{statement}
 use Rattle.task_demand.proofs.ask_rivals.Tie as tie
 
 abbrev invariant-loop : tie.invariant-loop
-invariant-loop tasks i asks₀ n p j₀ asks j = (j ≤ i) × (length asks ≡ length asks₀) × AsNamed (allAsked tasks p j) n asks₀ asks
+invariant-loop tasks i asks₀ n p j₀ asks j = (j ≤ i) × (length asks ≡ length asks₀) × AsNamed (all_asked tasks p j) n asks₀ asks
 
 abbrev decreases-loop : tie.decreases-loop
 decreases-loop tasks i asks₀ n p j₀ asks j = i - j
@@ -35,7 +35,7 @@ loop-less : tie.Need-loop-smaller invariant-loop decreases-loop
 loop-less c = search rules
 
 loop-again : tie.Need-loop-preserved invariant-loop decreases-loop
-loop-again c = (search rules, c.before.before.ask-task.ensures.as_long ∙ c.before.before.before.before.before.loop.invariant.1, asked-more _ _ _ _ _ _ _ c.before.before.before.before.before.loop.invariant.2 c.before.before.ask-task.ensures)
+loop-again c = (search rules, c.before.before.ask-task.ensures.as_long ∙ c.before.before.before.before.before.loop.invariant.1, asked_more _ _ _ _ _ _ _ c.before.before.before.before.before.loop.invariant.2 c.before.before.ask-task.ensures)
 
 same_length : tie.Need-same-length invariant-loop decreases-loop
 same_length c = c.before.loop.invariant.1

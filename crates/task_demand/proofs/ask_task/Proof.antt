@@ -1,5 +1,5 @@
 use mathlib.Core.Path.{sym, ◌∙◌}
-use Rattle.task_demand.proofs.Asking.{task-counts, task-left}
+use Rattle.task_demand.proofs.Asking.{task_counts, task_left}
 use borrow.Author.Rules.{rules}
 use Rattle.task_demand.proofs.ask_task.Statement.{statement}
 use Rattle.task_demand.proofs.ask_task.Tie as tie
@@ -20,10 +20,10 @@ same_length : tie.Need-same-length
 same_length c = c.before.before.add-task.ensures.as_long
 
 returns : tie.Need-returns
-returns c = task-counts _ _ _ _ _ _ _ _ (sym c.before.before.before.before.before.before.before.partition.ensures ∙ c.before.before.before.before.before.before.if1.true) c.before.before.before.before.before.budget.ensures c.before.before.before.before.period.ensures c.before.before.add-task.ensures
+returns c = task_counts _ _ _ _ _ _ _ _ (sym c.before.before.before.before.before.before.before.partition.ensures ∙ c.before.before.before.before.before.before.if1.true) c.before.before.before.before.before.budget.ensures c.before.before.before.before.period.ensures c.before.before.add-task.ensures
 
 returns-2 : tie.Need-returns-2
-returns-2 c = task-left _ _ _ _ _ (rw c.before.partition.ensures at c.if1.false)
+returns-2 c = task_left _ _ _ _ _ (rw c.before.partition.ensures at c.if1.false)
 
 pub ask-task-spec : {M : Type 1} → statement M
 ask-task-spec =

@@ -1,4 +1,4 @@
-use Rattle.task_demand.specs.Inner.{fitsAt}
+use Rattle.task_demand.specs.Inner.{fits_at}
 use borrow.Author.Rules.{rules}
 use Rattle.task_demand.proofs.fits.Statement.{statement}
 use Rattle.task_demand.proofs.fits.Tie as tie
@@ -28,7 +28,7 @@ wide32-requires-2 : tie.Need-wide32-requires-2
 wide32-requires-2 c κs = search rules
 
 returns : tie.Need-returns
-unfolding fitsAt
+unfolding fits_at
 returns c = rw (c.wide322.ensures.1, c.before.before.wide32.ensures.1, c.before.before.before.before.wide.ensures)
 
 pub fits-spec : {M : Type 1} → statement M

@@ -1,6 +1,6 @@
 use mathlib.Core.Path.{refl, sym, ◌∙◌}
-use Rattle.task_verdict.proofs.Orders.{place-from-1, place-judgeable}
-use Rattle.task_page.proofs.Fails.{paged-refused, paged-task, few-ticks}
+use Rattle.task_verdict.proofs.Orders.{place_from_1, place_judgeable}
+use Rattle.task_page.proofs.Fails.{paged_refused, paged-task, few_ticks}
 use borrow.Author.Rules.{rules}
 use Rattle.task_page.proofs.page.Statement.{statement}
 use Rattle.task_page.proofs.page.Tie as tie
@@ -18,13 +18,13 @@ rule-of-requires : tie.Need-rule-of-requires
 rule-of-requires c κs = search rules
 
 sub-page-of : tie.Need-overflow-sub-page-of
-sub-page-of c = place-from-1 _ _ _ _ _ (sym c.before.before.before.answerable.ensures ∙ c.before.enum_told.given.1)
+sub-page-of c = place_from_1 _ _ _ _ _ (sym c.before.before.before.answerable.ensures ∙ c.before.enum_told.given.1)
 
 page-of-requires : tie.Need-page-of-requires
-page-of-requires c κs = let g = sym c.before.before.before.before.answerable.ensures ∙ c.before.before.enum_told.given.1 in (few-ticks _ _ _ _ _ g, place-judgeable _ _ _ _ _ g)
+page-of-requires c κs = let g = sym c.before.before.before.before.answerable.ensures ∙ c.before.before.enum_told.given.1 in (few_ticks _ _ _ _ _ g, place_judgeable _ _ _ _ _ g)
 
 returns : tie.Need-returns
-returns c = (paged-refused _ _ _ _ _ _ _ (sym c.before.before.before.answerable.ensures ∙ c.before.given.given.1), refl)
+returns c = (paged_refused _ _ _ _ _ _ _ (sym c.before.before.before.answerable.ensures ∙ c.before.given.given.1), refl)
 
 same_length : tie.Need-same-length
 same_length c = search rules

@@ -2,8 +2,8 @@ use Prim.Native.Nat.{◌+◌}
 use mathlib.Core.Path.{refl, ◌∙◌}
 use Rattle.rules.specs.Limits.{longest}
 use Rattle.task_demand.proofs.Asking.{zeros-all}
-use Rattle.task_points.proofs.Points.{point-is}
-use Rattle.task_page.proofs.Fails.{paged-pass, paged-fail}
+use Rattle.task_points.proofs.Points.{point_is}
+use Rattle.task_page.proofs.Fails.{paged_pass, paged_fail}
 use borrow.Author.Rules.{rules}
 use Rattle.task_page.proofs.page_of.Statement.{statement}
 use Rattle.task_page.proofs.page_of.Tie as tie
@@ -37,9 +37,9 @@ wide-requires c κs = search rules
 
 returns : tie.Need-returns
 returns c =
-    let t = c.before.before.point-in.ensures ∙ point-is _ _ _ _ _ _ c.before.before.before.before.before.before.before.before.before.before.before.before.before.before.before.requires.1 c.before.before.before.before.before.before.before.before.before.draw-task.ensures _ _ c.before.before.before.before.before.before.budget.ensures c.before.before.before.before.before.deadline.ensures in
+    let t = c.before.before.point-in.ensures ∙ point_is _ _ _ _ _ _ c.before.before.before.before.before.before.before.before.before.before.before.before.before.before.before.requires.1 c.before.before.before.before.before.before.before.before.before.draw-task.ensures _ _ c.before.before.before.before.before.before.budget.ensures c.before.before.before.before.before.deadline.ensures in
     let d = c.before.wide.ensures ∙ c.before.before.before.before.before.deadline.ensures in
-    (paged-pass _ _ _ _ _ _ _ t d c.if1.true, refl)
+    (paged_pass _ _ _ _ _ _ _ t d c.if1.true, refl)
 
 slice-aggregate-put-fail : tie.Need-slice-aggregate-put-fail
 slice-aggregate-put-fail c = search rules
@@ -48,17 +48,17 @@ slice-aggregate-put-fail-2 : tie.Need-slice-aggregate-put-fail-2
 slice-aggregate-put-fail-2 c = search rules
 
 put-fail-requires : tie.Need-put-fail-requires
-put-fail-requires c κs = let w = c.before.before.before.before.before.before.before.before.before.before.before.before.before.before.before.before.before.before.requires in record { few-ticks = w.0; judgeable = w.1; drawn = c.before.before.before.before.before.before.before.before.before.before.before.before.draw-task.ensures }
+put-fail-requires c κs = let w = c.before.before.before.before.before.before.before.before.before.before.before.before.before.before.before.before.before.before.requires in record { few_ticks = w.0; judgeable = w.1; drawn = c.before.before.before.before.before.before.before.before.before.before.before.before.draw-task.ensures }
 
 same_length : tie.Need-same-length
 same_length c = search rules
 
 returns-2 : tie.Need-returns-2
 returns-2 c =
-    let t = c.before.before.before.before.before.before.before.before.point-in.ensures ∙ point-is _ _ _ _ _ _ c.before.before.before.before.before.before.before.before.before.before.before.before.before.before.before.before.before.before.before.before.before.requires.1 c.before.before.before.before.before.before.before.before.before.before.before.before.before.before.before.draw-task.ensures _ _ c.before.before.before.before.before.before.before.before.before.before.before.before.budget.ensures c.before.before.before.before.before.before.before.before.before.before.before.deadline.ensures in
+    let t = c.before.before.before.before.before.before.before.before.point-in.ensures ∙ point_is _ _ _ _ _ _ c.before.before.before.before.before.before.before.before.before.before.before.before.before.before.before.before.before.before.before.before.before.requires.1 c.before.before.before.before.before.before.before.before.before.before.before.before.before.before.before.draw-task.ensures _ _ c.before.before.before.before.before.before.before.before.before.before.before.before.budget.ensures c.before.before.before.before.before.before.before.before.before.before.before.deadline.ensures in
     let d = c.before.before.before.before.before.before.before.wide.ensures ∙ c.before.before.before.before.before.before.before.before.before.before.before.deadline.ensures in
     let r = c.before.before.put-fail.ensures in
-    (paged-fail _ _ _ _ _ _ _ t d _ c.before.before.before.before.before.before.if1.false r.0, r.1)
+    (paged_fail _ _ _ _ _ _ _ t d _ c.before.before.before.before.before.before.if1.false r.0, r.1)
 
 pub page-of-spec : {M : Type 1} → statement M
 page-of-spec =

@@ -1,14 +1,14 @@
 use Prim.Native.Nat.{◌+◌, ◌-◌, ◌≤◌, ◌<◌}
 use mathlib.Core.Path.{◌≡◌}
 use Rattle.rules.specs.Walk.{count}
-use Rattle.task_page.specs.Inner.{pointIn}
-use Rattle.task_page.proofs.Tight.{count-1, count_turn}
+use Rattle.task_page.specs.Inner.{point_in}
+use Rattle.task_page.proofs.Tight.{count_1, count_turn}
 use borrow.Author.Rules.{rules}
 use Rattle.task_page.proofs.points_in.Statement.{statement}
 use Rattle.task_page.proofs.points_in.Tie as tie
 
 abbrev invariant-loop : tie.invariant-loop
-invariant-loop asks d end n₀ t₀ n t = (1 ≤ t) × (t ≤ end + 1) × (end ≡ d) × (n < t) × (n ≡ count (pointIn asks end) t)
+invariant-loop asks d end n₀ t₀ n t = (1 ≤ t) × (t ≤ end + 1) × (end ≡ d) × (n < t) × (n ≡ count (point_in asks end) t)
 
 abbrev decreases-loop : tie.decreases-loop
 decreases-loop asks d end n₀ t₀ n t = end + 1 - t
@@ -17,7 +17,7 @@ wide-requires : tie.Need-wide-requires invariant-loop decreases-loop
 wide-requires c κs = search rules
 
 loop-holds : tie.Need-loop-init invariant-loop decreases-loop
-loop-holds c = (search rules, search rules, c.wide.ensures, search rules, count-1 _ _)
+loop-holds c = (search rules, search rules, c.wide.ensures, search rules, count_1 _ _)
 
 point-at-requires : tie.Need-point-at-requires invariant-loop decreases-loop
 point-at-requires c κs = search rules

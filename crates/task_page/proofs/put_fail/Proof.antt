@@ -1,7 +1,7 @@
 use mathlib.Core.Path.{refl}
 use native.Mathlib.Nat.{le_refl}
 use native.Mathlib.Omega.{arith}
-use Rattle.task_page.proofs.Fails.{points-is, tightest-is, shortage-is, too_short, fails-so, rows_left}
+use Rattle.task_page.proofs.Fails.{points_is, tightest_is, shortage_is, too_short, fails_so, rows_left}
 use borrow.Author.Rules.{rules}
 use Rattle.task_page.proofs.put_fail.Statement.{statement}
 use Rattle.task_page.proofs.put_fail.Tie as tie
@@ -21,7 +21,7 @@ mul-if1 c = search rules
 returns : tie.Need-returns
 returns c =
     let w = c.before.before.before.before.before.before.before.before.before.requires in
-    let n = points-is _ _ _ _ _ _ w _ _ c.before.before.before.budget.ensures c.before.before.deadline.ensures _ c.before.points-in.ensures.1 in
+    let n = points_is _ _ _ _ _ _ w _ _ c.before.before.before.budget.ensures c.before.before.deadline.ensures _ c.before.points_in.ensures.1 in
     (too_short _ _ _ _ _ _ n c.if1.true, refl)
 
 put-rows-requires : tie.Need-put-rows-requires
@@ -30,7 +30,7 @@ put-rows-requires c κs = search rules
 tightest-in-requires : tie.Need-tightest-in-requires
 tightest-in-requires c κs =
     let o = c.before.before.before.before.before.before.before.before.before.before.before.before.before.requires.judgeable.in_order _ (le_refl _) in
-    (omega (arith, c.before.before.before.before.before.before.deadline.ensures, o.some, o.in-time), search rules, search rules)
+    (omega (arith, c.before.before.before.before.before.before.deadline.ensures, o.some, o.in_time), search rules, search rules)
 
 short-in-requires : tie.Need-short-in-requires
 short-in-requires c κs = search rules
@@ -43,10 +43,10 @@ returns-2 c =
     let w = c.before.before.before.before.before.before.before.before.before.before.before.before.before.before.before.requires in
     let b = c.before.before.before.before.before.before.before.before.before.budget.ensures in
     let d = c.before.before.before.before.before.before.before.before.deadline.ensures in
-    let n = points-is _ _ _ _ _ _ w _ _ b d _ c.before.before.before.before.before.before.before.points-in.ensures.1 in
+    let n = points_is _ _ _ _ _ _ w _ _ b d _ c.before.before.before.before.before.before.before.points_in.ensures.1 in
     let t = c.before.tightest-in.ensures in
     let room = c.before.before.before.before.before.before.if1.false in (
-      fails-so _ _ _ _ _ _ n _ _ room (tightest-is _ _ _ _ _ _ w _ _ b d _ t.1) (shortage-is _ _ _ _ _ _ w _ _ b d _ t.1 _ t.0 c.short-in.ensures),
+      fails_so _ _ _ _ _ _ n _ _ room (tightest_is _ _ _ _ _ _ w _ _ b d _ t.1) (shortage_is _ _ _ _ _ _ w _ _ b d _ t.1 _ t.0 c.short-in.ensures),
       rows_left _ _ _ _ _ n room c.before.before.before.before.put-rows.ensures,
     )
 

@@ -1,7 +1,7 @@
 use mathlib.Core.Path.{refl, ◌∙◌}
 use native.Mathlib.Omega.{arith}
-use Rattle.output.proofs.Put.{put-none}
-use Rattle.task_page.proofs.Rows.{in-lists, needs-is, has-is, needs-small, row_is, row-none}
+use Rattle.output.proofs.Put.{put_none}
+use Rattle.task_page.proofs.Rows.{in_lists, needs_is, has_is, needs_small, row_is, row-none}
 use borrow.Author.Rules.{rules}
 use Rattle.task_page.proofs.put_point.Statement.{statement}
 use Rattle.task_page.proofs.put_point.Tie as tie
@@ -51,17 +51,17 @@ wide-requires-3 c κs = search rules
 worst-start-requires : tie.Need-worst-start-requires
 worst-start-requires c κs =
     let w = c.before.before.before.before.before.before.before.before.before.before.before.before.before.before.before.before.before.requires in
-    (omega (arith, (in-lists _ _ _ _ _ _ w.0 _ _ refl w.1.1).0), rw (c.wide3.ensures, c.before.before.before.before.before.before.before.partition.ensures) (has-is _ _ _ _ _ _ w.0 _ _ refl w.1.1 _ c.before.wide322.ensures.1))
+    (omega (arith, (in_lists _ _ _ _ _ _ w.0 _ _ refl w.1.1).0), rw (c.wide3.ensures, c.before.before.before.before.before.before.before.partition.ensures) (has_is _ _ _ _ _ _ w.0 _ _ refl w.1.1 _ c.before.wide322.ensures.1))
 
 put-row-requires : tie.Need-put-row-requires
 put-row-requires c κs =
     let w = c.before.before.before.before.before.before.before.before.before.before.before.before.before.before.before.before.before.before.before.requires in
     let e = c.before.before.before.before.before.before.before.wide2.ensures ∙ c.before.before.before.before.before.before.before.before.budget.ensures in (
       search rules,
-      omega (arith, (in-lists _ _ _ _ _ _ w.0 _ _ refl w.1.1).0),
-      needs-small _ _ _ _ _ _ w.0 _ _ refl w.1.1 _ _ e c.before.before.before.before.before.wide32.ensures.1,
+      omega (arith, (in_lists _ _ _ _ _ _ w.0 _ _ refl w.1.1).0),
+      needs_small _ _ _ _ _ _ w.0 _ _ refl w.1.1 _ _ e c.before.before.before.before.before.wide32.ensures.1,
       c.before.before.before.wide322.ensures.0,
-      omega (arith, c.before.worst-start.ensures.0, w.0.few-ticks),
+      omega (arith, c.before.worst_start_lem.ensures.0, w.0.few_ticks),
     )
 
 same_length : tie.Need-same-length
@@ -73,16 +73,16 @@ returns c =
     let d = c.before.before.before.before.before.before.before.before.before.before.before.before.before.before.before.wide.ensures ∙ c.before.before.before.before.before.before.before.before.before.before.before.before.before.before.before.before.deadline.ensures in
     let b = c.before.before.before.before.before.before.before.before.before.before.wide2.ensures ∙ c.before.before.before.before.before.before.before.before.before.before.before.budget.ensures in
     let p = c.before.before.before.before.before.wide3.ensures ∙ c.before.before.before.before.before.before.before.before.before.before.before.before.partition.ensures in
-    let needed = needs-is _ _ _ _ _ _ w.0 _ _ refl w.1.1 _ _ b c.before.before.before.before.before.before.before.before.wide32.ensures.1 in
-    let had = has-is _ _ _ _ _ _ w.0 _ _ refl w.1.1 _ c.before.before.before.before.before.before.wide322.ensures.1 in
-    let row = row_is _ _ _ _ _ _ w.0 _ _ d (search rules) w.1.0 _ c.before.before.before.before.before.before.before.before.before.before.before.before.before.before.point_at.ensures _ _ _ c.before.before.before.before.before.before.before.before.before.before.before.before.before.if1.true needed had (rw p at c.before.before.before.before.worst-start.ensures.1) in
+    let needed = needs_is _ _ _ _ _ _ w.0 _ _ refl w.1.1 _ _ b c.before.before.before.before.before.before.before.before.wide32.ensures.1 in
+    let had = has_is _ _ _ _ _ _ w.0 _ _ refl w.1.1 _ c.before.before.before.before.before.before.wide322.ensures.1 in
+    let row = row_is _ _ _ _ _ _ w.0 _ _ d (search rules) w.1.0 _ c.before.before.before.before.before.before.before.before.before.before.before.before.before.before.point_at.ensures _ _ _ c.before.before.before.before.before.before.before.before.before.before.before.before.before.if1.true needed had (rw p at c.before.before.before.before.worst_start_lem.ensures.1) in
     rw (← row) c.before.before.put-row.ensures
 
 returns-2 : tie.Need-returns-2
 returns-2 c =
     let w = c.before.before.before.before.before.before.before.before.before.requires in
     let d = c.before.before.wide.ensures ∙ c.before.before.before.deadline.ensures in
-    rw (← row-none _ _ _ _ _ _ w.0 _ _ d (search rules) w.1.0 _ c.before.point_at.ensures c.if1.false) (put-none _ _)
+    rw (← row-none _ _ _ _ _ _ w.0 _ _ d (search rules) w.1.0 _ c.before.point_at.ensures c.if1.false) (put_none _ _)
 
 pub put-point-spec : {M : Type 1} → statement M
 put-point-spec =

@@ -7,7 +7,7 @@ use Rattle.rules.specs.Walk.{gathered}
 use Rattle.rules.specs.Table.{deadline}
 use Rattle.output.specs.Put.{Put}
 use Rattle.task_page.specs.Page.{row_at}
-use Rattle.task_page.proofs.Rows.{in-lists, rows_few, rows_none, rows_more, rows_all}
+use Rattle.task_page.proofs.Rows.{in_lists, rows_few, rows_none, rows_more, rows_all}
 use borrow.Author.Rules.{rules}
 use Rattle.task_page.proofs.put_rows.Statement.{statement}
 use Rattle.task_page.proofs.put_rows.Tie as tie
@@ -33,7 +33,7 @@ put-point-requires c κs =
     let w = c.before.before.before.before.before.before.before.before.before.before.requires in
     let l = c.before.before.loop in
     let few = rows_few _ _ _ _ _ l.invariant.3 in
-    let short = (in-lists _ _ _ _ _ _ w _ _ l.invariant.2 (le_refl _)).0 in
+    let short = (in_lists _ _ _ _ _ _ w _ _ l.invariant.2 (le_refl _)).0 in
     (w, (l.invariant.0, search rules, omega (arith, few, short)))
 
 add-t : tie.Need-overflow-add-t invariant-loop decreases-loop

@@ -1,6 +1,6 @@
 use Prim.Native.Nat.{◌+◌}
 use mathlib.Core.Path.{ap₂}
-use Rattle.task_page.proofs.Tight.{is-short, none-short}
+use Rattle.task_page.proofs.Tight.{is_short, none-short}
 use borrow.Author.Rules.{rules}
 use Rattle.task_page.proofs.short_in.Statement.{statement}
 use Rattle.task_page.proofs.short_in.Tie as tie
@@ -33,7 +33,7 @@ sub-result : tie.Need-overflow-sub-result
 sub-result c = search rules
 
 returns : tie.Need-returns
-returns c = is-short _ _ _ _ _ _ (ap₂ ◌+◌ c.before.before.before.before.before.wide.ensures c.before.before.before.wide32.ensures.1) c.before.wide322.ensures.1
+returns c = is_short _ _ _ _ _ _ (ap₂ ◌+◌ c.before.before.before.before.before.wide.ensures c.before.before.before.wide32.ensures.1) c.before.wide322.ensures.1
 
 returns-2 : tie.Need-returns-2
 returns-2 c = none-short _ _ _ _ _ _ (ap₂ ◌+◌ c.before.before.before.before.before.wide.ensures c.before.before.before.wide32.ensures.1) c.before.wide322.ensures.1 c.if1.false

@@ -2,14 +2,14 @@ use Prim.Native.Nat.{◌+◌, ◌-◌, ◌≤◌}
 use mathlib.Core.Path.{◌≡◌}
 use native.Mathlib.Omega.{arith}
 use Rattle.rules.proofs.FirstLeast.{FirstFrom}
-use Rattle.task_page.specs.Inner.{pointIn, shortIn}
-use Rattle.task_page.proofs.Tight.{tight-end, tight-turn, tight-all}
+use Rattle.task_page.specs.Inner.{point_in, short_in}
+use Rattle.task_page.proofs.Tight.{tight_end, tight-turn, tight-all}
 use borrow.Author.Rules.{rules}
 use Rattle.task_page.proofs.tightest_in.Statement.{statement}
 use Rattle.task_page.proofs.tightest_in.Tie as tie
 
 abbrev invariant-loop : tie.invariant-loop
-invariant-loop curve asks c d end best₀ t₀ best t = (1 ≤ t) × (t ≤ end) × (end ≡ d) × (best ≤ end) × FirstFrom (pointIn asks end) (shortIn curve asks c) t (end + 1) best
+invariant-loop curve asks c d end best₀ t₀ best t = (1 ≤ t) × (t ≤ end) × (end ≡ d) × (best ≤ end) × FirstFrom (point_in asks end) (short_in curve asks c) t (end + 1) best
 
 abbrev decreases-loop : tie.decreases-loop
 decreases-loop curve asks c d end best₀ t₀ best t = t
@@ -18,7 +18,7 @@ wide-requires : tie.Need-wide-requires invariant-loop decreases-loop
 wide-requires c κs = search rules
 
 loop-holds : tie.Need-loop-init invariant-loop decreases-loop
-loop-holds c = let e = c.wide.ensures in (search rules, search rules, e, search rules, tight-end _ _ _ _ (search rules))
+loop-holds c = let e = c.wide.ensures in (search rules, search rules, e, search rules, tight_end _ _ _ _ (search rules))
 
 sub-t : tie.Need-overflow-sub-t invariant-loop decreases-loop
 sub-t c = search rules

@@ -2,14 +2,14 @@ use Prim.Native.Nat.{◌+◌, ◌-◌, ◌≤◌}
 use mathlib.Core.Path.{◌≡◌, sym, ◌∙◌}
 use Rattle.rules.specs.Walk.{first}
 use Rattle.rules.proofs.First.{first_more, first_found, first_done}
-use Rattle.task_plain.specs.Inner.{tickFits}
-use Rattle.task_plain.proofs.Ticks.{tick-fits, from-1}
+use Rattle.task_plain.specs.Inner.{tick_fits}
+use Rattle.task_plain.proofs.Ticks.{tick_fits_lem, from_1}
 use borrow.Author.Rules.{rules}
 use Rattle.task_plain.proofs.tick_in.Statement.{statement}
 use Rattle.task_plain.proofs.tick_in.Tie as tie
 
 abbrev invariant-loop : tie.invariant-loop
-invariant-loop curve asks c d end t₀ t = (1 ≤ t) × (t ≤ end + 1) × (end ≡ d) × (first (tickFits curve asks c) t ≡ t)
+invariant-loop curve asks c d end t₀ t = (1 ≤ t) × (t ≤ end + 1) × (end ≡ d) × (first (tick_fits curve asks c) t ≡ t)
 
 abbrev decreases-loop : tie.decreases-loop
 decreases-loop curve asks c d end t₀ t = end + 1 - t
@@ -18,13 +18,13 @@ wide-requires : tie.Need-wide-requires invariant-loop decreases-loop
 wide-requires c κs = search rules
 
 loop-holds : tie.Need-loop-init invariant-loop decreases-loop
-loop-holds c = (search rules, search rules, c.wide.ensures, from-1 _ _ _)
+loop-holds c = (search rules, search rules, c.wide.ensures, from_1 _ _ _)
 
 fits-requires : tie.Need-fits-requires invariant-loop decreases-loop
 fits-requires c κs = search rules
 
 returns : tie.Need-returns invariant-loop decreases-loop
-returns c = sym (first_found _ _ _ (search rules) c.before.before.before.loop.invariant.3 (tick-fits _ _ _ _ _ c.before.before.before.loop.invariant.0 (sym c.before.fits2.ensures ∙ c.if1.true)))
+returns c = sym (first_found _ _ _ (search rules) c.before.before.before.loop.invariant.3 (tick_fits_lem _ _ _ _ _ c.before.before.before.loop.invariant.0 (sym c.before.fits2.ensures ∙ c.if1.true)))
 
 add-t : tie.Need-overflow-add-t invariant-loop decreases-loop
 add-t c = search rules
@@ -33,7 +33,7 @@ loop-less : tie.Need-loop-smaller invariant-loop decreases-loop
 loop-less c = search rules
 
 loop-again : tie.Need-loop-preserved invariant-loop decreases-loop
-loop-again c = (search rules, search rules, c.before.before.before.loop.invariant.2, first_more _ _ c.before.before.before.loop.invariant.3 (tick-fits _ _ _ _ _ c.before.before.before.loop.invariant.0 (sym c.before.fits2.ensures ∙ c.if1.false)))
+loop-again c = (search rules, search rules, c.before.before.before.loop.invariant.2, first_more _ _ c.before.before.before.loop.invariant.3 (tick_fits_lem _ _ _ _ _ c.before.before.before.loop.invariant.0 (sym c.before.fits2.ensures ∙ c.if1.false)))
 
 add-result : tie.Need-overflow-add-result invariant-loop decreases-loop
 add-result c = search rules

@@ -2,7 +2,7 @@ use Prim.Native.Nat.{◌+◌}
 use mathlib.Core.Path.{◌∙◌}
 use Rattle.rules.specs.Limits.{longest}
 use Rattle.task_demand.proofs.Asking.{zeros-all}
-use Rattle.task_points.proofs.Points.{point-is}
+use Rattle.task_points.proofs.Points.{point_is}
 use borrow.Author.Rules.{rules}
 use Rattle.task_points.proofs.first_point.Statement.{statement}
 use Rattle.task_points.proofs.first_point.Tie as tie
@@ -32,7 +32,7 @@ point-in-requires : tie.Need-point-in-requires
 point-in-requires c κs = search rules
 
 returns : tie.Need-returns
-returns c = c.point-in.ensures ∙ point-is _ _ _ _ _ _ c.before.before.before.before.before.before.before.before.before.before.before.before.requires c.before.before.before.before.before.before.before.draw-task.ensures _ _ c.before.before.before.before.budget.ensures c.before.before.before.deadline.ensures
+returns c = c.point-in.ensures ∙ point_is _ _ _ _ _ _ c.before.before.before.before.before.before.before.before.before.before.before.before.requires c.before.before.before.before.before.before.before.draw-task.ensures _ _ c.before.before.before.before.budget.ensures c.before.before.before.deadline.ensures
 
 pub first-point-spec : {M : Type 1} → statement M
 first-point-spec =

@@ -1,10 +1,10 @@
-use Rattle.task_points.proofs.Points.{at-deadline, at-multiple}
+use Rattle.task_points.proofs.Points.{at_deadline, at_multiple}
 use borrow.Author.Rules.{rules}
 use Rattle.task_points.proofs.point_at.Statement.{statement}
 use Rattle.task_points.proofs.point_at.Tie as tie
 
 returns : tie.Need-returns
-returns c = at-deadline _ _ _ c.if1.true
+returns c = at_deadline _ _ _ c.if1.true
 
 mul-result : tie.Need-overflow-mul-result
 mul-result c = search rules
@@ -22,7 +22,7 @@ shared-slice-read-result-2 : tie.Need-shared-slice-read-result-2
 shared-slice-read-result-2 c = search rules
 
 returns-2 : tie.Need-returns-2
-returns-2 c = at-multiple _ _ _ c.before.before.if1.false
+returns-2 c = at_multiple _ _ _ c.before.before.if1.false
 
 pub point-at-spec : {M : Type 1} → statement M
 point-at-spec =

@@ -2,14 +2,14 @@ use Prim.Native.Nat.{◌+◌, ◌-◌, ◌≤◌}
 use mathlib.Core.Path.{◌≡◌, sym, ◌∙◌}
 use Rattle.rules.specs.Walk.{first}
 use Rattle.rules.proofs.First.{first_more, first_found, first_done}
-use Rattle.task_points.specs.Inner.{pointFits}
-use Rattle.task_points.proofs.Points.{from-1}
+use Rattle.task_points.specs.Inner.{point_fits}
+use Rattle.task_points.proofs.Points.{from_1}
 use borrow.Author.Rules.{rules}
 use Rattle.task_points.proofs.point_in.Statement.{statement}
 use Rattle.task_points.proofs.point_in.Tie as tie
 
 abbrev invariant-loop : tie.invariant-loop
-invariant-loop curve asks c d end t₀ t = (1 ≤ t) × (t ≤ end + 1) × (end ≡ d) × (first (pointFits curve asks c end) t ≡ t)
+invariant-loop curve asks c d end t₀ t = (1 ≤ t) × (t ≤ end + 1) × (end ≡ d) × (first (point_fits curve asks c end) t ≡ t)
 
 abbrev decreases-loop : tie.decreases-loop
 decreases-loop curve asks c d end t₀ t = end + 1 - t
@@ -18,7 +18,7 @@ wide-requires : tie.Need-wide-requires invariant-loop decreases-loop
 wide-requires c κs = search rules
 
 loop-holds : tie.Need-loop-init invariant-loop decreases-loop
-loop-holds c = (search rules, search rules, c.wide.ensures, from-1 _ _ _ _)
+loop-holds c = (search rules, search rules, c.wide.ensures, from_1 _ _ _ _)
 
 point-fits-requires : tie.Need-point-fits-requires invariant-loop decreases-loop
 point-fits-requires c κs = search rules

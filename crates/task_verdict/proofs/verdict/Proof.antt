@@ -1,5 +1,5 @@
 use mathlib.Core.Path.{sym, ◌∙◌}
-use Rattle.task_verdict.proofs.Orders.{place-from-1, place-judgeable, judged-refused, judged-task}
+use Rattle.task_verdict.proofs.Orders.{place_from_1, place_judgeable, judged_refused, judged-task}
 use borrow.Author.Rules.{rules}
 use Rattle.task_verdict.proofs.verdict.Statement.{statement}
 use Rattle.task_verdict.proofs.verdict.Tie as tie
@@ -17,13 +17,13 @@ rule-of-requires : tie.Need-rule-of-requires
 rule-of-requires c κs = search rules
 
 sub-first-point : tie.Need-overflow-sub-first-point
-sub-first-point c = place-from-1 _ _ _ _ _ (sym c.before.before.before.answerable.ensures ∙ c.before.enum_told.given.1)
+sub-first-point c = place_from_1 _ _ _ _ _ (sym c.before.before.before.answerable.ensures ∙ c.before.enum_told.given.1)
 
 first-point-requires : tie.Need-first-point-requires
-first-point-requires c κs = place-judgeable _ _ _ _ _ (sym c.before.before.before.answerable.ensures ∙ c.before.enum_told.given.1)
+first-point-requires c κs = place_judgeable _ _ _ _ _ (sym c.before.before.before.answerable.ensures ∙ c.before.enum_told.given.1)
 
 sub-deadline : tie.Need-overflow-sub-deadline
-sub-deadline c = place-from-1 _ _ _ _ _ (sym c.before.before.before.before.answerable.ensures ∙ c.before.before.enum_told.given.1)
+sub-deadline c = place_from_1 _ _ _ _ _ (sym c.before.before.before.before.answerable.ensures ∙ c.before.before.enum_told.given.1)
 
 deadline-requires : tie.Need-deadline-requires
 deadline-requires c κs = search rules
@@ -32,7 +32,7 @@ pass-at-requires : tie.Need-pass-at-requires
 pass-at-requires c κs = search rules
 
 returns : tie.Need-returns
-returns c = judged-refused _ _ _ _ _ _ _ (sym c.before.before.before.answerable.ensures ∙ c.before.given.given.1)
+returns c = judged_refused _ _ _ _ _ _ _ (sym c.before.before.before.answerable.ensures ∙ c.before.given.given.1)
 
 returns-2 : tie.Need-returns-2
 returns-2 c = judged-task _ _ _ _ _ _ _ _ _ (sym c.before.before.before.before.before.before.answerable.ensures ∙ c.before.before.before.before.enum_told.given.1) c.before.deadline.ensures (rw c.before.before.before.rule-of.ensures at c.before.before.first-point.ensures) c.pass-at.ensures

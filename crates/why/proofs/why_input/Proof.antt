@@ -3,8 +3,8 @@ use mathlib.Core.List.{List}
 use Prim.Native.Nat.{ℕ}
 use lib.ListN.{length}
 use lib.Seq.{length-take-le}
-use Rattle.output.proofs.Put.{put-taken}
-use Rattle.why_page.specs.Why.{whyOf}
+use Rattle.output.proofs.Put.{put_taken}
+use Rattle.why_page.specs.Why.{why_of}
 use Rattle.why_page.proofs.Proved.{proved}
 use borrow.Author.Rules.{rules}
 use Rattle.why.proofs.why_input.Statement.{statement}
@@ -23,8 +23,8 @@ returns : tie.Need-returns
 returns c =
     let p = c.before.before.before.before.before.before.before.requires in
     let a = c.before.before.before.before.before.before.before.args in
-    let s = put-taken c.before.before.compose.ensures.0 (search rules) in
-    (λ b e. s.1 ∙ ap (λ (x : List ℕ). whyOf x a.place) e ∙ proved.why-first b a.place (length a.file.now) p.1, s.0)
+    let s = put_taken c.before.before.compose.ensures.0 (search rules) in
+    (λ b e. s.1 ∙ ap (λ (x : List ℕ). why_of x a.place) e ∙ proved.why_first b a.place (length a.file.now) p.1, s.0)
 
 pub why-input-spec : {M : Type 1} → statement M
 why-input-spec = tie.close (tie.spec slice-aggregate-compose compose-requires same_length returns)

@@ -2,7 +2,7 @@ use lib.Seq.{length-take-le}
 use lib.ListN.{replicate}
 use Prim.Native.Nat.{ℕ}
 use mathlib.Core.Path.{sym}
-use Rattle.why_lines.proofs.Lines.{padded-is}
+use Rattle.why_lines.proofs.Lines.{padded_is}
 use borrow.Author.Rules.{rules}
 use Rattle.why_lines.proofs.put_column.Statement.{statement}
 use Rattle.why_lines.proofs.put_column.Tie as tie
@@ -26,7 +26,7 @@ same_length : tie.Need-same-length
 same_length c = search rules
 
 returns : tie.Need-returns
-returns c = let l = length-take-le {A = ℕ} c.before.before.before.before.before.beyond.result (replicate 8 32) (search rules) in (rw (padded-is c.before.before.before.before.before.before.before.before.args.n c.before.before.before.before.before.before.digits.result c.before.before.before.before.before.beyond.result c.before.before.before.before.before.before.digits.ensures c.before.before.before.before.before.beyond.ensures) at c.before.before.put-field.ensures.0, search rules)
+returns c = let l = length-take-le {A = ℕ} c.before.before.before.before.before.beyond.result (replicate 8 32) (search rules) in (rw (padded_is c.before.before.before.before.before.before.before.before.args.n c.before.before.before.before.before.before.digits.result c.before.before.before.before.before.beyond.result c.before.before.before.before.before.before.digits.ensures c.before.before.before.before.before.beyond.ensures) at c.before.before.put-field.ensures.0, search rules)
 
 pub put-column-spec : {M : Type 1} → statement M
 put-column-spec =

@@ -1,5 +1,5 @@
 use Rattle.output.proofs.Put.{and_then}
-use Rattle.why_lines.specs.Lines.{failsLine}
+use Rattle.why_lines.specs.Lines.{fails_line}
 use borrow.Author.Rules.{rules}
 use Rattle.why_lines.proofs.put_fails.Statement.{statement}
 use Rattle.why_lines.proofs.put_fails.Tie as tie
@@ -17,7 +17,7 @@ same_length : tie.Need-same-length
 same_length c = search rules
 
 returns : tie.Need-returns
-unfolding failsLine
+unfolding fails_line
 returns c = let p = c.before.before.put-text.ensures.place in (and_then c.before.before.before.before.before.before.before.put-task.ensures.0 c.before.before.put-text.ensures, search rules)
 
 pub put-fails-spec : {M : Type 1} → statement M

@@ -1,4 +1,4 @@
-use Rattle.why_lines.specs.Lines.{namesLine}
+use Rattle.why_lines.specs.Lines.{names_line}
 use borrow.Author.Rules.{rules}
 use Rattle.why_lines.proofs.put_names.Statement.{statement}
 use Rattle.why_lines.proofs.put_names.Tie as tie
@@ -13,7 +13,7 @@ same_length : tie.Need-same-length
 same_length c = search rules
 
 returns : tie.Need-returns
-unfolding namesLine
+unfolding names_line
 returns c = let p = c.before.before.put-text.ensures.place in (c.before.before.put-text.ensures, search rules)
 
 pub put-names-spec : {M : Type 1} → statement M

@@ -1,5 +1,5 @@
 use Rattle.output.proofs.Put.{and_then}
-use Rattle.why_lines.specs.Lines.{passesLine}
+use Rattle.why_lines.specs.Lines.{passes_line}
 use borrow.Author.Rules.{rules}
 use Rattle.why_lines.proofs.put_passes.Statement.{statement}
 use Rattle.why_lines.proofs.put_passes.Tie as tie
@@ -17,7 +17,7 @@ same_length : tie.Need-same-length
 same_length c = search rules
 
 returns : tie.Need-returns
-unfolding passesLine
+unfolding passes_line
 returns c = let p = c.before.before.put-text.ensures.place in (and_then c.before.before.before.before.before.before.before.put-task.ensures.0 c.before.before.put-text.ensures, search rules)
 
 pub put-passes-spec : {M : Type 1} → statement M

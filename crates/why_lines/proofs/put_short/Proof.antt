@@ -1,6 +1,6 @@
 use Rattle.output.proofs.Put.{and_then}
 use Rattle.why_lines.proofs.Lines.{within, short-long}
-use Rattle.why_lines.specs.Lines.{shortLine}
+use Rattle.why_lines.specs.Lines.{short_line}
 use borrow.Author.Rules.{rules}
 use Rattle.why_lines.proofs.put_short.Statement.{statement}
 use Rattle.why_lines.proofs.put_short.Tie as tie
@@ -33,7 +33,7 @@ same_length : tie.Need-same-length
 same_length c = search rules
 
 returns : tie.Need-returns
-unfolding shortLine
+unfolding short_line
 returns c = within (and_then (and_then (and_then c.before.before.before.before.before.before.before.before.before.before.before.before.before.before.before.before.before.before.put-tick.ensures.0 (rw c.before.before.before.before.before.before.before.before.before.before.before.before.before.beyond.ensures at c.before.before.before.before.before.before.before.before.before.before.before.before.put-field.ensures.0)) c.before.before.before.before.before.before.before.put-field2.ensures.0) c.before.before.put-text.ensures) (short-long c.before.before.before.before.before.before.before.before.before.before.before.before.before.before.before.before.before.before.before.before.before.args.tick c.before.before.before.before.before.before.before.before.before.before.before.before.before.before.before.before.before.before.before.before.before.args.needs c.before.before.before.before.before.before.before.before.before.before.before.before.before.before.before.before.before.before.before.before.before.args.has c.before.before.before.before.before.before.before.before.before.before.before.before.before.before.before.before.before.before.before.before.before.args.start (search rules) (search rules) (search rules) (search rules))
 
 pub put-short-spec : {M : Type 1} → statement M

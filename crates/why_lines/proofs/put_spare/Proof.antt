@@ -1,6 +1,6 @@
 use Rattle.output.proofs.Put.{and_then}
-use Rattle.why_lines.proofs.Lines.{within, spare-long}
-use Rattle.why_lines.specs.Lines.{spareLine}
+use Rattle.why_lines.proofs.Lines.{within, spare_long}
+use Rattle.why_lines.specs.Lines.{spare_line}
 use borrow.Author.Rules.{rules}
 use Rattle.why_lines.proofs.put_spare.Statement.{statement}
 use Rattle.why_lines.proofs.put_spare.Tie as tie
@@ -27,8 +27,8 @@ same_length : tie.Need-same-length
 same_length c = search rules
 
 returns : tie.Need-returns
-unfolding spareLine
-returns c = within (and_then (and_then c.before.before.before.before.before.before.before.before.before.before.before.before.before.put-tick.ensures.0 (rw c.before.before.before.before.before.before.before.before.beyond.ensures at c.before.before.before.before.before.before.before.put-field.ensures.0)) c.before.before.put-text.ensures) (spare-long c.before.before.before.before.before.before.before.before.before.before.before.before.before.before.before.before.args.tick c.before.before.before.before.before.before.before.before.before.before.before.before.before.before.before.before.args.needs c.before.before.before.before.before.before.before.before.before.before.before.before.before.before.before.before.args.has (search rules) (search rules) (search rules))
+unfolding spare_line
+returns c = within (and_then (and_then c.before.before.before.before.before.before.before.before.before.before.before.before.before.put-tick.ensures.0 (rw c.before.before.before.before.before.before.before.before.beyond.ensures at c.before.before.before.before.before.before.before.put-field.ensures.0)) c.before.before.put-text.ensures) (spare_long c.before.before.before.before.before.before.before.before.before.before.before.before.before.before.before.before.args.tick c.before.before.before.before.before.before.before.before.before.before.before.before.before.before.before.before.args.needs c.before.before.before.before.before.before.before.before.before.before.before.before.before.before.before.before.args.has (search rules) (search rules) (search rules))
 
 pub put-spare-spec : {M : Type 1} → statement M
 put-spare-spec =

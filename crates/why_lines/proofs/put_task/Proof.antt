@@ -1,5 +1,5 @@
 use Rattle.output.proofs.Put.{and_then}
-use Rattle.why_lines.specs.Lines.{taskWords}
+use Rattle.why_lines.specs.Lines.{task_words}
 use borrow.Author.Rules.{rules}
 use Rattle.why_lines.proofs.put_task.Statement.{statement}
 use Rattle.why_lines.proofs.put_task.Tie as tie
@@ -20,7 +20,7 @@ same_length : tie.Need-same-length
 same_length c = search rules
 
 returns : tie.Need-returns
-unfolding taskWords
+unfolding task_words
 returns c = (and_then c.before.before.before.before.before.before.before.put-field.ensures.0 c.before.before.put-field2.ensures.0, search rules)
 
 pub put-task-spec : {M : Type 1} → statement M

@@ -1,10 +1,10 @@
-use Rattle.why_page.proofs.Asked.{asked-other, asked-none, asked-one}
+use Rattle.why_page.proofs.Asked.{asked_other, asked-none, asked-one}
 use borrow.Author.Rules.{rules}
 use Rattle.why_page.proofs.place_asked.Statement.{statement}
 use Rattle.why_page.proofs.place_asked.Tie as tie
 
 returns : tie.Need-returns
-returns c = asked-other _ _ c.if1.true
+returns c = asked_other _ _ c.if1.true
 
 numeral-requires : tie.Need-numeral-requires
 numeral-requires c κs = search rules

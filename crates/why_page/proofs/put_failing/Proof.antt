@@ -1,5 +1,5 @@
 use Rattle.output.proofs.Put.{and_then}
-use Rattle.why_page.specs.Why.{failText}
+use Rattle.why_page.specs.Why.{fail_text}
 use borrow.Author.Rules.{rules}
 use Rattle.why_page.proofs.put_failing.Statement.{statement}
 use Rattle.why_page.proofs.put_failing.Tie as tie
@@ -29,7 +29,7 @@ same_length : tie.Need-same-length
 same_length c = search rules
 
 returns : tie.Need-returns
-unfolding failText
+unfolding fail_text
 returns c = let g = c.before.before.before.before.before.before.before.before.before.before.before.before.before.before.before.before.before.before.before.before.before.before.requires.1 in let f = g.few in (and_then (and_then (and_then (rw (c.before.before.before.before.before.before.before.before.before.before.before.before.before.before.before.before.wide.ensures, c.before.before.before.before.before.before.before.before.before.before.before.before.before.before.before.before.before.partition.ensures) at c.before.before.before.before.before.before.before.before.before.before.before.before.before.before.put-fails.ensures.0) c.before.before.before.before.before.before.before.before.before.before.put-names.ensures.0) (rw g.lines at c.before.before.before.before.before.before.put-lines.ensures.0)) (rw g.tight at c.before.before.put-short.ensures.0), search rules)
 
 pub put-failing-spec : {M : Type 1} → statement M

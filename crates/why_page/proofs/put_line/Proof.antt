@@ -1,4 +1,4 @@
-use Rattle.why_page.proofs.Lines.{line-is}
+use Rattle.why_page.proofs.Lines.{line_is}
 use borrow.Author.Rules.{rules}
 use Rattle.why_page.proofs.put_line.Statement.{statement}
 use Rattle.why_page.proofs.put_line.Tie as tie
@@ -58,7 +58,7 @@ same_length : tie.Need-same-length
 same_length c = search rules
 
 returns : tie.Need-returns
-returns c = (rw (← line-is c.before.before.before.before.before.before.before.before.before.before.before.before.before.before.args.tightest c.before.before.before.before.before.before.before.before.before.before.before.before.before.before.args.k c.before.before.before.before.before.before.before.before.before.before.before.before.before.before.args.rows.now c.before.before.before.before.before.before.before.before.before.before.wide32.result c.before.before.before.before.before.before.before.before.wide322.result c.before.before.before.before.before.before.wide323.result c.before.before.before.before.wide324.result c.before.before.before.before.before.before.before.before.before.before.wide32.ensures.1 c.before.before.before.before.before.before.before.before.wide322.ensures.1 c.before.before.before.before.before.before.wide323.ensures.1 c.before.before.before.before.wide324.ensures.1) c.before.before.put-row.ensures.0, search rules)
+returns c = (rw (← line_is c.before.before.before.before.before.before.before.before.before.before.before.before.before.before.args.tightest c.before.before.before.before.before.before.before.before.before.before.before.before.before.before.args.k c.before.before.before.before.before.before.before.before.before.before.before.before.before.before.args.rows.now c.before.before.before.before.before.before.before.before.before.before.wide32.result c.before.before.before.before.before.before.before.before.wide322.result c.before.before.before.before.before.before.wide323.result c.before.before.before.before.wide324.result c.before.before.before.before.before.before.before.before.before.before.wide32.ensures.1 c.before.before.before.before.before.before.before.before.wide322.ensures.1 c.before.before.before.before.before.before.wide323.ensures.1 c.before.before.before.before.wide324.ensures.1) c.before.before.put-row.ensures.0, search rules)
 
 pub put-line-spec : {M : Type 1} → statement M
 put-line-spec =

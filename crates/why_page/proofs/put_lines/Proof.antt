@@ -2,7 +2,7 @@ use mathlib.Core.Path.{◌≡◌, refl}
 use Prim.Native.Nat.{◌≤◌, ◌+◌, ◌-◌, ◌*◌}
 use lib.ListN.{length}
 use Rattle.output.specs.Put.{Put}
-use Rattle.rules.specs.Limits.{longestLine}
+use Rattle.rules.specs.Limits.{longest_line}
 use Rattle.rules.specs.Walk.{gathered}
 use Rattle.why_page.specs.Why.{line_of}
 use Rattle.output.proofs.Put.{lines_none, lines_more}
@@ -11,7 +11,7 @@ use Rattle.why_page.proofs.put_lines.Statement.{statement}
 use Rattle.why_page.proofs.put_lines.Tie as tie
 
 abbrev invariant-loop : tie.invariant-loop
-invariant-loop rows n tightest out₀ start at₀ k₀ out at k = (k ≤ n) × Put out₀ start (gathered (line_of tightest rows) k) at out × (at ≤ start + longestLine * k) × (length out ≡ length out₀)
+invariant-loop rows n tightest out₀ start at₀ k₀ out at k = (k ≤ n) × Put out₀ start (gathered (line_of tightest rows) k) at out × (at ≤ start + longest_line * k) × (length out ≡ length out₀)
 
 abbrev decreases-loop : tie.decreases-loop
 decreases-loop rows n tightest out₀ start at₀ k₀ out at k = n - k

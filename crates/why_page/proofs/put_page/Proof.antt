@@ -1,7 +1,7 @@
 use lib.ListN.{replicate, length-replicate}
 use Prim.Native.Nat.{ℕ}
-use Rattle.why_page.proofs.Paged.{paged-so}
-use Rattle.why_page.specs.Why.{mostNumbers}
+use Rattle.why_page.proofs.Paged.{paged_so}
+use Rattle.why_page.specs.Why.{most_numbers}
 use borrow.Author.Rules.{rules}
 use Rattle.why_page.proofs.put_page.Statement.{statement}
 use Rattle.why_page.proofs.put_page.Tie as tie
@@ -19,7 +19,7 @@ slice-aggregate-put-paged : tie.Need-slice-aggregate-put-paged
 slice-aggregate-put-paged c = search rules
 
 put-paged-requires : tie.Need-put-paged-requires
-put-paged-requires c κs = paged-so _ _ _ _ _ (replicate mostNumbers 0) _ _ (length-replicate {A = ℕ} mostNumbers 0) (search rules) (rw c.before.before.before.before.before.filed.ensures at c.before.before.before.page.ensures)
+put-paged-requires c κs = paged_so _ _ _ _ _ (replicate most_numbers 0) _ _ (length-replicate {A = ℕ} most_numbers 0) (search rules) (rw c.before.before.before.before.before.filed.ensures at c.before.before.before.page.ensures)
 
 same_length : tie.Need-same-length
 same_length c = search rules

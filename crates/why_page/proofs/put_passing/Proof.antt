@@ -1,5 +1,5 @@
 use Rattle.output.proofs.Put.{and_then}
-use Rattle.why_page.specs.Why.{passText}
+use Rattle.why_page.specs.Why.{pass_text}
 use borrow.Author.Rules.{rules}
 use Rattle.why_page.proofs.put_passing.Statement.{statement}
 use Rattle.why_page.proofs.put_passing.Tie as tie
@@ -23,7 +23,7 @@ same_length : tie.Need-same-length
 same_length c = search rules
 
 returns : tie.Need-returns
-unfolding passText
+unfolding pass_text
 returns c = (and_then (rw (c.before.before.before.before.before.before.before.before.wide.ensures, c.before.before.before.before.before.before.before.before.before.partition.ensures) at c.before.before.before.before.before.before.put-passes.ensures.0) c.before.before.put-spare.ensures.0, search rules)
 
 pub put-passing-spec : {M : Type 1} → statement M

@@ -3,7 +3,7 @@ use lib.Dec.{leb}
 use borrow.Author.Tests.{leb-true}
 use borrow.Author.Rules.{rules}
 use Rattle.rules.proofs.Tests.{and_parts}
-use Rattle.desk.specs.Table.{ends, jobOk}
+use Rattle.desk.specs.Table.{ends, job_ok}
 use Rattle.desk_reading.proofs.scan.listed_step.Statement.{statement}
 use Rattle.desk_reading.proofs.scan.listed_step.Tie as tie
 
@@ -16,7 +16,7 @@ sub-r c = search rules
 behind-it-requires : tie.Need-behind-it-requires
 behind-it-requires c κs =
     let j = c.before.before.before.before.before.args.j in
-    let ok = (and_parts (jobOk j) _ (sym c.before.before.follows_on.ensures ∙ c.before.if1.true)).0 in
+    let ok = (and_parts (job_ok j) _ (sym c.before.before.follows_on.ensures ∙ c.before.if1.true)).0 in
     let rest = (and_parts (leb 1 j.budget) _ ok).1 in
     leb-true _ _ (and_parts (leb (ends j) j.deadline) _ rest).0
 

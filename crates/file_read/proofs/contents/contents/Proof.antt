@@ -1,12 +1,12 @@
 use mathlib.Core.Path.{sym, ◌∙◌}
 use borrow.Author.Tests.{not-true, not-false}
-use Rattle.file_read.proofs.Reader.{read-1, read-2, read-counts}
+use Rattle.file_read.proofs.Reader.{read_1, read_2, read-counts}
 use borrow.Author.Rules.{rules}
 use Rattle.file_read.proofs.contents.contents.Statement.{statement}
 use Rattle.file_read.proofs.contents.contents.Tie as tie
 
 returns : tie.Need-returns
-returns c = read-1 _ c.if1.true
+returns c = read_1 _ c.if1.true
 
 head-number-requires : tie.Need-head-number-requires
 head-number-requires c κs = search rules
@@ -15,7 +15,7 @@ good-edition-requires : tie.Need-good-edition-requires
 good-edition-requires c κs = search rules
 
 returns-2 : tie.Need-returns-2
-returns-2 c = read-2 _ c.before.before.before.if1.false _ c.before.before.head-number.ensures.0 (sym c.before.good-edition.ensures ∙ not-true _ c.if2.true)
+returns-2 c = read_2 _ c.before.before.before.if1.false _ c.before.before.head-number.ensures.0 (sym c.before.good-edition.ensures ∙ not-true _ c.if2.true)
 
 head-number-requires-2 : tie.Need-head-number-requires-2
 head-number-requires-2 c κs = search rules

@@ -1,7 +1,7 @@
 use mathlib.Core.Path.{sym, ◌∙◌}
 use native.Mathlib.Omega.{arith}
 use borrow.Author.Tests.{not-true, not-false}
-use Rattle.file_read.proofs.Reader.{counts-3, counts-4, counts-5, counts-good}
+use Rattle.file_read.proofs.Reader.{counts_3, counts_4, counts_5, counts-good}
 use borrow.Author.Rules.{rules}
 use Rattle.file_read.proofs.contents.counts.Statement.{statement}
 use Rattle.file_read.proofs.contents.counts.Tie as tie
@@ -10,13 +10,13 @@ counts-right-requires : tie.Need-counts-right-requires
 counts-right-requires c κs = search rules
 
 returns : tie.Need-returns
-returns c = counts-3 _ _ _ _ _ _ _ _ _ (sym c.before.counts-right.ensures ∙ not-true _ c.if1.true)
+returns c = counts_3 _ _ _ _ _ _ _ _ _ (sym c.before.counts-right.ensures ∙ not-true _ c.if1.true)
 
 offsets-right-requires : tie.Need-offsets-right-requires
 offsets-right-requires c κs = search rules
 
 returns-2 : tie.Need-returns-2
-returns-2 c = counts-4 _ _ _ _ _ _ _ _ _ (sym c.before.before.before.counts-right.ensures ∙ not-false _ c.before.before.if1.false) (sym c.before.offsets-right.ensures ∙ not-true _ c.if2.true)
+returns-2 c = counts_4 _ _ _ _ _ _ _ _ _ (sym c.before.before.before.counts-right.ensures ∙ not-false _ c.before.before.if1.false) (sym c.before.offsets-right.ensures ∙ not-true _ c.if2.true)
 
 mul-numbers : tie.Need-overflow-mul-numbers
 mul-numbers c = search rules
@@ -40,7 +40,7 @@ add-if3 : tie.Need-overflow-add-if3
 add-if3 c = search rules
 
 returns-3 : tie.Need-returns-3
-returns-3 c = counts-5 _ _ _ _ _ _ _ _ _ (sym c.before.before.before.before.counts-right.ensures ∙ not-false _ c.before.before.before.if1.false) (sym c.before.before.offsets-right.ensures ∙ not-false _ c.before.if2.false) _ (omega arith) c.if3.true
+returns-3 c = counts_5 _ _ _ _ _ _ _ _ _ (sym c.before.before.before.before.counts-right.ensures ∙ not-false _ c.before.before.before.if1.false) (sym c.before.before.offsets-right.ensures ∙ not-false _ c.before.if2.false) _ (omega arith) c.if3.true
 
 returns-4 : tie.Need-returns-4
 returns-4 c = counts-good _ _ _ _ _ _ _ _ _ (sym c.before.before.before.before.counts-right.ensures ∙ not-false _ c.before.before.before.if1.false) (sym c.before.before.offsets-right.ensures ∙ not-false _ c.before.if2.false) _ (omega arith) c.if3.false

@@ -1,7 +1,7 @@
 use mathlib.Core.Path.{◌≡◌, ◌∙◌}
 use Rattle.file_read.specs.declared.Body.TheVariants.{Partitions, Tasks, Runs}
 use Rattle.file_read.specs.Reader.{read_of}
-use Rattle.file_read.proofs.Reader.{few, inside, read-loaded, few-read}
+use Rattle.file_read.proofs.Reader.{few, inside, read_loaded, few-read}
 use borrow.Author.Rules.{rules}
 use Rattle.file_read.proofs.load.load_file.Statement.{statement}
 use Rattle.file_read.proofs.load.load_file.Tie as tie
@@ -31,7 +31,7 @@ same-length-3 : tie.Need-same-length-3
 same-length-3 c = search rules
 
 returns : tie.Need-returns
-returns c = let e = c.before.before.before.before.before.before.before.before.before.before.before.before.before.before.before.before.contents.ensures in let p = rw e at c.before.before.before.before.before.before.before.before.before.before.before.before.before.before.load-body.ensures in let t = rw e at c.before.before.before.before.before.before.before.before.before.before.load-body2.ensures in let r = rw e at c.before.before.before.before.before.before.load-body3.ensures in let l = c.before.before.before.before.before.before.before.before.before.before.before.before.before.before.before.before.before.before.before.before.before.requires in let z : c.judge-loaded.result ≡ read_of c.before.before.before.before.before.before.before.before.before.before.before.before.before.before.before.before.before.before.before.before.before.args.file.now = rw e at c.judge-loaded.ensures ∙ read-loaded c.before.before.before.before.before.before.before.before.before.before.before.before.before.before.before.before.before.before.before.before.before.args.file.now c.before.before.before.before.before.before.before.before.before.before.before.before.before.before.before.before.before.before.before.before.before.args.parts.now c.before.before.before.before.before.before.before.before.before.before.before.before.before.before.before.before.before.before.before.before.before.args.tasks.now c.before.before.before.before.before.before.before.before.before.before.before.before.before.before.before.before.before.before.before.before.before.args.runs.now _ _ _ l.0 l.1 l.2 p t r in (z, (rw z (few-read c.before.before.before.before.before.before.before.before.before.before.before.before.before.before.before.before.before.before.before.before.before.args.file.now), (p, (t, r))))
+returns c = let e = c.before.before.before.before.before.before.before.before.before.before.before.before.before.before.before.before.contents.ensures in let p = rw e at c.before.before.before.before.before.before.before.before.before.before.before.before.before.before.load-body.ensures in let t = rw e at c.before.before.before.before.before.before.before.before.before.before.load-body2.ensures in let r = rw e at c.before.before.before.before.before.before.load-body3.ensures in let l = c.before.before.before.before.before.before.before.before.before.before.before.before.before.before.before.before.before.before.before.before.before.requires in let z : c.judge-loaded.result ≡ read_of c.before.before.before.before.before.before.before.before.before.before.before.before.before.before.before.before.before.before.before.before.before.args.file.now = rw e at c.judge-loaded.ensures ∙ read_loaded c.before.before.before.before.before.before.before.before.before.before.before.before.before.before.before.before.before.before.before.before.before.args.file.now c.before.before.before.before.before.before.before.before.before.before.before.before.before.before.before.before.before.before.before.before.before.args.parts.now c.before.before.before.before.before.before.before.before.before.before.before.before.before.before.before.before.before.before.before.before.before.args.tasks.now c.before.before.before.before.before.before.before.before.before.before.before.before.before.before.before.before.before.before.before.before.before.args.runs.now _ _ _ l.0 l.1 l.2 p t r in (z, (rw z (few-read c.before.before.before.before.before.before.before.before.before.before.before.before.before.before.before.before.before.before.before.before.before.args.file.now), (p, (t, r))))
 
 pub load-file-spec : {M : Type 1} → statement M
 load-file-spec =

@@ -3,7 +3,7 @@ use mathlib.Core.Path.{◌≡◌, sym, ap₂, ◌∙◌}
 use native.Mathlib.Omega.{arith}
 use Rattle.rules.specs.Walk.{largest}
 use Rattle.rules.specs.Table.{cycle, partitions}
-use Rattle.rules.proofs.Least.{largest-zero, largest-more}
+use Rattle.rules.proofs.Least.{largest-zero, largest_more}
 use Rattle.theory.specs.Harmonic.{frame}
 use borrow.Author.Rules.{rules}
 use Rattle.plan_build.proofs.table.frame.Statement.{statement}
@@ -37,7 +37,7 @@ loop-less : tie.Need-loop-smaller invariant-loop decreases-loop
 loop-less c = search rules
 
 loop-again : tie.Need-loop-preserved invariant-loop decreases-loop
-loop-again c = (search rules, omega (arith, c.larger.ensures), c.larger.ensures ∙ ap₂ max c.before.before.before.before.loop.invariant.2 (c.before.wide.ensures ∙ c.before.before.cycle.ensures) ∙ sym (largest-more _ _))
+loop-again c = (search rules, omega (arith, c.larger.ensures), c.larger.ensures ∙ ap₂ max c.before.before.before.before.loop.invariant.2 (c.before.wide.ensures ∙ c.before.before.cycle.ensures) ∙ sym (largest_more _ _))
 
 returns : tie.Need-returns invariant-loop decreases-loop
 unfolding frame

@@ -2,7 +2,7 @@ use Prim.Native.Nat.{◌+◌, ◌*◌}
 use native.Mathlib.Omega.{arith}
 use Rattle.rules.specs.Limits.{part_width}
 use Rattle.rules.specs.Terms.{wanted}
-use Rattle.plan_build.proofs.Sizes.{wanted-in-small, wanted-in-none, wanted-in-is}
+use Rattle.plan_build.proofs.Sizes.{wanted_in-small, wanted_in-none, wanted_in_is}
 use borrow.Author.Rules.{rules}
 use Rattle.plan_build.proofs.table.wanted_in.Statement.{statement}
 use Rattle.plan_build.proofs.table.wanted_in.Tie as tie
@@ -11,7 +11,7 @@ cycle-requires : tie.Need-cycle-requires
 cycle-requires c κs = search rules
 
 returns : tie.Need-returns
-returns c = let a = c.before.before.before.args in (search rules, wanted-in-none (wanted a.terms a.parts.now) a.parts.now a.h a.k _ c.before.cycle.ensures c.if1.true)
+returns c = let a = c.before.before.before.args in (search rules, wanted_in-none (wanted a.terms a.parts.now) a.parts.now a.h a.k _ c.before.cycle.ensures c.if1.true)
 
 wanted-requires : tie.Need-wanted-requires
 wanted-requires c κs = search rules
@@ -26,7 +26,7 @@ mul-result : tie.Need-overflow-mul-result
 mul-result c =
     let k = c.before.before.before.before.before.args.k in
     let small = c.before.before.before.before.shared-slice-known.given in
-    let s = wanted-in-small _ _ _ _ _ c.before.before.before.before.before.args.h c.wide.result (search rules) (omega (arith, small (part_width * k + 0))) (omega (arith, small (part_width * k + 1))) (omega (arith, small (part_width * k + 2))) (search rules) c.before.wanted.ensures in
+    let s = wanted_in-small _ _ _ _ _ c.before.before.before.before.before.args.h c.wide.result (search rules) (omega (arith, small (part_width * k + 0))) (omega (arith, small (part_width * k + 1))) (omega (arith, small (part_width * k + 2))) (search rules) c.before.wanted.ensures in
     omega (arith, s)
 
 returns-2 : tie.Need-returns-2
@@ -34,8 +34,8 @@ returns-2 c =
     let a = c.before.before.before.before.before.args in
     let k = a.k in
     let small = c.before.before.before.before.shared-slice-known.given in
-    let s = wanted-in-small _ _ _ _ _ c.before.before.before.before.before.args.h c.wide.result (search rules) (omega (arith, small (part_width * k + 0))) (omega (arith, small (part_width * k + 1))) (omega (arith, small (part_width * k + 2))) (search rules) c.before.wanted.ensures in
-    (s, wanted-in-is (wanted a.terms a.parts.now) a.parts.now a.h k _ c.before.before.before.cycle.ensures _ _ c.wide.ensures c.before.wanted.ensures)
+    let s = wanted_in-small _ _ _ _ _ c.before.before.before.before.before.args.h c.wide.result (search rules) (omega (arith, small (part_width * k + 0))) (omega (arith, small (part_width * k + 1))) (omega (arith, small (part_width * k + 2))) (search rules) c.before.wanted.ensures in
+    (s, wanted_in_is (wanted a.terms a.parts.now) a.parts.now a.h k _ c.before.before.before.cycle.ensures _ _ c.wide.ensures c.before.wanted.ensures)
 
 pub wanted-in-spec : {M : Type 1} → statement M
 wanted-in-spec =

@@ -1,6 +1,6 @@
 use mathlib.Core.Path.{sym, ◌∙◌}
-use Rattle.tables.proofs.Chain.{both-good}
-use Rattle.counts.proofs.Orders.{planned, sized, call-first, call_next}
+use Rattle.tables.proofs.Chain.{both_good}
+use Rattle.counts.proofs.Orders.{planned, sized, call_first, call_next}
 use borrow.Author.Rules.{rules}
 use Rattle.plan_counts.proofs.judging.judge_call.Statement.{statement}
 use Rattle.plan_counts.proofs.judging.judge_call.Tie as tie
@@ -18,13 +18,13 @@ enum_told : tie.Need-enum-told
 enum_told c = search rules
 
 judge-list-requires : tie.Need-judge-list-requires
-judge-list-requires c κs = let e = sym (rw c.before.before.before.judge-plan.ensures at c.before.before.first_found.ensures) ∙ c.enum_told.given.1 in sized _ _ (planned _ _ (both-good _ _ e).0)
+judge-list-requires c κs = let e = sym (rw c.before.before.before.judge-plan.ensures at c.before.before.first_found.ensures) ∙ c.enum_told.given.1 in sized _ _ (planned _ _ (both_good _ _ e).0)
 
 first-found-requires-2 : tie.Need-first-found-requires-2
 first-found-requires-2 c κs = search rules
 
 returns : tie.Need-returns
-returns c = call-first _ _ _ _ _ _ _ (sym (rw c.before.before.before.before.judge-plan.ensures at c.before.before.before.first_found.ensures) ∙ c.before.before2.given.1)
+returns c = call_first _ _ _ _ _ _ _ (sym (rw c.before.before.before.before.judge-plan.ensures at c.before.before.before.first_found.ensures) ∙ c.before.before2.given.1)
 
 returns-2 : tie.Need-returns-2
 returns-2 c = let e = sym (rw c.before.before.before.before.before.judge-plan.ensures at c.before.before.before.before.first_found.ensures) ∙ c.before.before.enum_told.given.1 in rw c.before.judge-list.ensures at c.first-found2.ensures ∙ call_next _ _ _ _ _ _ e

@@ -1,7 +1,7 @@
 use mathlib.Core.Path.{sym, ◌∙◌}
 use native.Mathlib.Omega.{arith}
 use lib.ListN.{length}
-use Rattle.counts.proofs.Orders.{small-list, list-short, list-room, list-differs, list-agrees}
+use Rattle.counts.proofs.Orders.{small-list, list-short, list-room, list-differs, list_agrees}
 use borrow.Author.Rules.{rules}
 use Rattle.plan_counts.proofs.judging.judge_list.Statement.{statement}
 use Rattle.plan_counts.proofs.judging.judge_list.Tie as tie
@@ -28,7 +28,7 @@ returns-3 : tie.Need-returns-3
 returns-3 c = list-differs _ c.before.before.before.before.before.before.before.before.args.parts.now _ _ _ c.before.before.before.before.partitions.ensures c.before.before.before.if1.false c.before.before.if2.false (sym c.before.differs.ensures ∙ c.if3.true)
 
 returns-4 : tie.Need-returns-4
-returns-4 c = list-agrees _ c.before.before.before.before.before.before.before.before.args.parts.now _ _ _ c.before.before.before.before.partitions.ensures c.before.before.before.if1.false c.before.before.if2.false (sym c.before.differs.ensures ∙ c.if3.false)
+returns-4 c = list_agrees _ c.before.before.before.before.before.before.before.before.args.parts.now _ _ _ c.before.before.before.before.partitions.ensures c.before.before.before.if1.false c.before.before.if2.false (sym c.before.differs.ensures ∙ c.if3.false)
 
 pub judge-list-spec : {M : Type 1} → statement M
 judge-list-spec =

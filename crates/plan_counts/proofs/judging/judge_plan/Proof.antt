@@ -1,5 +1,5 @@
 use mathlib.Core.Path.{sym, ◌∙◌}
-use Rattle.counts.proofs.Orders.{plan-refused, plan-next}
+use Rattle.counts.proofs.Orders.{plan_refused, plan_next}
 use borrow.Author.Rules.{rules}
 use Rattle.plan_counts.proofs.judging.judge_plan.Statement.{statement}
 use Rattle.plan_counts.proofs.judging.judge_plan.Tie as tie
@@ -20,10 +20,10 @@ judge-ticks-requires : tie.Need-judge-ticks-requires
 judge-ticks-requires c κs = search rules
 
 returns : tie.Need-returns
-returns c = plan-refused _ _ _ (sym (rw c.before.before.before.before.filed.ensures at c.before.before.before.judge-partitions.ensures) ∙ c.before.tables.given.1)
+returns c = plan_refused _ _ _ (sym (rw c.before.before.before.before.filed.ensures at c.before.before.before.judge-partitions.ensures) ∙ c.before.tables.given.1)
 
 returns-2 : tie.Need-returns-2
-returns-2 c = plan-next _ _ (sym (rw c.before.before.before.before.filed.ensures at c.before.before.before.judge-partitions.ensures) ∙ c.before.enum_told.given.1) _ c.judge-ticks.ensures
+returns-2 c = plan_next _ _ (sym (rw c.before.before.before.before.filed.ensures at c.before.before.before.judge-partitions.ensures) ∙ c.before.enum_told.given.1) _ c.judge-ticks.ensures
 
 pub judge-plan-spec : {M : Type 1} → statement M
 judge-plan-spec =

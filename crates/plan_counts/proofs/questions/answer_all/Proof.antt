@@ -7,14 +7,14 @@ use Rattle.rules.specs.Inner.{AsNamed}
 use Rattle.rules.proofs.Named.{named_none, named-turn, named_end}
 use Rattle.theory.specs.Plan.{service}
 use Rattle.theory.proofs.Plan.{held-le}
-use Rattle.counts.specs.Counts.{answerAt}
-use Rattle.counts.proofs.Asking.{answer-as}
+use Rattle.counts.specs.Counts.{answer_at}
+use Rattle.counts.proofs.Asking.{answer_as}
 use borrow.Author.Rules.{rules}
 use Rattle.plan_counts.proofs.questions.answer_all.Statement.{statement}
 use Rattle.plan_counts.proofs.questions.answer_all.Tie as tie
 
 abbrev invariant-loop : tie.invariant-loop
-invariant-loop plan list table answers₀ n k₀ answers k = (k ≤ n) × (length answers ≡ length answers₀) × AsNamed (answerAt plan table) k answers₀ answers
+invariant-loop plan list table answers₀ n k₀ answers k = (k ≤ n) × (length answers ≡ length answers₀) × AsNamed (answer_at plan table) k answers₀ answers
 
 abbrev decreases-loop : tie.decreases-loop
 decreases-loop plan list table answers₀ n k₀ answers k = n - k
@@ -50,7 +50,7 @@ loop-less : tie.Need-loop-smaller invariant-loop decreases-loop
 loop-less c = search rules
 
 loop-again : tie.Need-loop-preserved invariant-loop decreases-loop
-loop-again c = (search rules, simp length-set c.before.before.before.before.before.loop.invariant.1, named-turn _ _ _ _ _ _ c.before.before.before.before.before.loop.invariant.2 (search rules) refl (answer-as _ _ _ _ _ _ _ c.before.before.before.asked.ensures c.before.before.start.ensures c.before.span.ensures c.look_up.ensures))
+loop-again c = (search rules, simp length-set c.before.before.before.before.before.loop.invariant.1, named-turn _ _ _ _ _ _ c.before.before.before.before.before.loop.invariant.2 (search rules) refl (answer_as _ _ _ _ _ _ _ c.before.before.before.asked.ensures c.before.before.start.ensures c.before.span.ensures c.look_up.ensures))
 
 same_length : tie.Need-same-length invariant-loop decreases-loop
 same_length c = c.before.loop.invariant.1

@@ -3,15 +3,15 @@ use mathlib.Core.Path.{◌≡◌, ◌∙◌}
 use Rattle.rules.specs.Walk.{first, fails}
 use Rattle.rules.specs.declared.Refusal.TheVariants.{Asked}
 use Rattle.rules.proofs.First.{first-zero, first_more}
-use Rattle.tables.proofs.Chain.{lowest-found, lowest-end}
-use Rattle.counts.specs.Counts.{namesOne}
-use Rattle.counts.proofs.Asking.{names-as}
+use Rattle.tables.proofs.Chain.{lowest-found, lowest_end}
+use Rattle.counts.specs.Counts.{names_one}
+use Rattle.counts.proofs.Asking.{names_as}
 use borrow.Author.Rules.{rules}
 use Rattle.plan_counts.proofs.questions.judge_names.Statement.{statement}
 use Rattle.plan_counts.proofs.questions.judge_names.Tie as tie
 
 abbrev invariant-loop : tie.invariant-loop
-invariant-loop table parts n k₀ k = (k ≤ n) × (first (fails (namesOne parts table)) k ≡ k)
+invariant-loop table parts n k₀ k = (k ≤ n) × (first (fails (names_one parts table)) k ≡ k)
 
 abbrev decreases-loop : tie.decreases-loop
 decreases-loop table parts n k₀ k = n - k
@@ -32,7 +32,7 @@ add-t8 : tie.Need-overflow-add-t8 invariant-loop decreases-loop
 add-t8 c = search rules
 
 returns : tie.Need-returns invariant-loop decreases-loop
-returns c = lowest-found Asked _ _ _ (search rules) c.before.before.before.before.loop.invariant.1 (names-as _ _ _ _ _ c.before.before.asked.ensures c.before.good-name.ensures ∙ c.if1.true)
+returns c = lowest-found Asked _ _ _ (search rules) c.before.before.before.before.loop.invariant.1 (names_as _ _ _ _ _ c.before.before.asked.ensures c.before.good-name.ensures ∙ c.if1.true)
 
 add-k : tie.Need-overflow-add-k invariant-loop decreases-loop
 add-k c = search rules
@@ -41,10 +41,10 @@ loop-less : tie.Need-loop-smaller invariant-loop decreases-loop
 loop-less c = search rules
 
 loop-again : tie.Need-loop-preserved invariant-loop decreases-loop
-loop-again c = (search rules, first_more _ _ c.before.before.before.before.loop.invariant.1 (names-as _ _ _ _ _ c.before.before.asked.ensures c.before.good-name.ensures ∙ c.if1.false))
+loop-again c = (search rules, first_more _ _ c.before.before.before.before.loop.invariant.1 (names_as _ _ _ _ _ c.before.before.asked.ensures c.before.good-name.ensures ∙ c.if1.false))
 
 returns-2 : tie.Need-returns-2 invariant-loop decreases-loop
-returns-2 c = lowest-end Asked _ _ _ (search rules) (search rules) c.before.loop.invariant.1
+returns-2 c = lowest_end Asked _ _ _ (search rules) (search rules) c.before.loop.invariant.1
 
 pub judge-names-spec : {M : Type 1} → statement M
 judge-names-spec =

@@ -6,7 +6,7 @@ use Prim.Native.Nat.{ℕ, ◌+◌, ◌-◌, ◌*◌, ◌≤◌, ◌<◌}
 use Rattle.rules.specs.Walk.{round_up}
 use Rattle.rules.specs.Table.{wants}
 use Rattle.rules.proofs.Sum.{le-or-lt}
-use Rattle.rules.proofs.Round.{round-round}
+use Rattle.rules.proofs.Round.{round_round}
 use borrow.Author.Rules.{rules}
 use Rattle.rules.proofs.records.wants.Statement.{statement}
 use Rattle.rules.proofs.records.wants.Tie as tie
@@ -22,7 +22,7 @@ in_two g m n d h = go (le-or-lt g 0)
   where
     go : (g ≤ 0) ⊎ (0 < g) → round_up (round_up (n * m) d) g * g ≡ round_up (n * m) (d * g) * g
     go (inl l) = let z : g ≡ 0 = omega arith in rw z (mul-zero _ ∙ sym (mul-zero _))
-    go (inr l) = rw (round-round (n * m) d g h l)
+    go (inr l) = rw (round_round (n * m) d g h l)
 
 returns : tie.Need-returns
 unfolding wants round_up

@@ -1,4 +1,4 @@
-use Rattle.share_line.specs.Expected.{expectedLine}
+use Rattle.share_line.specs.Expected.{expected_line}
 use Rattle.output.proofs.Put.{and_then}
 use borrow.Author.Rules.{rules}
 use Rattle.share_line.proofs.expected.put_expected.Statement.{statement}
@@ -23,7 +23,7 @@ same_length : tie.Need-same-length
 same_length c = search rules
 
 returns : tie.Need-returns
-unfolding expectedLine
+unfolding expected_line
 returns c = let p = c.before.before.before.before.before.before.put-text.ensures.place in (and_then (and_then c.before.before.before.before.before.before.before.before.before.before.before.put-field.ensures.0 c.before.before.before.before.before.before.put-text.ensures) c.before.before.put-what.ensures.0, search rules)
 
 pub put-expected-spec : {M : Type 1} → statement M

@@ -1,4 +1,4 @@
-use Rattle.share_line.specs.Rows.{recordOf}
+use Rattle.share_line.specs.Rows.{record_of}
 use borrow.Author.Rules.{rules}
 use Rattle.share_line.proofs.rows.record_of.Statement.{statement}
 use Rattle.share_line.proofs.rows.record_of.Tie as tie
@@ -7,7 +7,7 @@ no-word-requires : tie.Need-no-word-requires
 no-word-requires c κs = search rules
 
 returns : tie.Need-returns
-unfolding recordOf
+unfolding record_of
 returns c = rw (← c.before.no_word.ensures, c.if1.true)
 
 slice-aggregate-begins-with : tie.Need-slice-aggregate-begins-with
@@ -23,7 +23,7 @@ granule-row-requires : tie.Need-granule-row-requires
 granule-row-requires c κs = search rules
 
 returns-2 : tie.Need-returns-2
-unfolding recordOf
+unfolding record_of
 returns-2 c = rw (← c.before.before.before.before.before.before.no_word.ensures, ← c.before.before.before.begins-with.ensures, c.before.before.before.before.before.if1.false, c.before.before.if2.true, ← c.before.after-word.ensures) c.granule-row.ensures
 
 slice-aggregate-begins-with-2 : tie.Need-slice-aggregate-begins-with-2
@@ -39,7 +39,7 @@ part-row-requires : tie.Need-part-row-requires
 part-row-requires c κs = search rules
 
 returns-3 : tie.Need-returns-3
-unfolding recordOf
+unfolding record_of
 returns-3 c = rw (← c.before.before.before.before.before.before.before.before.before.no_word.ensures, ← c.before.before.before.before.before.before.begins-with.ensures, ← c.before.before.before.begins-with2.ensures, c.before.before.before.before.before.before.before.before.if1.false, c.before.before.before.before.before.if2.false, c.before.before.if3.true, ← c.before.after-word2.ensures) c.part-row.ensures
 
 slice-aggregate-begins-with-3 : tie.Need-slice-aggregate-begins-with-3
@@ -55,11 +55,11 @@ task-row-requires : tie.Need-task-row-requires
 task-row-requires c κs = search rules
 
 returns-4 : tie.Need-returns-4
-unfolding recordOf
+unfolding record_of
 returns-4 c = rw (← c.before.before.before.before.before.before.before.before.before.before.before.before.no_word.ensures, ← c.before.before.before.before.before.before.before.before.before.begins-with.ensures, ← c.before.before.before.before.before.before.begins-with2.ensures, ← c.before.before.before.begins-with3.ensures, c.before.before.before.before.before.before.before.before.before.before.before.if1.false, c.before.before.before.before.before.before.before.before.if2.false, c.before.before.before.before.before.if3.false, c.before.before.if4.true, ← c.before.after-word3.ensures) c.task-row.ensures
 
 returns-5 : tie.Need-returns-5
-unfolding recordOf
+unfolding record_of
 returns-5 c = rw (← c.before.before.before.before.before.before.before.before.before.before.no_word.ensures, ← c.before.before.before.before.before.before.before.begins-with.ensures, ← c.before.before.before.before.begins-with2.ensures, ← c.before.begins-with3.ensures, c.before.before.before.before.before.before.before.before.before.if1.false, c.before.before.before.before.before.before.if2.false, c.before.before.before.if3.false, c.if4.false)
 
 pub record-of-spec : {M : Type 1} → statement M

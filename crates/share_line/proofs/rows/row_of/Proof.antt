@@ -7,11 +7,11 @@ use borrow.Author.Rules.{rules}
 use Rattle.share_words.specs.declared.Mark.TheVariants.{Comment}
 use Rattle.share_line.specs.declared.Row.{Row}
 use Rattle.share_words.specs.Words.{found}
-use Rattle.share_line.specs.Rows.{recordOf, row_of}
+use Rattle.share_line.specs.Rows.{record_of, row_of}
 use Rattle.share_line.proofs.rows.row_of.Statement.{statement}
 use Rattle.share_line.proofs.rows.row_of.Tie as tie
 
-row_is : (line : List ℕ) (e : ℕ) (row : Row) → e ≡ found Comment line → row ≡ recordOf (take e line) → row ≡ row_of line
+row_is : (line : List ℕ) (e : ℕ) (row : Row) → e ≡ found Comment line → row ≡ record_of (take e line) → row ≡ row_of line
 unfolding row_of
 row_is line e row h r = rw (← h) r
 

@@ -1,5 +1,5 @@
-use Rattle.share_line.specs.Rows.{taskRow}
-use Rattle.share_line.specs.Inner.{timesRow}
+use Rattle.share_line.specs.Rows.{task_row}
+use Rattle.share_line.specs.Inner.{times_row}
 use borrow.Author.Tests.{lt-ltb, le-ltb}
 use borrow.Author.Rules.{rules}
 use Rattle.share_line.proofs.rows.task_row.Statement.{statement}
@@ -9,7 +9,7 @@ first-number-requires : tie.Need-first-number-requires
 first-number-requires c κs = search rules
 
 returns : tie.Need-returns
-unfolding taskRow timesRow
+unfolding task_row times_row
 returns c = rw (← c.before.first-number.ensures, lt-ltb _ _ c.if1.true)
 
 after-word-requires : tie.Need-after-word-requires
@@ -19,7 +19,7 @@ first-number-requires-2 : tie.Need-first-number-requires-2
 first-number-requires-2 c κs = search rules
 
 returns-2 : tie.Need-returns-2
-unfolding taskRow timesRow
+unfolding task_row times_row
 returns-2 c = rw (← c.before.before.before.before.first-number.ensures, ← c.before.before.after-word.ensures, ← c.before.first-number2.ensures, le-ltb _ _ c.before.before.before.if1.false, lt-ltb _ _ c.if2.true)
 
 cast-times-row : tie.Need-overflow-cast-times-row
@@ -35,7 +35,7 @@ times-row-requires : tie.Need-times-row-requires
 times-row-requires c κs = search rules
 
 returns-3 : tie.Need-returns-3
-unfolding taskRow timesRow
+unfolding task_row times_row
 returns-3 c = rw (← c.before.before.before.before.before.before.first-number.ensures, ← c.before.before.before.before.after-word.ensures, ← c.before.before.before.first-number2.ensures, ← c.before.after-word2.ensures, le-ltb _ _ c.before.before.before.before.before.if1.false, le-ltb _ _ c.before.before.if2.false) c.times-row.ensures
 
 pub task-row-spec : {M : Type 1} → statement M

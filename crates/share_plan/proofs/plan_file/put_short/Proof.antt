@@ -1,5 +1,5 @@
 use Rattle.output.proofs.Put.{and_then}
-use Rattle.share_plan.specs.Answer.{shortLine}
+use Rattle.share_plan.specs.Answer.{short_line}
 use borrow.Author.Rules.{rules}
 use Rattle.share_plan.proofs.plan_file.put_short.Statement.{statement}
 use Rattle.share_plan.proofs.plan_file.put_short.Tie as tie
@@ -38,7 +38,7 @@ same_length : tie.Need-same-length
 same_length c = search rules
 
 returns : tie.Need-returns
-unfolding shortLine
+unfolding short_line
 returns c = let p = c.before.before.put-text.ensures.place in (and_then (and_then (and_then (and_then c.before.before.before.before.before.before.before.before.before.before.before.before.before.before.before.before.before.before.before.before.before.before.put-field.ensures.0 c.before.before.before.before.before.before.before.before.before.before.before.before.before.before.before.before.before.put-field2.ensures.0) c.before.before.before.before.before.before.before.before.before.before.before.before.put-field3.ensures.0) c.before.before.before.before.before.before.before.put-field4.ensures.0) c.before.before.put-text.ensures, search rules)
 
 pub put-short-spec : {M : Type 1} → statement M

@@ -1,4 +1,4 @@
-use Rattle.share_plan.proofs.Laws.{built-front, laid_out, not-laid}
+use Rattle.share_plan.proofs.Laws.{built_front, laid_out, not_laid}
 use lib.Seq.{length-take-le}
 use mathlib.Core.Path.{refl, sym, ◌∙◌}
 use borrow.Author.Rules.{rules}
@@ -15,13 +15,13 @@ enum-known-built : tie.Need-enum-known-built
 enum-known-built c = search rules
 
 array-share-prefix-plan : tie.Need-array-share-prefix-plan
-array-share-prefix-plan c = (built-front _ _ _ _ _ _ refl c.before.before.before.before.build.ensures.0 c.before.before.before.before.build.ensures.1 c.before.built.given.1).inside
+array-share-prefix-plan c = (built_front _ _ _ _ _ _ refl c.before.before.before.before.build.ensures.0 c.before.before.before.before.build.ensures.1 c.before.built.given.1).inside
 
 slice-aggregate-write-checked : tie.Need-slice-aggregate-write-checked
-slice-aggregate-write-checked c = sym (length-take-le _ _ (built-front _ _ _ _ _ _ refl c.before.before.before.before.before.build.ensures.0 c.before.before.before.before.before.build.ensures.1 c.before.before.built.given.1).inside)
+slice-aggregate-write-checked c = sym (length-take-le _ _ (built_front _ _ _ _ _ _ refl c.before.before.before.before.before.build.ensures.0 c.before.before.before.before.before.build.ensures.1 c.before.before.built.given.1).inside)
 
 write-checked-requires : tie.Need-write-checked-requires
-write-checked-requires c κs = let f = built-front _ _ _ _ _ _ refl c.before.before.before.before.before.before.build.ensures.0 c.before.before.before.before.before.before.build.ensures.1 c.before.before.before.built.given.1 in rw (length-take-le _ _ f.inside) f.low
+write-checked-requires c κs = let f = built_front _ _ _ _ _ _ refl c.before.before.before.before.before.before.build.ensures.0 c.before.before.before.before.before.before.build.ensures.1 c.before.before.before.built.given.1 in rw (length-take-le _ _ f.inside) f.low
 
 enum-known-built-2 : tie.Need-enum-known-built-2
 enum-known-built-2 c = search rules
@@ -30,10 +30,10 @@ same_length : tie.Need-same-length
 same_length c = search rules
 
 returns : tie.Need-returns
-returns c = laid_out _ _ _ _ (built-front _ _ _ _ _ _ refl c.before.before.before.before.before.before.before.before.before.build.ensures.0 c.before.before.before.before.before.before.before.before.before.build.ensures.1 c.before.before.before.before.before.before.built.given.1) c.before.before.write_checked.ensures.0 c.before.before.write_checked.ensures.1
+returns c = laid_out _ _ _ _ (built_front _ _ _ _ _ _ refl c.before.before.before.before.before.before.before.before.before.build.ensures.0 c.before.before.before.before.before.before.before.before.before.build.ensures.1 c.before.before.before.before.before.before.built.given.1) c.before.before.write_checked.ensures.0 c.before.before.write_checked.ensures.1
 
 returns-2 : tie.Need-returns-2
-returns-2 c = (not-laid _ _ _ _ _ (sym c.before.before.before.before.build.ensures.0 ∙ c.before.built2.given.1), refl)
+returns-2 c = (not_laid _ _ _ _ _ (sym c.before.before.before.before.build.ensures.0 ∙ c.before.built2.given.1), refl)
 
 pub write-built-spec : {M : Type 1} → statement M
 write-built-spec =

@@ -1,4 +1,4 @@
-use Rattle.share_plan.specs.Answer.{writePlanOf}
+use Rattle.share_plan.specs.Answer.{write_plan_of}
 use mathlib.Core.Path.{refl, sym, ◌∙◌}
 use borrow.Author.Rules.{rules}
 use Rattle.share_plan.proofs.plan_file.write_plan.Statement.{statement}
@@ -20,11 +20,11 @@ same_length : tie.Need-same-length
 same_length c = search rules
 
 returns : tie.Need-returns
-unfolding writePlanOf
+unfolding write_plan_of
 returns c = (rw (sym c.before.before.before.before.before.before.judge-tables.ensures ∙ c.before.before.before.before.enum_told.given.1) c.before.before.write-built.ensures.0, c.before.before.write-built.ensures.1)
 
 returns-2 : tie.Need-returns-2
-unfolding writePlanOf
+unfolding write_plan_of
 returns-2 c = (rw (sym c.before.before.before.judge-tables.ensures ∙ c.before.judged.given.1), refl)
 
 pub write-plan-spec : {M : Type 1} → statement M

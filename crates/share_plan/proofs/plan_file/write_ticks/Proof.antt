@@ -1,4 +1,4 @@
-use Rattle.share_plan.proofs.Laws.{runs-put}
+use Rattle.share_plan.proofs.Laws.{runs_put_lem}
 use lib.Seq.{length-take-le}
 use mathlib.Core.Path.{refl, sym}
 use borrow.Author.Rules.{rules}
@@ -12,10 +12,10 @@ runs-of-requires : tie.Need-runs-of-requires
 runs-of-requires c κs = search rules
 
 array-share-prefix-runs : tie.Need-array-share-prefix-runs
-array-share-prefix-runs c = (runs-put _ _ _ _ c.before.before.before.before.before.before.before.requires refl c.before.runs_of.ensures).0
+array-share-prefix-runs c = (runs_put_lem _ _ _ _ c.before.before.before.before.before.before.before.requires refl c.before.runs_of.ensures).0
 
 slice-aggregate-write : tie.Need-slice-aggregate-write
-slice-aggregate-write c = sym (length-take-le _ _ (runs-put _ _ _ _ c.before.before.before.before.before.before.before.before.requires refl c.before.before.runs_of.ensures).0)
+slice-aggregate-write c = sym (length-take-le _ _ (runs_put_lem _ _ _ _ c.before.before.before.before.before.before.before.before.requires refl c.before.before.runs_of.ensures).0)
 
 write-requires : tie.Need-write-requires
 write-requires c κs = search rules
@@ -24,7 +24,7 @@ same_length : tie.Need-same-length
 same_length c = search rules
 
 returns : tie.Need-returns
-returns c = let f = runs-put _ _ _ _ c.before.before.before.before.before.before.before.before.before.before.before.before.requires refl c.before.before.before.before.before.before.runs_of.ensures in let w = c.before.before.write.ensures in rw (← f.1) (w.0, rw w.0 w.1)
+returns c = let f = runs_put_lem _ _ _ _ c.before.before.before.before.before.before.before.before.before.before.before.before.requires refl c.before.before.before.before.before.before.runs_of.ensures in let w = c.before.before.write.ensures in rw (← f.1) (w.0, rw w.0 w.1)
 
 pub write-ticks-spec : {M : Type 1} → statement M
 write-ticks-spec =

@@ -1,4 +1,4 @@
-use Rattle.share_text.proofs.Order.{line-is}
+use Rattle.share_text.proofs.Order.{line_is}
 use lib.Seq.{length-take-le}
 use mathlib.Core.Path.{sym}
 use borrow.Author.Rules.{rules}
@@ -24,7 +24,7 @@ row-of-requires : tie.Need-row-of-requires
 row-of-requires c κs = search rules
 
 returns : tie.Need-returns
-returns c = rw (← line-is c.before.before.before.before.before.args.text.now c.before.before.before.before.before.args.at c.before.before.find.result c.before.before.find.ensures.1) c.row_of.ensures
+returns c = rw (← line_is c.before.before.before.before.before.args.text.now c.before.before.before.before.before.args.at c.before.before.find.result c.before.before.find.ensures.1) c.row_of.ensures
 
 pub row-at-spec : {M : Type 1} → statement M
 row-at-spec =

@@ -3,7 +3,7 @@ use mathlib.Core.List.{List}
 use Prim.Native.Nat.{ℕ}
 use lib.ListN.{get_or}
 use Rattle.share_text.specs.declared.Kind.TheVariants.{Granules}
-use Rattle.share_text.specs.Table.{recordsOf}
+use Rattle.share_text.specs.Table.{records_of}
 use Rattle.share_text.proofs.Order.{granule-first}
 use borrow.Author.Rules.{rules}
 use Rattle.share_text.proofs.tables.granule_of.Statement.{statement}
@@ -22,7 +22,7 @@ wide-requires : tie.Need-wide-requires
 wide-requires c κs = search rules
 
 returns : tie.Need-returns
-returns c = c.wide.ensures ∙ ap (λ (l : List ℕ). get_or l 0 0) c.before.before.gather.ensures.bytes ∙ granule-first (recordsOf Granules c.before.before.before.before.before.args.text.now)
+returns c = c.wide.ensures ∙ ap (λ (l : List ℕ). get_or l 0 0) c.before.before.gather.ensures.bytes ∙ granule-first (records_of Granules c.before.before.before.before.before.args.text.now)
 
 pub granule-of-spec : {M : Type 1} → statement M
 granule-of-spec =

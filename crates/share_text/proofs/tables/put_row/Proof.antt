@@ -1,5 +1,5 @@
-use Rattle.share_text.proofs.Order.{nums-nothing, nums-wrong}
-use Rattle.output.proofs.Put.{put-none, put_one, and_then}
+use Rattle.share_text.proofs.Order.{nums_nothing, nums_wrong}
+use Rattle.output.proofs.Put.{put_none, put_one, and_then}
 use borrow.Author.Rules.{rules}
 use Rattle.share_text.proofs.tables.put_row.Statement.{statement}
 use Rattle.share_text.proofs.tables.put_row.Tie as tie
@@ -65,13 +65,13 @@ returns : tie.Need-returns
 returns c = (rw (c.before.before.before.before.enum_told.given.1, c.before.before.before.before.before.before.before.row.given.1) (put_one c.before.before.put-number.ensures.0 c.before.before.put-number.ensures.1), search rules)
 
 returns-2 : tie.Need-returns-2
-returns-2 c = (rw (c.enum-told2.given.1, c.before.before.before.row.given.1) (put-none _ _), search rules)
+returns-2 c = (rw (c.enum-told2.given.1, c.before.before.before.row.given.1) (put_none _ _), search rules)
 
 returns-3 : tie.Need-returns-3
-returns-3 c = (rw (c.enum-told3.given.1, c.before.before.before.row.given.1) (put-none _ _), search rules)
+returns-3 c = (rw (c.enum-told3.given.1, c.before.before.before.row.given.1) (put_none _ _), search rules)
 
 returns-4 : tie.Need-returns-4
-returns-4 c = (rw (c.enum-told4.given.1, c.before.before.before.row2.given.1) (put-none _ _), search rules)
+returns-4 c = (rw (c.enum-told4.given.1, c.before.before.before.row2.given.1) (put_none _ _), search rules)
 
 same-length-2 : tie.Need-same-length-2
 same-length-2 c = search rules
@@ -80,13 +80,13 @@ returns-5 : tie.Need-returns-5
 returns-5 c = (rw (c.before.before.before.before.enum-told5.given.1, c.before.before.before.before.before.before.before.row2.given.1) c.before.before.put_three.ensures.0, search rules)
 
 returns-6 : tie.Need-returns-6
-returns-6 c = (rw (c.enum-told6.given.1, c.before.before.before.row2.given.1) (put-none _ _), search rules)
+returns-6 c = (rw (c.enum-told6.given.1, c.before.before.before.row2.given.1) (put_none _ _), search rules)
 
 returns-7 : tie.Need-returns-7
-returns-7 c = (rw (c.enum-told7.given.1, c.before.before.before.row3.given.1) (put-none _ _), search rules)
+returns-7 c = (rw (c.enum-told7.given.1, c.before.before.before.row3.given.1) (put_none _ _), search rules)
 
 returns-8 : tie.Need-returns-8
-returns-8 c = (rw (c.enum-told8.given.1, c.before.before.before.row3.given.1) (put-none _ _), search rules)
+returns-8 c = (rw (c.enum-told8.given.1, c.before.before.before.row3.given.1) (put_none _ _), search rules)
 
 same-length-3 : tie.Need-same-length-3
 same-length-3 c = search rules
@@ -95,10 +95,10 @@ returns-9 : tie.Need-returns-9
 returns-9 c = (rw (c.before.before.before.before.before.before.before.before.enum-told9.given.1, c.before.before.before.before.before.before.before.before.before.before.before.row3.given.1) (and_then c.before.before.before.before.before.before.put-three2.ensures.0 (put_one c.before.before.put-number2.ensures.0 c.before.before.put-number2.ensures.1)), search rules)
 
 returns-10 : tie.Need-returns-10
-returns-10 c = (rw (c.enum-told10.given.1, nums-nothing c.before.before.before.args.kind) (put-none _ _), search rules)
+returns-10 c = (rw (c.enum-told10.given.1, nums_nothing c.before.before.before.args.kind) (put_none _ _), search rules)
 
 returns-11 : tie.Need-returns-11
-returns-11 c = (rw (c.enum-told11.given.1, nums-wrong c.before.before.before.args.kind) (put-none _ _), search rules)
+returns-11 c = (rw (c.enum-told11.given.1, nums_wrong c.before.before.before.args.kind) (put_none _ _), search rules)
 
 pub put-row-spec : {M : Type 1} → statement M
 put-row-spec =

@@ -1,11 +1,11 @@
-use Rattle.share_text.specs.Table.{readTextOf}
+use Rattle.share_text.specs.Table.{read_text_of}
 use borrow.Author.Tests.{lt-ltb, le-ltb}
 use borrow.Author.Rules.{rules}
 use Rattle.share_text.proofs.tables.read_of.Statement.{statement}
 use Rattle.share_text.proofs.tables.read_of.Tie as tie
 
 returns : tie.Need-returns
-unfolding readTextOf
+unfolding read_text_of
 returns c = rw (lt-ltb _ _ c.if1.true)
 
 first-wrong-requires : tie.Need-first-wrong-requires
@@ -21,11 +21,11 @@ sized-requires : tie.Need-sized-requires
 sized-requires c κs = search rules
 
 returns-2 : tie.Need-returns-2
-unfolding readTextOf
+unfolding read_text_of
 returns-2 c = rw (le-ltb _ _ c.before.before.before.before.if1.false, ← c.before.before.before.first-wrong.ensures, c.before.seen.given.1)
 
 returns-3 : tie.Need-returns-3
-unfolding readTextOf
+unfolding read_text_of
 returns-3 c = rw (le-ltb _ _ c.before.before.before.before.if1.false, ← c.before.before.before.first-wrong.ensures, c.before.enum_told.given.1) c.sized.ensures
 
 pub read-of-spec : {M : Type 1} → statement M

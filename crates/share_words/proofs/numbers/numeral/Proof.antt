@@ -1,4 +1,4 @@
-use Rattle.share_words.proofs.WordLaws.{numeral-none, numeral-odd, numeral-all}
+use Rattle.share_words.proofs.WordLaws.{numeral-none, numeral_odd, numeral-all}
 use borrow.Author.Rules.{rules}
 use Rattle.share_words.proofs.numbers.numeral.Statement.{statement}
 use Rattle.share_words.proofs.numbers.numeral.Tie as tie
@@ -10,7 +10,7 @@ find-requires : tie.Need-find-requires
 find-requires c κs = search rules
 
 returns-2 : tie.Need-returns-2
-returns-2 c = numeral-odd _ c.before.before.if1.false (rw c.before.find.ensures.1 at c.if2.true)
+returns-2 c = numeral_odd _ c.before.before.if1.false (rw c.before.find.ensures.1 at c.if2.true)
 
 value-of-requires : tie.Need-value-of-requires
 value-of-requires c κs = search rules

@@ -2,7 +2,7 @@ use lib.ListN.{length}
 use lib.Seq.{take_all}
 use Rattle.share_words.proofs.WordLaws.{digits_more}
 use Rattle.output.specs.Decimal.{value}
-use Rattle.share_words.specs.Words.{noNumber}
+use Rattle.share_words.specs.Words.{no_number}
 use lib.ListN.{take}
 use mathlib.Core.Path.{◌≡◌, refl}
 use Prim.Native.Nat.{◌≤◌, ◌-◌, min}
@@ -11,7 +11,7 @@ use Rattle.share_words.proofs.numbers.value_of.Statement.{statement}
 use Rattle.share_words.proofs.numbers.value_of.Tie as tie
 
 abbrev invariant-loop : tie.invariant-loop
-invariant-loop w n v₀ k₀ v k = (k ≤ n) × (v ≤ noNumber) × (v ≡ min (value (take k w) 0) noNumber)
+invariant-loop w n v₀ k₀ v k = (k ≤ n) × (v ≤ no_number) × (v ≡ min (value (take k w) 0) no_number)
 
 abbrev decreases-loop : tie.decreases-loop
 decreases-loop w n v₀ k₀ v k = n - k

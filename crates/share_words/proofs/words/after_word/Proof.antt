@@ -1,5 +1,5 @@
 use mathlib.Core.Path.{refl}
-use Rattle.share_words.proofs.WordLaws.{rest-is}
+use Rattle.share_words.proofs.WordLaws.{rest_is}
 use borrow.Author.Rules.{rules}
 use Rattle.share_words.proofs.words.after_word.Statement.{statement}
 use Rattle.share_words.proofs.words.after_word.Tie as tie
@@ -29,7 +29,7 @@ part-result-end : tie.Need-slice-bounds-result-end
 part-result-end c = search rules
 
 returns : tie.Need-returns
-returns c = rest-is c.before.before.before.before.before.args.l.now _ c.before.before.before.find.result c.before.width.result refl c.before.before.before.find.ensures.1 c.before.width.ensures.1
+returns c = rest_is c.before.before.before.before.before.args.l.now _ c.before.before.before.find.result c.before.width.result refl c.before.before.before.find.ensures.1 c.before.width.ensures.1
 
 pub after-word-spec : {M : Type 1} → statement M
 after-word-spec =

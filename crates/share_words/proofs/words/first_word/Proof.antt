@@ -1,6 +1,6 @@
 use lib.Seq.{length-take-le}
 use mathlib.Core.Path.{sym}
-use Rattle.share_words.proofs.WordLaws.{word-is}
+use Rattle.share_words.proofs.WordLaws.{word_is}
 use borrow.Author.Rules.{rules}
 use Rattle.share_words.proofs.words.first_word.Statement.{statement}
 use Rattle.share_words.proofs.words.first_word.Tie as tie
@@ -24,7 +24,7 @@ slice-aggregate-result : tie.Need-slice-aggregate-result
 slice-aggregate-result c = sym (length-take-le _ _ c.before.width.ensures.0)
 
 returns : tie.Need-returns
-returns c = word-is c.before.before.before.before.before.args.l.now c.before.before.before.find.result c.before.width.result c.before.before.before.find.ensures.1 c.before.width.ensures.1
+returns c = word_is c.before.before.before.before.before.args.l.now c.before.before.before.find.result c.before.width.result c.before.before.before.find.ensures.1 c.before.width.ensures.1
 
 pub first-word-spec : {M : Type 1} → statement M
 first-word-spec =

@@ -1,4 +1,4 @@
-use Rattle.share_words.proofs.WordLaws.{same-long, same_not, same-all, differs_at, agrees_at}
+use Rattle.share_words.proofs.WordLaws.{same-long, same_not, same-all, differs_at_lem, agrees_at_lem}
 use Rattle.share_words.specs.Words.{differs}
 use Rattle.rules.proofs.First.{first-zero, first_more, first_found, first_done}
 use Rattle.rules.specs.Walk.{first}
@@ -27,7 +27,7 @@ shared-slice-read-if2-2 : tie.Need-shared-slice-read-if2-2 invariant-loop decrea
 shared-slice-read-if2-2 c = search rules
 
 returns-2 : tie.Need-returns-2 invariant-loop decreases-loop
-returns-2 c = sym (same_not c.before.before.before.before.before.before.args.a.now c.before.before.before.before.before.before.args.b.now c.before.before.before.before.loop.k (search rules) (search rules) (first_found _ _ _ (search rules) c.before.before.before.before.loop.invariant.1 (differs_at _ _ _ c.if2.true)))
+returns-2 c = sym (same_not c.before.before.before.before.before.before.args.a.now c.before.before.before.before.before.before.args.b.now c.before.before.before.before.loop.k (search rules) (search rules) (first_found _ _ _ (search rules) c.before.before.before.before.loop.invariant.1 (differs_at_lem _ _ _ c.if2.true)))
 
 add-k : tie.Need-overflow-add-k invariant-loop decreases-loop
 add-k c = search rules
@@ -36,7 +36,7 @@ loop-less : tie.Need-loop-smaller invariant-loop decreases-loop
 loop-less c = search rules
 
 loop-again : tie.Need-loop-preserved invariant-loop decreases-loop
-loop-again c = (search rules, first_more _ _ c.before.before.before.before.loop.invariant.1 (agrees_at _ _ _ c.if2.false))
+loop-again c = (search rules, first_more _ _ c.before.before.before.before.loop.invariant.1 (agrees_at_lem _ _ _ c.if2.false))
 
 returns-3 : tie.Need-returns-3 invariant-loop decreases-loop
 returns-3 c = sym (same-all c.before.before.before.args.a.now c.before.before.before.args.b.now (search rules) (first_done _ _ _ c.before.loop.invariant.0 (search rules) c.before.loop.invariant.1))
