@@ -129,7 +129,7 @@ def turned(path):
 
 def all_files():
     for folder, _, files in os.walk("crates"):
-        if "/out" in folder:
+        if folder.endswith("/out") or "/out/" in folder:
             continue
         for name in sorted(files):
             if name.endswith((".rt", ".antt", ".edit")):

@@ -1,4 +1,6 @@
 // The answers as C is told them: a number and five values, made of what each crate answers; and what the desk is asked.
+#![tactic(auto)]
+
 ghost use Rattle.std.specs.Prelude.{◌≡◌};
 ghost use Rattle.rules.specs.Refusals.{told_finding, told_filling, told_holding};
 ghost use Rattle.task_verdict.specs.Verdict.{told_judged};

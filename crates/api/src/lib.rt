@@ -1,5 +1,7 @@
 // The one export crate: every entry over plain numbers and slices, for C and Rust. include/merkazobi.h
 // declares it.
+#![tactic(auto)]
+
 ghost use Rattle.rules.specs.Table.{WantsIs};
 ghost use Rattle.api.specs.Answers.{TellsHeld, TellsLeast, TellsCurve, TellsCheck, TellsBuild, TellsFill, TellsCounted, TellsMany, TellsChange, TellsVerdict, TellsPlain, TellsPage, TellsRead, TellsSection, TellsWrite, TellsList, TellsOpen, TellsRequest};
 

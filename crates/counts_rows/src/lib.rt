@@ -1,5 +1,7 @@
 // The list row by row: one partition's numbers, its count before each tick from 0 to F; filled, held against the plan, and
 // looked up.
+#![tactic(auto)]
+
 ghost use Rattle.std.specs.Prelude.{◌≡◌, ◌+◌, ◌-◌, ◌*◌, ◌^◌, ◌≤◌, ◌<◌, length};
 ghost use Rattle.rules.specs.Walk.{some, fails};
 ghost use Rattle.rules.specs.Limits.{longest};

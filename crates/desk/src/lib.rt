@@ -1,10 +1,12 @@
 // The desk's records: a job, what the caller keeps beside the table, what a call asks and what it answers.
 // The rules and what is proved of them are in specs/; there is no code here.
+#![tactic(auto)]
+
 use rules::Refusal;
 
 // A job: document 01's a, C, d, x.
 #[repr(C)]
-#[derive(Drop)]
+#[derive(Clone, Copy)]
 pub struct Job {
     pub start: u32,
     pub budget: u32,
@@ -14,14 +16,14 @@ pub struct Job {
 
 // What the caller keeps beside the table.
 #[repr(C)]
-#[derive(Drop)]
+#[derive(Clone, Copy)]
 pub struct Desk {
     pub clock: u32,
     pub count: u32,
 }
 
 // A request: document 01's t, C, d.
-#[derive(Drop)]
+#[derive(Clone, Copy)]
 pub struct Asked {
     pub time: u32,
     pub budget: u32,
@@ -29,14 +31,14 @@ pub struct Asked {
 }
 
 // What a call asks for.
-#[derive(Drop)]
+#[derive(Clone, Copy)]
 pub enum Ask {
     Open,
     Request(Asked),
 }
 
 // Taken: at this place, with this start.
-#[derive(Drop)]
+#[derive(Clone, Copy)]
 pub enum Answer {
     Opened,
     Taken(usize, u32),

@@ -8,7 +8,7 @@ use desk_records::numbers::{ALL_PLACES, less, numbers_ok};
 use rules::Refusal;
 
 // A call opens the desk, refuses and keeps all, refuses and drops the finished jobs, or takes the job in.
-#[derive(Drop)]
+#[derive(Clone, Copy)]
 pub enum Decision {
     Opens,
     Keeps(Refusal),

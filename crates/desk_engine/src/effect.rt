@@ -15,7 +15,7 @@ use rules::Refusal;
 use rules::limits::PLACES;
 
 // The answer, the record at exit, and what each writing pass begins with.
-#[derive(Drop)]
+#[derive(Clone, Copy)]
 pub struct Effect {
     pub answer: Answer,
     pub desk: Desk,

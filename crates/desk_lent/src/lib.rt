@@ -1,5 +1,7 @@
 // The desk over the caller's own memory: a lent table of jobs, and one small record of clock and count.
 // The passes walk the table where it lies; every decision is made by value.
+#![tactic(auto)]
+
 ghost use Rattle.std.specs.Prelude.{◌≡◌};
 ghost use Rattle.desk.specs.Call.{call_of, Leaves};
 ghost use Rattle.desk_reading.specs.Reading.{scanned};

@@ -9,7 +9,7 @@ use rules::{Binding, Explanation};
 
 // The lowest with its room, once a place has been gone past, and whether a listed job's deadline binds it. The first
 // such job is sought from the place on, `job` being the next one to look at until it is found.
-#[derive(Drop)]
+#[derive(Clone, Copy)]
 pub struct Best {
     pub place: u32,
     pub job: u32,

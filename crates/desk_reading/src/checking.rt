@@ -8,7 +8,7 @@ use desk_records::numbers::{earlier, wide};
 use desk_records::records::{end_of, job_ok};
 
 // Of the job before: its end, its own d - a - C, and its x; zeros in front of all. An opening looks at no x.
-#[derive(Drop)]
+#[derive(Clone, Copy)]
 pub struct Checking {
     pub opening: bool,
     pub end: u64,

@@ -9,7 +9,7 @@ use desk_records::records::is_none;
 
 // Right so far, listed jobs still to come, the check and the search, and the desk's record as it came.
 // Once a rule is broken all else is of no account.
-#[derive(Drop)]
+#[derive(Clone, Copy)]
 pub struct Scan {
     pub ok: bool,
     pub left: u32,

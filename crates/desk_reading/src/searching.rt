@@ -15,7 +15,7 @@ use rules::Explanation;
 // found, or the next one to try with the end of the job before it, which is place l once a job has a > d or none follows.
 // Behind the place: when the job there has to start at the latest, far off if there is none. And the roomiest place
 // gone past.
-#[derive(Drop)]
+#[derive(Clone, Copy)]
 pub struct Searching {
     pub time: u32,
     pub budget: u32,

@@ -1,5 +1,7 @@
 // The thin passes over the lent table of jobs: one that reads it, and three that write it.
 // What becomes of each job is decided by value, in desk_reading and desk_writing.
+#![tactic(auto)]
+
 ghost use Rattle.std.specs.Prelude.{◌≡◌};
 ghost use Rattle.desk_records.specs.Folds.{moved_up};
 ghost use Rattle.desk_writing.specs.Writing.{shifted, fitted_all};

@@ -8,7 +8,7 @@ use desk_records::records::{last_start, x_before};
 
 // How far the pass is, from the back: places still to leave alone, and when the job behind has to start at the latest,
 // far off if there is none. A still pass changes nothing.
-#[derive(Drop)]
+#[derive(Clone, Copy)]
 pub struct Fit {
     pub still: bool,
     pub wait: u32,

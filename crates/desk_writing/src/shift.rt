@@ -8,7 +8,7 @@ use desk_records::records::{moved_to, no_job};
 
 // How far the pass is: jobs still to leave alone, then jobs still to put down, the first of which is the one carried,
 // and the end of the job put down last. A still pass changes nothing.
-#[derive(Drop)]
+#[derive(Clone, Copy)]
 pub struct Shift {
     pub still: bool,
     pub before: u32,

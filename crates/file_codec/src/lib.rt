@@ -1,4 +1,6 @@
 // The plan file's numbers of two bytes, read and put.
+#![tactic(auto)]
+
 ghost use Rattle.std.specs.Prelude.{◌≡◌, ◌++◌, ◌+◌, ◌*◌, ◌/◌, ◌%◌, ◌≤◌, ◌<◌, min, length, get_or, set, drop};
 ghost use Rattle.rules.specs.Limits.{number_bytes};
 ghost use Rattle.file_codec.specs.Bytes.{nums_of, bytes_of};

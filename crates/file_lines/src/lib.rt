@@ -1,4 +1,6 @@
 // The lines of the listing: each is put from a place on, and the answer is the place behind it.
+#![tactic(auto)]
+
 ghost use Rattle.std.specs.Prelude.{◌+◌, ◌≤◌, ◌<◌, ◌^◌};
 ghost use Rattle.output.specs.Put.{Put};
 ghost use Rattle.rules.specs.Limits.{longest_line};

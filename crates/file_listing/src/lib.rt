@@ -1,4 +1,6 @@
 // The listing of a plan file: read and judged once, its plan checked once for all its tasks.
+#![tactic(auto)]
+
 ghost use Rattle.std.specs.Prelude.{◌≡◌, ◌≤◌, length};
 ghost use Rattle.rules.specs.Limits.{longest_listing};
 ghost use Rattle.rules.specs.Terms.{filed, rule_of, wanted};

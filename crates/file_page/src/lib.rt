@@ -1,5 +1,7 @@
 // The page of a plan that serves: lines put from a place on, as far as there is room; the answer is the place
 // behind them.
+#![tactic(auto)]
+
 ghost use Rattle.std.specs.Prelude.{◌+◌, ◌*◌, ◌≤◌, ◌<◌, ◌^◌, length};
 ghost use Rattle.rules.specs.Limits.{most_partitions, most_tasks, longest_line, longest_listing};
 ghost use Rattle.rules.specs.Walk.{gathered};

@@ -1,4 +1,6 @@
 // The reader: the contents, the bodies loaded and judged, and a body as a part of the file.
+#![tactic(auto)]
+
 ghost use Rattle.std.specs.Prelude.{◌≡◌};
 ghost use Rattle.file_read.specs.Reader.{read_of, Reads, body_at, HandsBack};
 
@@ -9,7 +11,7 @@ use rules::limits::{PART_NUMBERS, RUN_NUMBERS, TASK_NUMBERS};
 mod contents; // contents.rt: the first 16 bytes
 pub mod load; // load.rt: the bodies as tables, judged
 
-#[derive(Drop)]
+#[derive(Clone, Copy)]
 pub enum Reading {
     Contents {
         edition: usize,
@@ -21,7 +23,7 @@ pub enum Reading {
     Refused(Refusal),
 }
 
-#[derive(Drop)]
+#[derive(Clone, Copy)]
 pub enum Body {
     Partitions,
     Tasks,
@@ -29,7 +31,7 @@ pub enum Body {
 }
 
 // Where a body lies in the file.
-#[derive(Drop)]
+#[derive(Clone, Copy)]
 pub struct Stretch {
     pub offset: usize,
     pub end: usize,

@@ -1,4 +1,6 @@
 // A plan as runs and as ticks.
+#![tactic(auto)]
+
 ghost use Rattle.std.specs.Prelude.{◌≡◌, [], ◌∷◌, ◌+◌, ◌≤◌, ◌<◌, ◌^◌, replicate, eqb};
 ghost use Rattle.rules.specs.Walk.{pick};
 ghost use Rattle.output.specs.Put.{Put};

@@ -1,4 +1,6 @@
 // Run records, and what tells against the three tables of a file.
+#![tactic(auto)]
+
 ghost use Rattle.std.specs.Prelude.{◌≡◌, ◌<◌, ◌^◌, length};
 ghost use Rattle.file_tables.specs.Inner.{runs_counted, first_bad_run};
 ghost use Rattle.file_tables.specs.Runs.{run_owner, run_length, runs, reached, repeats, good_run, runs_judged, file_tables_of};

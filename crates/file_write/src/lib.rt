@@ -1,4 +1,6 @@
 // The writer: an edition, a frame and three tables as the bytes of a plan file.
+#![tactic(auto)]
+
 ghost use Rattle.std.specs.Prelude.{◌≡◌};
 ghost use Rattle.file_write.specs.Writer.{write_of, Writes};
 

@@ -1,4 +1,6 @@
 // Reads a plan file from standard input and writes its listing to standard output.
+#![tactic(auto)]
+
 ghost use Rattle.std.specs.Prelude.{◌≡◌, List, ℕ, ◌≤◌, ◌<◌, length, take};
 ghost use Rattle.rules.specs.Limits.{longest_file, longest_listing};
 ghost use Rattle.file_listing.specs.Listing.{listing_of};

@@ -12,12 +12,12 @@ use Rattle.rules.specs.Walk.{pick}
 use Rattle.rules.proofs.Sum.{le-or-lt}
 use Rattle.output.specs.Decimal.{digits, decimal, value}
 
-digits-fuel : (f g n : ℕ) → n ≤ f → n ≤ g → digits f n ≡ digits g n
+digits_fuel : (f g n : ℕ) → n ≤ f → n ≤ g → digits f n ≡ digits g n
 unfolding digits
-digits-fuel zero zero n hf hg = refl
-digits-fuel zero (suc g) n hf hg = rw (lt-ltb n 10 (omega arith))
-digits-fuel (suc f) zero n hf hg = rw (lt-ltb n 10 (omega arith))
-digits-fuel (suc f) (suc g) n hf hg = step (λ l. digits-fuel f g (n / 10) (omega arith) (omega arith)) (ltb n 10) refl
+digits_fuel zero zero n hf hg = refl
+digits_fuel zero (suc g) n hf hg = rw (lt-ltb n 10 (omega arith))
+digits_fuel (suc f) zero n hf hg = rw (lt-ltb n 10 (omega arith))
+digits_fuel (suc f) (suc g) n hf hg = step (λ l. digits_fuel f g (n / 10) (omega arith) (omega arith)) (ltb n 10) refl
   where
     step : (10 ≤ n → digits f (n / 10) ≡ digits g (n / 10)) → (b : Bool) → ltb n 10 ≡ b
         → pick b ((48 + n) ∷ []) (digits f (n / 10) ++ ((48 + n % 10) ∷ [])) ≡ pick b ((48 + n) ∷ []) (digits g (n / 10) ++ ((48 + n % 10) ∷ []))
@@ -29,10 +29,10 @@ unfolding decimal digits
 decimal-one zero h = refl
 decimal-one (suc n) h = rw (lt-ltb (suc n) 10 h)
 
-pub decimal-more : (n : ℕ) → 10 ≤ n → decimal n ≡ decimal (n / 10) ++ ((48 + n % 10) ∷ [])
+pub decimal_more : (n : ℕ) → 10 ≤ n → decimal n ≡ decimal (n / 10) ++ ((48 + n % 10) ∷ [])
 unfolding decimal digits
-decimal-more zero h = absurd (omega arith)
-decimal-more (suc n) h = rw (le-ltb (suc n) 10 h, digits-fuel n (suc n / 10) (suc n / 10) (omega arith) (omega arith))
+decimal_more zero h = absurd (omega arith)
+decimal_more (suc n) h = rw (le-ltb (suc n) 10 h, digits_fuel n (suc n / 10) (suc n / 10) (omega arith) (omega arith))
 
 -- ---- how long
 
@@ -40,26 +40,26 @@ unfoldable tens : ℕ → ℕ
 tens zero = 1
 tens (suc d) = 10 * tens d
 
-decimal-below : (d n : ℕ) → n < tens (suc d) → length (decimal n) ≤ suc d
+decimal_below : (d n : ℕ) → n < tens (suc d) → length (decimal n) ≤ suc d
 unfolding tens
-decimal-below zero n h = rw (decimal-one n h) (omega arith)
-decimal-below (suc d) n h = step (λ l. decimal-below d (n / 10) (omega arith)) (le-or-lt 10 n)
+decimal_below zero n h = rw (decimal-one n h) (omega arith)
+decimal_below (suc d) n h = step (λ l. decimal_below d (n / 10) (omega arith)) (le-or-lt 10 n)
   where
     step : (10 ≤ n → length (decimal (n / 10)) ≤ suc d) → (10 ≤ n) ⊎ (n < 10) → length (decimal n) ≤ suc (suc d)
-    step ih (inl l) = rw (decimal-more n l, length-append (decimal (n / 10)) ((48 + n % 10) ∷ [])) (omega (arith, ih l))
+    step ih (inl l) = rw (decimal_more n l, length-append (decimal (n / 10)) ((48 + n % 10) ∷ [])) (omega (arith, ih l))
     step ih (inr l) = rw (decimal-one n l) (omega arith)
 
 pub decimal-length : (n : ℕ) → n < 2 ^ 64 → length (decimal n) ≤ 20
 unfolding tens
-decimal-length n h = decimal-below 19 n (omega arith)
+decimal-length n h = decimal_below 19 n (omega arith)
 
-pub decimal-ten : (n : ℕ) → n < 10000000000 → length (decimal n) ≤ 10
+pub decimal_ten : (n : ℕ) → n < 10000000000 → length (decimal n) ≤ 10
 unfolding tens
-decimal-ten n h = decimal-below 9 n (omega arith)
+decimal_ten n h = decimal_below 9 n (omega arith)
 
-pub decimal-five : (n : ℕ) → n < 100000 → length (decimal n) ≤ 5
+pub decimal_five : (n : ℕ) → n < 100000 → length (decimal n) ≤ 5
 unfolding tens
-decimal-five n h = decimal-below 4 n (omega arith)
+decimal_five n h = decimal_below 4 n (omega arith)
 
 -- ---- the digits say the number, and the first of several is no 0
 
@@ -82,8 +82,8 @@ unfolding decimal
 decimal-value n = digits_value n n (omega arith)
 
 -- the first of appended lists
-head-append : (a b : List ℕ) (x : ℕ) (xs : List ℕ) → a ≡ x ∷ xs → a ++ b ≡ x ∷ (xs ++ b)
-head-append a b x xs e = rw e
+head_append : (a b : List ℕ) (x : ℕ) (xs : List ℕ) → a ≡ x ∷ xs → a ++ b ≡ x ∷ (xs ++ b)
+head_append a b x xs e = rw e
 
 digits-first : (f n : ℕ) → n ≤ f → 1 ≤ n → (d : ℕ) × (ds : List ℕ) × (49 ≤ d) × (digits f n ≡ d ∷ ds)
 unfolding digits
@@ -93,9 +93,9 @@ digits-first (suc f) n h l = step (λ k. digits-first f (n / 10) (omega arith) (
     step : (10 ≤ n → (d : ℕ) × (ds : List ℕ) × (49 ≤ d) × (digits f (n / 10) ≡ d ∷ ds)) → (b : Bool) → ltb n 10 ≡ b
         → (d : ℕ) × (ds : List ℕ) × (49 ≤ d) × (pick b ((48 + n) ∷ []) (digits f (n / 10) ++ ((48 + n % 10) ∷ [])) ≡ d ∷ ds)
     step ih true e = (48 + n, [], omega arith, refl)
-    step ih false e = let i = ih (ltb-false n 10 e) in (i.0, i.1 ++ ((48 + n % 10) ∷ []), i.2, head-append (digits f (n / 10)) ((48 + n % 10) ∷ []) i.0 i.1 i.3)
+    step ih false e = let i = ih (ltb-false n 10 e) in (i.0, i.1 ++ ((48 + n % 10) ∷ []), i.2, head_append (digits f (n / 10)) ((48 + n % 10) ∷ []) i.0 i.1 i.3)
 
 -- "without leading zeros": a number from 1 on begins with a digit from 1 on
-pub decimal-first : (n : ℕ) → 1 ≤ n → (d : ℕ) × (ds : List ℕ) × (49 ≤ d) × (decimal n ≡ d ∷ ds)
+pub decimal_first : (n : ℕ) → 1 ≤ n → (d : ℕ) × (ds : List ℕ) × (49 ≤ d) × (decimal n ≡ d ∷ ds)
 unfolding decimal
-decimal-first n l = digits-first n n (omega arith) l
+decimal_first n l = digits-first n n (omega arith) l

@@ -8,15 +8,15 @@ use native.Mathlib.Omega.{arith}
 use lib.ListN.{length, set, get_or, take, drop, length-append}
 use lib.Seq.{sets, sets-eq, take-suc, take_at, length-take-le}
 use Rattle.rules.specs.Walk.{gathered}
-use Rattle.rules.proofs.First.{gathered-zero, gathered-more}
+use Rattle.rules.proofs.First.{gathered-zero, gathered_more}
 use Rattle.output.specs.Put.{Put}
 
-sets-append : (a b l : List ℕ) (i : ℕ) → sets l i (a ++ b) ≡ sets (sets l i a) (i + length a) b
-sets-append [] b l i = rw (add-zero i)
-sets-append (x ∷ a) b l i = sets-append a b (set l i x) (suc i) ∙ (let e : suc i + length a ≡ i + suc (length a) = omega arith in rw e)
+sets_append : (a b l : List ℕ) (i : ℕ) → sets l i (a ++ b) ≡ sets (sets l i a) (i + length a) b
+sets_append [] b l i = rw (add-zero i)
+sets_append (x ∷ a) b l i = sets_append a b (set l i x) (suc i) ∙ (let e : suc i + length a ≡ i + suc (length a) = omega arith in rw e)
 
-pub put-none : (l : List ℕ) (i : ℕ) → Put l i [] i l
-put-none l i = record { place = sym (add-zero i); bytes = refl }
+pub put_none : (l : List ℕ) (i : ℕ) → Put l i [] i l
+put_none l i = record { place = sym (add-zero i); bytes = refl }
 
 pub put_one : {l o : List ℕ} {i x r : ℕ} → r ≡ i + 1 → o ≡ set l i x → Put l i (x ∷ []) r o
 put_one p b = record { place = p; bytes = b }
@@ -24,28 +24,28 @@ put_one p b = record { place = p; bytes = b }
 pub and_then : {l m o a b : List ℕ} {i j r : ℕ} → Put l i a j m → Put m j b r o → Put l i (a ++ b) r o
 and_then {l} {m} {o} {a} {b} {i} {j} {r} p q = record {
   place = rw (length-append a b) (omega (arith, p.place, q.place));
-  bytes = rw (sets-append a b l i, ← p.bytes, ← p.place) q.bytes;
+  bytes = rw (sets_append a b l i, ← p.bytes, ← p.place) q.bytes;
 }
 
 -- lines one behind the other: none, and one more
 pub lines_none : (f : ℕ → List ℕ) (l : List ℕ) (i : ℕ) → Put l i (gathered f 0) i l
-lines_none f l i = rw (gathered-zero f) (put-none l i)
+lines_none f l i = rw (gathered-zero f) (put_none l i)
 
 pub lines_more : {l m o : List ℕ} {i j r : ℕ} (f : ℕ → List ℕ) (k : ℕ) → Put l i (gathered f k) j m → Put m j (f k) r o → Put l i (gathered f (k + 1)) r o
-lines_more f k p q = rw (gathered-more f k) (and_then p q)
+lines_more f k p q = rw (gathered_more f k) (and_then p q)
 
 -- a loop's turn over a text: one more of it
-pub put-more : {o m : List ℕ} (l : List ℕ) (i : ℕ) (s : List ℕ) (k : ℕ) → k < length s → o ≡ sets l i (take k s) → m ≡ set o (i + k) (get_or s k 0) → m ≡ sets l i (take (k + 1) s)
-put-more {o} {m} l i s k h eo em =
+pub put_more : {o m : List ℕ} (l : List ℕ) (i : ℕ) (s : List ℕ) (k : ℕ) → k < length s → o ≡ sets l i (take k s) → m ≡ set o (i + k) (get_or s k 0) → m ≡ sets l i (take (k + 1) s)
+put_more {o} {m} l i s k h eo em =
     let n : length (take k s) ≡ k = length-take-le k s (omega arith) in
-    rw (add-one k, take-suc s k 0 h, sets-append (take k s) (get_or s k 0 ∷ []) l i, n, ← eo) em
+    rw (add-one k, take-suc s k 0 h, sets_append (take k s) (get_or s k 0 ∷ []) l i, n, ← eo) em
 
 -- into an output with room
 pub put_front : {l o s : List ℕ} {r : ℕ} → Put l 0 s r o → length s ≤ length l → o ≡ s ++ drop (length s) l
 put_front {l} {o} {s} p h = let z : 0 + length s ≡ length s = omega arith in p.bytes ∙ sets-eq s l 0 (omega arith) ∙ rw z
 
-pub put-taken : {l o s : List ℕ} {r : ℕ} → Put l 0 s r o → r ≤ length l → (r ≤ length o) × (take r o ≡ s)
-put-taken {l} {o} {s} {r} p h =
+pub put_taken : {l o s : List ℕ} {r : ℕ} → Put l 0 s r o → r ≤ length l → (r ≤ length o) × (take r o ≡ s)
+put_taken {l} {o} {s} {r} p h =
     let n : length s ≡ r = omega (arith, p.place) in
     let e : o ≡ s ++ drop (length s) l = put_front p (omega arith) in
     (rw (e, length-append s (drop (length s) l)) (omega arith), rw e (take_at s (drop (length s) l) r n))
@@ -60,7 +60,7 @@ rest_all l s = record { left = refl; count = omega arith }
 
 pub rest_more : {l s o m rest a : List ℕ} {i j : ℕ} → Rest l s i o (a ++ rest) → Put o i a j m → Rest l s j m rest
 rest_more {l} {s} {o} {m} {rest} {a} {i} {j} r p = record {
-  left = r.left ∙ sets-append a rest o i ∙ rw (← p.bytes, ← p.place);
+  left = r.left ∙ sets_append a rest o i ∙ rw (← p.bytes, ← p.place);
   count = r.count ∙ rw (length-append a rest) (omega (arith, p.place));
 }
 

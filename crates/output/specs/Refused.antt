@@ -6,5 +6,5 @@ use Rattle.output.specs.Text.{bytes}
 use Rattle.output.specs.Decimal.{decimal}
 
 -- "Any refusal prints only one line, as `refused 9`, with its number."
-unfoldable pub refusedLine : Refusal → List ℕ
-refusedLine r = bytes "refused " ++ decimal (told r).number ++ bytes "\n"
+unfoldable pub refused_line : Refusal → List ℕ
+refused_line r = bytes "refused " ++ decimal (told r).number ++ bytes "\n"

@@ -17,6 +17,6 @@ abbrev pub DecimalFirst : Type 0
 DecimalFirst = (n : ℕ) → 1 ≤ n → (d : ℕ) × (ds : List ℕ) × (code "1" ≤ d) × (decimal n ≡ d ∷ ds)
 
 pub record Proved : Type 0 where
-  pub one-put : OnePut
-  pub decimal-says : DecimalSays
-  pub decimal-first : DecimalFirst
+  pub one_put : OnePut
+  pub decimal_says : DecimalSays
+  pub decimal_first : DecimalFirst

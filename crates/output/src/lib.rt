@@ -1,11 +1,13 @@
 // What is put into a lent output from a place on, as far as there is room: numbers, text, decimals, and the line of a refusal.
+#![tactic(auto)]
+
 ghost use Rattle.std.specs.Prelude.{◌≡◌, ◌++◌, ◌+◌, ◌≤◌, ◌<◌, ◌^◌, length, set};
 ghost use Rattle.output.specs.Inner.{byte};
 ghost use Rattle.output.specs.Put.{Put};
 ghost use Rattle.output.specs.Text.{bytes};
 ghost use Rattle.output.specs.Decimal.{decimal};
-ghost use Rattle.output.specs.Refused.{refusedLine};
-ghost use Rattle.rules.specs.Limits.{longestLine};
+ghost use Rattle.output.specs.Refused.{refused_line};
+ghost use Rattle.rules.specs.Limits.{longest_line};
 
 use rules::Refusal;
 
@@ -91,7 +93,7 @@ pub fn put_field(out: &mut [u8], at: usize, text: &[u8], n: usize) -> usize
 fn put_refused(out: &mut [u8], at: usize, number: usize) -> usize
     requires { at < 2 ^ 40 }
     ensures { Put out.old at (bytes "refused " ++ decimal number ++ bytes "\n") result out.new
-        × (result ≤ at + longestLine) }
+        × (result ≤ at + longest_line) }
 {
     let a = put_field(out, at, b"refused ", number);
     put_text(out, a, b"\n")
@@ -99,8 +101,8 @@ fn put_refused(out: &mut [u8], at: usize, number: usize) -> usize
 
 // A refusal's line, at the start of the output; the answer is its length.
 pub fn put_refusal(out: &mut [u8], refusal: Refusal) -> usize
-    ensures { Put out.old 0 (refusedLine refusal) result out.new
-        × (result ≤ longestLine) }
+    ensures { Put out.old 0 (refused_line refusal) result out.new
+        × (result ≤ longest_line) }
 {
     let told = rules::tell(refusal);
     put_refused(out, 0, told.number)

@@ -1,5 +1,7 @@
 // Reads a share table from standard input and writes its plan file, or one line that says why there is none. A word is the
 // file's edition, 1 where there is none.
+#![tactic(auto)]
+
 ghost use Rattle.std.specs.Prelude.{◌≡◌, List, ℕ, ◌≤◌, ◌<◌, length, take};
 ghost use Rattle.rules.specs.Limits.{longest_file};
 ghost use Rattle.share_text.specs.Table.{longest_text};

@@ -1,4 +1,6 @@
 // The builder: the harmonic rule's plan, written into the caller's ticks.
+#![tactic(auto)]
+
 ghost use Rattle.std.specs.Prelude.{◌≡◌, ◌≤◌};
 ghost use Rattle.rules.specs.Limits.{most_granule, most_partitions};
 ghost use Rattle.rules.specs.Table.{partitions};

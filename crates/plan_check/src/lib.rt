@@ -1,4 +1,6 @@
 // The checker: whether every stretch of a plan holds what each partition wants.
+#![tactic(auto)]
+
 ghost use Rattle.std.specs.Prelude.{◌≡◌};
 ghost use Rattle.rules.specs.Terms.{rule_in, wanted};
 ghost use Rattle.plan_check.specs.Check.{scan_of, plan_check_of, Checks};

@@ -1,4 +1,6 @@
 // The running counts kept beside a plan: filled from it, asked for any stretch, and changed with it.
+#![tactic(auto)]
+
 ghost use Rattle.std.specs.Prelude.{◌≡◌, List, ℕ, ◌*◌, ◌^◌, ◌≤◌, ◌<◌, length, get_or, set};
 ghost use Rattle.rules.specs.Limits.{longest};
 ghost use Rattle.counts.specs.Counts.{row_width, fill_of, FillsCounts, HoldsOne, many_of, HoldsMany, change_of, Changes};

@@ -1,6 +1,8 @@
 // The curve of least service: least(0) .. least(n) of one partition, worked out together. A worst stretch can be taken to
 // start at the frame's first tick or right behind a run of ticks that serve the partition, so each of these starts is walked
 // once, for all lengths.
+#![tactic(auto)]
+
 ghost use Rattle.std.specs.Prelude.{◌≡◌, true, ◌+◌, ◌-◌, ◌%◌, ◌^◌, ◌≤◌, ◌<◌, length};
 ghost use Rattle.rules.specs.Inner.{AsNamed};
 ghost use Rattle.theory.specs.Plan.{held, least};

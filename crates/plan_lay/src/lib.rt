@@ -1,4 +1,6 @@
 // The harmonic rule's plan, laid into the caller's output turn by turn.
+#![tactic(auto)]
+
 ghost use Rattle.std.specs.Prelude.{◌≡◌, ◌+◌, ◌≤◌, ◌<◌, length, set, eqb};
 ghost use Rattle.rules.specs.Walk.{pick, only};
 ghost use Rattle.rules.specs.Table.{partitions};

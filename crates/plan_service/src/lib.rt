@@ -1,4 +1,6 @@
 // The service of a plan, by a rule of which owned ticks serve: what a stretch holds, and the least over all stretches.
+#![tactic(auto)]
+
 ghost use Rattle.std.specs.Prelude.{◌≡◌, ◌+◌, ◌%◌, ◌^◌, ◌≤◌, ◌<◌, eqb, length};
 ghost use Rattle.rules.specs.Walk.{only};
 ghost use Rattle.theory.specs.Plan.{service, held, HeldIs, least, LeastIs, worst_start};
@@ -108,7 +110,7 @@ pub fn held(edition: usize, plan: &[u16], p: u16, s: u32, n: u32) -> Holding
 
 // A stretch on the walk over starts: how many of its ticks serve some partition, and the place in the frame of the tick
 // behind it, which enters next. Its length stands there for the contracts alone.
-#[derive(Drop)]
+#[derive(Clone, Copy)]
 pub struct Stretch {
     pub start: usize,
     pub length: usize,

@@ -1,4 +1,6 @@
 // The rules that every call shares: limits, tables behind accessors, the terms of a call, and why it refuses.
+#![tactic(auto)]
+
 ghost use Rattle.std.specs.Prelude.{◌≡◌};
 ghost use Rattle.rules.specs.Refusals.{told, telling, placed, questioned, binding_kind, binding_job};
 ghost use Rattle.rules.specs.declared.Refusal.TheVariants.{NoPlace};
@@ -11,14 +13,14 @@ pub mod numbers; // numbers.rt: what numbers need everywhere
 pub mod records; // records.rt: the tables behind accessors, and ticks wanted
 
 // Which deadline binds the room of a place: the request's own, or that of a listed job, counted from 0 after dropping.
-#[derive(Drop)]
+#[derive(Clone, Copy)]
 pub enum Binding {
     Own,
     Listed(usize),
 }
 
 // Why no place has room: there is none at all, or the roomiest one, its room and what binds it.
-#[derive(Drop)]
+#[derive(Clone, Copy)]
 pub enum Explanation {
     Nowhere,
     Roomiest {
@@ -29,7 +31,7 @@ pub enum Explanation {
 }
 
 // Why a call refuses: document 01's table, from 1 to 18, and 20, 21 and 26 of document 02, by which 19 is gone.
-#[derive(Drop)]
+#[derive(Clone, Copy)]
 pub enum Refusal {
     Short,
     Edition,
@@ -62,7 +64,7 @@ pub enum Refusal {
 
 // A refusal as the paper tells it: its number, and what is returned beside it.
 #[repr(C)]
-#[derive(Drop)]
+#[derive(Clone, Copy)]
 pub struct Told {
     pub number: usize,
     pub first: usize,
@@ -73,35 +75,35 @@ pub struct Told {
 }
 
 // Which of the ticks that a partition owns serve it: all of them, or all but switch ticks.
-#[derive(Drop)]
+#[derive(Clone, Copy)]
 pub enum Rule {
     Own,
     Switching,
 }
 
 // The terms of a call: what is given with it besides its tables and its plan.
-#[derive(Drop)]
+#[derive(Clone, Copy)]
 pub struct Terms {
     pub edition: usize,
     pub granule: usize,
 }
 
 // What is found of a call's tables or its plan: nothing tells against them, or a refusal.
-#[derive(Drop)]
+#[derive(Clone, Copy)]
 pub enum Finding {
     Good,
     Refused(Refusal),
 }
 
 // How many of a lent output's elements a call fills from its start on, or why it refuses.
-#[derive(Drop)]
+#[derive(Clone, Copy)]
 pub enum Filling {
     Fills(usize),
     Refused(Refusal),
 }
 
 // How many ticks a stretch holds, or why a call refuses.
-#[derive(Drop)]
+#[derive(Clone, Copy)]
 pub enum Holding {
     Holds(usize),
     Refused(Refusal),

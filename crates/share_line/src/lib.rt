@@ -1,10 +1,12 @@
 // What one line of a share table says, and what is said of a line that is wrong.
+#![tactic(auto)]
+
 pub mod rows; // rows.rt: the record of a line, or what was expected in it first
 pub mod expected; // expected.rt: the line that says what was expected where
 
 // What was expected in a line: `granule`, `partition` or `task`, a number, `/`, or the line's end; or that a granule, where
 // it is given, comes once and before the partitions.
-#[derive(Drop)]
+#[derive(Clone, Copy)]
 pub enum What {
     Record,
     Number,
@@ -13,7 +15,7 @@ pub enum What {
     EarlyGranule,
 }
 
-#[derive(Drop)]
+#[derive(Clone, Copy)]
 pub enum Row {
     Nothing,
     Granule(u16),

@@ -1,4 +1,6 @@
 // From a share table as text to the bytes of its plan file, in the edition asked for, or to one line that says why there is none.
+#![tactic(auto)]
+
 ghost use Rattle.std.specs.Prelude.{◌≡◌, ◌≤◌, max, length};
 ghost use Rattle.rules.specs.Limits.{longest_line};
 ghost use Rattle.share_plan.specs.Answer.{Plans, edition_asked};

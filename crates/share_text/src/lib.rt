@@ -1,4 +1,6 @@
 // A share table as text: a line for each partition and each task, and one for the granule where it is given.
+#![tactic(auto)]
+
 ghost use Rattle.share_text.specs.Table.{ReadsText};
 
 use rules::Refusal;
@@ -10,7 +12,7 @@ mod tables; // tables.rt: the numbers of each kind
 
 pub const LONGEST_TEXT: usize = 65536; // in bytes
 
-#[derive(Drop)]
+#[derive(Clone, Copy)]
 pub enum Kind {
     Granules,
     Partitions,
@@ -18,14 +20,14 @@ pub enum Kind {
 }
 
 // Whether every line can be read; or the first that can't, from 1, and what was expected there.
-#[derive(Drop)]
+#[derive(Clone, Copy)]
 pub enum Seen {
     Good,
     Line { number: usize, what: What },
 }
 
 // The granule, and how many numbers each table has; or the first wrong line, from 1, and what was expected there.
-#[derive(Drop)]
+#[derive(Clone, Copy)]
 pub enum TableReading {
     Numbers {
         granule: usize,

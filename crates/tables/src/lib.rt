@@ -1,5 +1,7 @@
 // What tells against terms and tables: the limits, good records, and the one chain of the refusals 2, 3, 21, 6 and 7; and
 // against a plan's ticks: 8.
+#![tactic(auto)]
+
 ghost use Rattle.std.specs.Prelude.{◌≡◌, [], ◌<◌};
 ghost use Rattle.rules.specs.Walk.{fails};
 ghost use Rattle.rules.specs.Terms.{good_granule};

@@ -1,5 +1,7 @@
 // The point and the tick of every task of a table, partition by partition: one curve for each partition that has tasks, and
 // what its tasks ask, kept up from task to task.
+#![tactic(auto)]
+
 ghost use Rattle.std.specs.Prelude.{◌≡◌, ◌≤◌, ◌<◌, length};
 ghost use Rattle.rules.specs.Limits.{longest, most_tasks};
 ghost use Rattle.rules.specs.Inner.{AsNamed};

@@ -1,6 +1,8 @@
 // What tasks ask of the ticks that serve their partition, in lists by the number of ticks: number t of the curve is least(t),
 // number t of the asks is what the higher tasks of the partition ask of t ticks. With the task's own budget that is its
 // demand.
+#![tactic(auto)]
+
 ghost use Rattle.std.specs.Prelude.{◌≡◌, ◌+◌, ◌^◌, ◌≤◌, ◌<◌, length};
 ghost use Rattle.rules.specs.Inner.{AsNamed};
 ghost use Rattle.rules.specs.Limits.{longest};

@@ -1,5 +1,7 @@
 // The supplier's page: why a task fails. For each scheduling point what the task needs there, what it can be sure of, and
 // where the worst stretch of so many ticks starts; and the point at which it falls short by the least.
+#![tactic(auto)]
+
 ghost use Rattle.std.specs.Prelude.{◌≡◌, ◌&&◌, [], ◌∷◌, ◌+◌, ◌^◌, ◌≤◌, ◌<◌, leb, length};
 ghost use Rattle.rules.specs.Limits.{longest};
 ghost use Rattle.rules.specs.Walk.{pick, count, first_least};
@@ -21,7 +23,7 @@ use task_points::point_at;
 
 // What is said of a task: it passes at a point, or it fails, with so many rows, the point with the smallest shortage and
 // that shortage; or why a page is refused.
-#[derive(Drop)]
+#[derive(Clone, Copy)]
 pub enum Paged {
     Pass(usize),
     Fail {

@@ -1,4 +1,6 @@
 // The plain engine, to be followed with a pencil: every tick from 1 to the deadline is tried, in turn.
+#![tactic(auto)]
+
 ghost use Rattle.std.specs.Prelude.{◌≡◌, ◌+◌, ◌<◌, length};
 ghost use Rattle.rules.specs.Walk.{first};
 ghost use Rattle.theory.specs.Task.{task_tick};

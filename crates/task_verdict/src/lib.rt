@@ -1,4 +1,6 @@
 // The verdict: whether a task passes, by either engine. One that passes meets its deadline in every legal run.
+#![tactic(auto)]
+
 ghost use Rattle.std.specs.Prelude.{◌≡◌};
 ghost use Rattle.rules.specs.Terms.{rule_in, wanted};
 ghost use Rattle.task_verdict.specs.Verdict.{place_of, answerable_of, pass_at, Judges, JudgesPlainly};
@@ -6,7 +8,7 @@ ghost use Rattle.task_verdict.specs.Verdict.{place_of, answerable_of, pass_at, J
 use rules::{Finding, Refusal, Terms};
 
 // What is said of a task: it passes at a point or a tick, fails, or why a verdict is refused.
-#[derive(Drop)]
+#[derive(Clone, Copy)]
 pub enum Judged {
     Pass(usize),
     Fail,

@@ -1,4 +1,6 @@
 // Reads a plan file from standard input and writes the page of one of its tasks, which a word names by its number from 1.
+#![tactic(auto)]
+
 ghost use Rattle.std.specs.Prelude.{◌≡◌, List, ℕ, ◌≤◌, ◌<◌, length, take};
 ghost use Rattle.rules.specs.Limits.{longest_file, longest_why};
 ghost use Rattle.why_page.specs.Why.{why_of};

@@ -1,4 +1,6 @@
 // The lines of a task's page: each is put from a place on, and the answer is the place behind it.
+#![tactic(auto)]
+
 ghost use Rattle.std.specs.Prelude.{◌≡◌, ◌+◌, ◌-◌, ◌≤◌, ◌<◌, ◌^◌, length};
 ghost use Rattle.output.specs.Put.{Put};
 ghost use Rattle.output.specs.Decimal.{decimal};

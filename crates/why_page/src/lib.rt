@@ -1,4 +1,6 @@
 // The page of a task of a plan file, as text: at the start of an output, as far as there is room.
+#![tactic(auto)]
+
 ghost use Rattle.std.specs.Prelude.{◌≡◌, ◌+◌, ◌-◌, ◌*◌, ◌^◌, ◌≤◌, ◌<◌, length};
 ghost use Rattle.rules.specs.Limits.{longest, longest_line, longest_why};
 ghost use Rattle.rules.specs.Walk.{gathered};
@@ -52,7 +54,7 @@ fn put_lines(rows: &[u32], n: usize, tightest: usize, out: &mut [u8], start: usi
 }
 
 // What a task needs of some ticks, and what it can be sure of.
-#[derive(Drop)]
+#[derive(Clone, Copy)]
 struct Size {
     needs: usize,
     has: usize,

@@ -1,5 +1,5 @@
 use Rattle.output.proofs.Put.{put_one, and_then}
-use Rattle.output.proofs.Decimal.{decimal-one, decimal-more, decimal-length}
+use Rattle.output.proofs.Decimal.{decimal-one, decimal_more, decimal-length}
 use mathlib.Core.Path.{◌≡◌}
 use Prim.Native.Nat.{◌/◌}
 use native.Mathlib.Omega.{arith}
@@ -114,7 +114,7 @@ put-decimal-returns-2 : (t : ℕ) → put-decimal-lts.Need-returns-2 (
   put-decimal-below t,
   put-decimal.Post,
 ) (put-decimal-at t) put-decimal.Post
-put-decimal-returns-2 t c = rw (decimal-more c.before.before.before.before.before.before.before.before.before.before.before.args.n c.before.before.before.before.before.before.before.before.before.if1.false, ← c.before.before.before.digit2.ensures) (and_then c.before.before.before.before.before.before.before.put-decimal.ensures (put_one c.before.before.put-byte2.ensures.0 c.before.before.put-byte2.ensures.1))
+put-decimal-returns-2 t c = rw (decimal_more c.before.before.before.before.before.before.before.before.before.before.before.args.n c.before.before.before.before.before.before.before.before.before.if1.false, ← c.before.before.before.digit2.ensures) (and_then c.before.before.before.before.before.before.before.put-decimal.ensures (put_one c.before.before.put-byte2.ensures.0 c.before.before.put-byte2.ensures.1))
 
 pub +put-decimal-spec : {M : Type 1} → statement M
 +put-decimal-spec = close μ-put-decimal λ t. put-decimal-lts.spec (

@@ -1,4 +1,4 @@
-use Rattle.output.specs.Refused.{refusedLine}
+use Rattle.output.specs.Refused.{refused_line}
 use borrow.Author.Rules.{rules}
 use Rattle.output.proofs.put_refusal.Statement.{statement}
 use Rattle.output.proofs.put_refusal.Tie as tie
@@ -13,7 +13,7 @@ same_length : tie.Need-same-length
 same_length c = search rules
 
 returns : tie.Need-returns
-unfolding refusedLine
+unfolding refused_line
 returns c = (rw c.before.before.before.before.tell.ensures at c.before.before.Put-refused.ensures.0, search rules)
 
 pub put-refusal-spec : {M : Type 1} → statement M

@@ -1,4 +1,4 @@
-use Rattle.output.proofs.Put.{put-more}
+use Rattle.output.proofs.Put.{put_more}
 use lib.ListN.{length-set}
 use mathlib.Core.Path.{◌≡◌, refl, ◌∙◌, ap}
 use Prim.Native.Nat.{◌≤◌, ◌-◌}
@@ -34,7 +34,7 @@ loop-less : tie.Need-loop-smaller invariant-loop decreases-loop
 loop-less c = search rules
 
 loop-again : tie.Need-loop-preserved invariant-loop decreases-loop
-loop-again c = (search rules, put-more c.before.before.before.before.before.before.before.before.before.args.out.now c.before.before.before.before.before.before.before.before.before.args.at c.before.before.before.before.before.before.before.before.before.args.text.now c.before.before.before.before.before.before.loop.k (search rules) c.before.before.before.before.before.before.loop.invariant.1 c.before.before.put_byte.ensures.1, ap length c.before.before.put_byte.ensures.1 ∙ simp length-set c.before.before.before.before.before.before.loop.invariant.2)
+loop-again c = (search rules, put_more c.before.before.before.before.before.before.before.before.before.args.out.now c.before.before.before.before.before.before.before.before.before.args.at c.before.before.before.before.before.before.before.before.before.args.text.now c.before.before.before.before.before.before.loop.k (search rules) c.before.before.before.before.before.before.loop.invariant.1 c.before.before.put_byte.ensures.1, ap length c.before.before.put_byte.ensures.1 ∙ simp length-set c.before.before.before.before.before.before.loop.invariant.2)
 
 add-result : tie.Need-overflow-add-result invariant-loop decreases-loop
 add-result c = search rules
