@@ -16,6 +16,7 @@ use Rattle.desk.specs.Theorems.{Refuses, Running, BusyEnds}
 use Rattle.desk.proofs.Chain.{Chain, chain_low, kept_from}
 use Rattle.desk.proofs.Rules.{SoundAfter, good_of, good-kept, running, full, nowhere, Ending, same, dropped, taken, ending, request_sound, sound-unless}
 use Rattle.desk.proofs.Promise.{take-filled}
+use Rattle.rules.specs.declared.Refusal.TheVariants as refusal
 
 -- the first job left has not ended
 first-left : (t : ℕ) (l : List Job) (j : Job) (js : List Job) → kept t l ≡ j ∷ js → t < ends j
@@ -41,6 +42,25 @@ is_busy clock n l t c d o (dropped Busy (running b) late small) e = (b, refl)
 is_busy clock n l t c d o (dropped Full full late small) e = absurd (omega arith)
 is_busy clock n l t c d o (dropped (NoPlace _) (nowhere why is g f) late small) e = absurd (omega arith)
 is_busy clock n l t c d o (taken i s late small some due few g spot) e = absurd (omega arith)
+is_busy clock n l t c d _ (dropped refusal.Short x4 late small) e = elim x4 [ ]
+is_busy clock n l t c d _ (dropped refusal.Edition x5 late small) e = elim x5 [ ]
+is_busy clock n l t c d _ (dropped refusal.Limits x6 late small) e = elim x6 [ ]
+is_busy clock n l t c d _ (dropped refusal.Offset x7 late small) e = elim x7 [ ]
+is_busy clock n l t c d _ (dropped refusal.Length x8 late small) e = elim x8 [ ]
+is_busy clock n l t c d _ (dropped (refusal.Partition _) x10 late small) e = elim x10 [ ]
+is_busy clock n l t c d _ (dropped (refusal.Task _) x11 late small) e = elim x11 [ ]
+is_busy clock n l t c d _ (dropped (refusal.Tick _) x12 late small) e = elim x12 [ ]
+is_busy clock n l t c d _ (dropped (refusal.Asked _) x13 late small) e = elim x13 [ ]
+is_busy clock n l t c d _ (dropped (refusal.Shortfall _ _ _ _) x17 late small) e = elim x17 [ ]
+is_busy clock n l t c d _ (dropped refusal.Unharmonic x14 late small) e = elim x14 [ ]
+is_busy clock n l t c d _ (dropped refusal.Want x15 late small) e = elim x15 [ ]
+is_busy clock n l t c d _ (dropped refusal.Output x16 late small) e = elim x16 [ ]
+is_busy clock n l t c d _ (dropped refusal.Rules x17 late small) e = elim x17 [ ]
+is_busy clock n l t c d _ (dropped refusal.Numbers x18 late small) e = elim x18 [ ]
+is_busy clock n l t c d _ (dropped refusal.Past x19 late small) e = elim x19 [ ]
+is_busy clock n l t c d _ (dropped refusal.Counts x20 late small) e = elim x20 [ ]
+is_busy clock n l t c d _ (dropped refusal.Granule x21 late small) e = elim x21 [ ]
+is_busy clock n l t c d _ (dropped (refusal.Beyond _) x23 late small) e = elim x23 [ ]
 
 running_of : (t : ℕ) (l js : List Job) → kept t l ≡ js → busy t js ≡ true → Chain 0 js → SoundAfter (dropping t js Busy) → Running t (dropping t js Busy)
 running_of t l [] e b g s = absurd (true≢false (sym b))

@@ -26,6 +26,7 @@ use Rattle.desk.proofs.Spot.{Spot, early-late, right_tail, spot_start, spot_insi
 use Rattle.desk.proofs.Rules.{good_of, good-kept, fresh, running, full, nowhere, Ending, same, dropped, taken, ending, sound-unless, sound-taken}
 use Rattle.desk.proofs.Entries.{with_entry, Follow, line-entries, follow_insert, follow_open, entries_open, line_promise}
 use Rattle.desk.proofs.Still.{join_here}
+use Rattle.rules.specs.declared.Refusal.TheVariants as refusal
 
 -- A PLACE THAT IS FOUND KEEPS EVERY DEADLINE
 
@@ -199,6 +200,25 @@ module _ (clock n : ℕ) (l : List Job) (t c d : ℕ) where
             complete _ c d f.start 0 t js f.place f.arranged g right from f.joins f.keeps e,
       )
   sought right o nl (taken i s late small some due few g spot) = inl (refl, spot_fits t c d i js s some due g right spot)
+  sought right _ nl (dropped refusal.Short x4 late small) = elim x4 [ ]
+  sought right _ nl (dropped refusal.Edition x5 late small) = elim x5 [ ]
+  sought right _ nl (dropped refusal.Limits x6 late small) = elim x6 [ ]
+  sought right _ nl (dropped refusal.Offset x7 late small) = elim x7 [ ]
+  sought right _ nl (dropped refusal.Length x8 late small) = elim x8 [ ]
+  sought right _ nl (dropped (refusal.Partition _) x10 late small) = elim x10 [ ]
+  sought right _ nl (dropped (refusal.Task _) x11 late small) = elim x11 [ ]
+  sought right _ nl (dropped (refusal.Tick _) x12 late small) = elim x12 [ ]
+  sought right _ nl (dropped (refusal.Asked _) x13 late small) = elim x13 [ ]
+  sought right _ nl (dropped (refusal.Shortfall _ _ _ _) x17 late small) = elim x17 [ ]
+  sought right _ nl (dropped refusal.Unharmonic x14 late small) = elim x14 [ ]
+  sought right _ nl (dropped refusal.Want x15 late small) = elim x15 [ ]
+  sought right _ nl (dropped refusal.Output x16 late small) = elim x16 [ ]
+  sought right _ nl (dropped refusal.Rules x17 late small) = elim x17 [ ]
+  sought right _ nl (dropped refusal.Numbers x18 late small) = elim x18 [ ]
+  sought right _ nl (dropped refusal.Past x19 late small) = elim x19 [ ]
+  sought right _ nl (dropped refusal.Counts x20 late small) = elim x20 [ ]
+  sought right _ nl (dropped refusal.Granule x21 late small) = elim x21 [ ]
+  sought right _ nl (dropped (refusal.Beyond _) x23 late small) = elim x23 [ ]
 
   sought_of : NoLower (request_of clock n l t c d) → Sought (request_of clock n l t c d)
   sought_of nl =

@@ -167,7 +167,7 @@ module _ (t d : ℕ) (js : List Job) where
     breaks : (place room : ℕ) (binding : Binding) → Told place room binding → TickBreaks t d js place room binding
     breaks place room binding w =
         let all = roomy place room binding w in
-        let same : binding_at t d js place ≡ binding = subst (λ (p : ℕ). binding_at t d js p ≡ binding) w.place_is w.binding-is in
+        let same : binding_at t d js place ≡ binding = subst (λ (p : ℕ). binding_at t d js p ≡ binding) w.place_is w.binding_is in
         subst (λ (b : Binding). TickBreaks t d js place room b) same
         (subst (λ (k : ℕ). TickBreaks t d js place k (binding_at t d js place)) all.room_is (binds place all.inside))
 

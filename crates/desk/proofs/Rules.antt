@@ -29,6 +29,7 @@ use Rattle.desk.proofs.Check.{length-refit}
 use Rattle.desk.proofs.Afresh.{insert_right, refit_right}
 use Rattle.desk.proofs.Chain.{Chain, chain_low, chain_of, chain_ok, chain_kept, right_kept}
 use Rattle.desk.proofs.Spot.{Spot, found_spot, spot_near, chain_insert, length_insert, right_tail}
+use Rattle.rules.specs.declared.Refusal.TheVariants as refusal
 
 -- a table, count and clock that pass 13
 pub record Sound (clock n : ℕ) (l : List Job) : Type 0 where
@@ -153,6 +154,25 @@ module _ (clock n : ℕ) (l : List Job) (t c d : ℕ) (sound : Sound clock n l) 
   not_13 o (dropped Full full late small) e = omega arith
   not_13 o (dropped (NoPlace _) (nowhere why is g f) late small) e = omega arith
   not_13 o (taken i s late small some due few g spot) e = omega arith
+  not_13 _ (dropped refusal.Short x4 late small) e = elim x4 [ ]
+  not_13 _ (dropped refusal.Edition x5 late small) e = elim x5 [ ]
+  not_13 _ (dropped refusal.Limits x6 late small) e = elim x6 [ ]
+  not_13 _ (dropped refusal.Offset x7 late small) e = elim x7 [ ]
+  not_13 _ (dropped refusal.Length x8 late small) e = elim x8 [ ]
+  not_13 _ (dropped (refusal.Partition _) x10 late small) e = elim x10 [ ]
+  not_13 _ (dropped (refusal.Task _) x11 late small) e = elim x11 [ ]
+  not_13 _ (dropped (refusal.Tick _) x12 late small) e = elim x12 [ ]
+  not_13 _ (dropped (refusal.Asked _) x13 late small) e = elim x13 [ ]
+  not_13 _ (dropped (refusal.Shortfall _ _ _ _) x17 late small) e = elim x17 [ ]
+  not_13 _ (dropped refusal.Unharmonic x14 late small) e = elim x14 [ ]
+  not_13 _ (dropped refusal.Want x15 late small) e = elim x15 [ ]
+  not_13 _ (dropped refusal.Output x16 late small) e = elim x16 [ ]
+  not_13 _ (dropped Rules x17 late small) e = elim x17 [ ]
+  not_13 _ (dropped Numbers x18 late small) e = elim x18 [ ]
+  not_13 _ (dropped Past x19 late small) e = elim x19 [ ]
+  not_13 _ (dropped refusal.Counts x20 late small) e = elim x20 [ ]
+  not_13 _ (dropped refusal.Granule x21 late small) e = elim x21 [ ]
+  not_13 _ (dropped (refusal.Beyond _) x23 late small) e = elim x23 [ ]
 
   pub request_not_13 : (said (request_of clock n l t c d).answer).number ≡ 13 → ⊥
   request_not_13 = not_13 (request_of clock n l t c d) ending
