@@ -1,0 +1,16 @@
+use mathlib.Core.Path.{sym, ◌∙◌, ap, subst}
+use lib.ListN.{length}
+use Rattle.desk.specs.Call.{call_of}
+use Rattle.desk_reading.specs.Reading.{scanned}
+use Rattle.desk_reading.specs.declared.scan.Scan.{Scan}
+use Rattle.desk_engine.specs.declared.effect.Effect.{Effect}
+use Rattle.desk_engine.specs.Deciding.{effect_of}
+use Rattle.desk_engine.proofs.Whole.{Made, call_law}
+use Rattle.desk_lent.proofs.call.Goals as goal
+
+-- what the one reading pass decides is what the call leaves
+pub returns : goal.returns
+returns c =
+    let e = c.serve-r.ensures.0 ∙ ap (λ (v : Scan). effect_of (scanned v c.args.jobs.now)) c.scan_for-s.ensures in
+    let w = subst (λ (p : Effect). Made c.args.jobs.now p (call_of c.args.desk.now.clock c.args.desk.now.count c.args.jobs.now c.args.ask)) (sym e) (call_law c.args.desk.now c.args.jobs.now c.args.ask) in
+    (c.answer_of.ensures ∙ w.0, c.desk_of-e.ensures ∙ w.1, c.serve-r.ensures.1 ∙ w.2)

@@ -1,0 +1,18 @@
+use Prim.Native.Nat.{◌+◌, ◌-◌, ◌%◌, ◌≤◌}
+use mathlib.Core.Path.{◌≡◌}
+use lib.ListN.{length}
+use Rattle.rules.specs.Walk.{first}
+use Rattle.theory.specs.Plan.{held, worst}
+use Rattle.plan_service.proofs.worst_start.Given as goal
+
+abbrev pub invariant-loop-stretch : goal.invariant-loop-stretch
+invariant-loop-stretch l = (l.stretch.start ≤ l.frame)
+    × (l.stretch.length ≡ l.t)
+    × (l.stretch.held ≡ held l.rule l.plan l.p l.stretch.length l.stretch.start)
+    × (l.stretch.enters ≡ (l.stretch.start + l.stretch.length) % l.frame)
+    × (first (worst l.rule l.plan l.p l.t) l.stretch.start ≡ l.stretch.start)
+
+
+abbrev pub decreases-loop-stretch : goal.decreases-loop-stretch
+decreases-loop-stretch l = l.frame - l.stretch.start
+

@@ -1,0 +1,8 @@
+use Rattle.output.proofs.Put.{and_then}
+use Rattle.why_lines.specs.Lines.{task_words}
+use borrow.Author.Rules.{rules}
+use Rattle.why_lines.proofs.put_task.Goals as goal
+
+pub returns : goal.returns
+unfolding task_words
+returns c = (and_then c.put_field-a.ensures.0 c.put_field.ensures.0, search rules)
