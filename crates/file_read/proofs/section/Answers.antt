@@ -1,0 +1,13 @@
+use Prim.Native.Nat.{◌≤◌}
+use lib.ListN.{length}
+use Rattle.file_read.specs.Reader.{section_of}
+use Rattle.file_read.proofs.Reader.{inside-read}
+use borrow.Author.Rules.{rules}
+use Rattle.file_read.proofs.section.Goals as goal
+
+pub slice_bounds-result-end : goal.slice_bounds-result-end
+slice_bounds-result-end c = let z = inside-read c.args.file.now c.args.which in let a : c.stretch_of-s.result.offset ≤ c.stretch_of-s.result.end = rw c.stretch_of-s.ensures z.in_order in let b : c.stretch_of-s.result.end ≤ length c.args.file.now = rw c.stretch_of-s.ensures z.in_file in search rules
+
+pub returns : goal.returns
+unfolding section_of
+returns c = rw c.stretch_of-s.ensures
