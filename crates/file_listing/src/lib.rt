@@ -29,7 +29,7 @@ fn put_checked(
     out: &mut [u8],
 ) -> usize
     requires good_records { GoodRecords parts.now table.now }
-    requires parts_value { check_of (filed edition) plan.now parts.now
+    requires judged { check_of (filed edition) plan.now parts.now
         ≡ scan_of (rule_of edition) (wanted (filed edition) parts.now) plan.now parts.now }
     ensures { Put out.old 0
         (tables_lines edition frame plan.now parts.now table.now) result out.new
@@ -92,7 +92,7 @@ pub fn compose(file: &[u8], out: &mut [u8]) -> usize
 // The listing of a file's bytes, at the start of the output. An output of LONGEST_LISTING bytes is long enough for any.
 pub fn listing(file: &[u8], out: &mut [u8]) -> Filling
     ensures lists { Lists file.now out.old out.new result }
-    ensures file_len_bound { length (listing_of file.now) ≤ longest_listing }
+    ensures fits { length (listing_of file.now) ≤ longest_listing }
 {
     let mut page = [0u8; LONGEST_LISTING];
     let n = compose(file, &mut page);

@@ -16,7 +16,7 @@ mod plan_file; // plan_file.rt: the plan file of two tables, or the line of its 
 // Puts what the program writes at the start of `out`, as far as there is room. The answer is its length.
 pub fn plan(edition: usize, text: &[u8], out: &mut [u8]) -> usize
     ensures plans { Plans edition text.now out.old out.new result }
-    ensures upper_bound { result ≤ max longest_line (length out.old) }
+    ensures fits { result ≤ max longest_line (length out.old) }
 {
     if !rules::good_edition(edition) {
         return put_refusal(out, Refusal::Edition);

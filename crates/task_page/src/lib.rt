@@ -122,7 +122,7 @@ fn put_point(
     at: usize,
 ) -> usize
     requires ready { Ready rule plan.now tasks.now i curve.now asks.now }
-    requires le_t { (1 ≤ t) × (t ≤ deadline tasks.now i) × (at < 2 ^ 32) }
+    requires in_reach { (1 ≤ t) × (t ≤ deadline tasks.now i) × (at < 2 ^ 32) }
     ensures { Put rows.old at (row_at rule plan.now tasks.now i t) result rows.new }
 {
     if point_at(asks, wide(rules::records::deadline(tasks, i)), t) {

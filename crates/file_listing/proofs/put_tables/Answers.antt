@@ -1,0 +1,14 @@
+use mathlib.Core.Path.{sym}
+use Prim.Native.Nat.{ℕ, ◌≤◌}
+use lib.ListN.{length, replicate, length-replicate}
+use lib.Seq.{length-take-le}
+use Rattle.rules.specs.Limits.{longest}
+use Rattle.file_runs.proofs.Loaded.{ticks-held}
+use borrow.Author.Rules.{rules}
+use Rattle.file_listing.proofs.put_tables.Goals as goal
+
+pub put_checked-requires : goal.put_checked-requires
+put_checked-requires c = let a = c.requires in record { good_records = a.records; judged = rw (ticks-held c.args.frame c.args.runs.now (replicate longest 0) _ _ c.requires.framed (length-replicate {A = ℕ} longest 0) c.ticks_of.ensures) a.judged }
+
+pub returns : goal.returns
+returns c = (rw (← ticks-held c.args.frame c.args.runs.now (replicate longest 0) _ _ c.requires.framed (length-replicate {A = ℕ} longest 0) c.ticks_of.ensures) c.put_checked.ensures.0, search rules)

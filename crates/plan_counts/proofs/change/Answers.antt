@@ -1,0 +1,11 @@
+use mathlib.Core.Path.{sym, ◌∙◌}
+use native.Mathlib.Omega.{arith}
+use Rattle.counts.proofs.Orders.{sized}
+use Rattle.counts.proofs.Changing.{recounts, changeable, row-long}
+use Rattle.plan_counts.proofs.change.Goals as goal
+
+pub give-requires : goal.give-requires
+give-requires c = let a = changeable _ c.args.parts.now _ _ _ (sym c.judge_change-found.ensures ∙ c.in-Good.is) in let z = sized _ _ a.plans in (a.inside, z.0, omega (arith, a.new_owner, z.1), row-long _ _ _ _ a.list_is a.new_owner, row-long _ _ _ _ a.list_is a.old_owner)
+
+pub returns-in-Good : goal.returns-in-Good
+returns-in-Good c = let a = changeable _ c.args.parts.now _ _ _ (sym c.judge_change-found.ensures ∙ c.in-Good.is) in (sym c.in-Good.is ∙ c.judge_change-found.ensures, c.give.ensures.0, recounts _ _ _ a.inside _ _ _ _ a.list_is a.old_owner a.new_owner (rw c.give.ensures.0 at c.give.ensures.1.1) (rw c.give.ensures.0 at c.give.ensures.1.2))

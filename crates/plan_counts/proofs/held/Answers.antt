@@ -1,0 +1,12 @@
+use mathlib.Core.Path.{sym, ◌∙◌}
+use Rattle.counts.proofs.Asking.{held-refused, held-holds, one_looks}
+use Rattle.plan_counts.proofs.held.Goals as goal
+
+pub look_up-requires : goal.look_up-requires
+look_up-requires c = one_looks _ c.args.parts.now _ _ _ _ (sym (rw (c.unless_good-within.ensures, c.unless_good-named.ensures, c.good_stretch.ensures, c.good_name.ensures, c.partitions.ensures) at c.judge_call-found.ensures) ∙ c.in-Good.is)
+
+pub returns-in-Refused : goal.returns-in-Refused
+returns-in-Refused c = held-refused _ c.args.parts.now _ _ _ _ _ (sym (rw (c.unless_good-within.ensures, c.unless_good-named.ensures, c.good_stretch.ensures, c.good_name.ensures, c.partitions.ensures) at c.judge_call-found.ensures) ∙ c.in-Refused.is)
+
+pub returns-in-Good : goal.returns-in-Good
+returns-in-Good c = held-holds _ c.args.parts.now _ _ _ _ (sym (rw (c.unless_good-within.ensures, c.unless_good-named.ensures, c.good_stretch.ensures, c.good_name.ensures, c.partitions.ensures) at c.judge_call-found.ensures) ∙ c.in-Good.is) _ c.look_up.ensures

@@ -1,0 +1,12 @@
+use Prim.Native.Nat.{◌+◌}
+use Rattle.rules.specs.Limits.{longest}
+use Rattle.task_demand.proofs.Asking.{zeros-all}
+use Rattle.why_page.proofs.Lines.{sized}
+use borrow.Author.Rules.{rules}
+use Rattle.why_page.proofs.size_at.Goals as goal
+
+pub draw_task-requires : goal.draw_task-requires
+draw_task-requires c = (c.requires.judgeable, zeros-all (longest + 1), search rules, search rules)
+
+pub returns : goal.returns
+returns c = sized _ _ _ _ _ c.args.i c.args.t _ _ _ _ c.requires c.draw_task.ensures c.budget.ensures c.wide.ensures c.wide32.ensures.1 c.wide32-has.ensures.1 (search rules) (search rules) (search rules)
