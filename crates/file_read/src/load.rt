@@ -59,7 +59,7 @@ fn load_body(file: &[u8], c: Reading, which: Body, table: &mut [u16])
 // What is read, where the tables of these contents are loaded.
 fn judge_loaded(c: Reading, parts: &[u16], tasks: &[u16], runs: &[u16]) -> Reading
     requires few { Few c }
-    requires parts_len { (length parts.now ≡ part_width * most_partitions)
+    requires lengths { (length parts.now ≡ part_width * most_partitions)
         × (length tasks.now ≡ task_width * most_tasks)
         × (length runs.now ≡ run_width * longest) }
     ensures { result ≡ loaded_by c parts.now tasks.now runs.now }

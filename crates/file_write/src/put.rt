@@ -47,7 +47,7 @@ pub fn put_file(
     out: &mut [u8],
 )
     requires small { Small edition frame (length parts.now) (length tasks.now) (length runs.now) }
-    requires runs_in_bounds { size_for parts.now tasks.now runs.now ≤ length out.old }
+    requires room { size_for parts.now tasks.now runs.now ≤ length out.old }
     ensures { out.new
         ≡ file_of edition frame parts.now tasks.now runs.now
         ++ drop (size_for parts.now tasks.now runs.now) out.old }
