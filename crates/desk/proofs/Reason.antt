@@ -8,7 +8,7 @@ use native.Mathlib.Omega.{arith}
 use lib.Dec.{leb}
 use lib.ListN.{length, take, drop, length-drop}
 use borrow.Author.Tests.{le-leb, lt-leb, le-ltb, lt-ltb, leb-true, leb-false, ltb-true, ltb-false}
-use Rattle.rules.specs.Walk.{pick, first}
+use Rattle.rules.specs.Walk.{pick}
 use Rattle.rules.specs.Limits.{places, latest}
 use Rattle.rules.specs.declared.Refusal.TheVariants.{NoPlace}
 use Rattle.rules.specs.declared.Binding.{Binding}

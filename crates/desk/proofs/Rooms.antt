@@ -8,7 +8,7 @@ use native.Mathlib.Omega.{arith}
 use lib.Dec.{leb, ltb}
 use lib.ListN.{length, take, drop, get_or}
 use borrow.Author.Tests.{lt-ltb, le-ltb, le-leb, lt-leb, ltb-true, ltb-false, leb-true, leb-false}
-use Rattle.rules.specs.Walk.{pick, largest}
+use Rattle.rules.specs.Walk.{pick}
 use Rattle.rules.proofs.First.{first-none, first_found, first_at, first-before, first-upto}
 use Rattle.rules.proofs.Least.{largest-le, largest_is}
 use Rattle.desk.specs.declared.Job.{Job}

@@ -6,7 +6,7 @@ use native.Mathlib.Omega.{arith}
 use lib.ListN.{length, take, drop}
 use borrow.Author.Tests.{lt-ltb, le-ltb}
 use Rattle.rules.specs.Walk.{Every}
-use Rattle.rules.specs.Table.{partitions, tasks, good_tick}
+use Rattle.rules.specs.Table.{partitions, good_tick}
 use Rattle.tables.specs.Tables.{GoodTables}
 use Rattle.rules.specs.declared.Refusal.TheVariants.{Tick, Output}
 use Rattle.tables.proofs.Chain.{good-lowest, without_tasks, unless_good_lem}

@@ -1,4 +1,3 @@
-use Prim.Native.Nat.{◌-◌}
 use mathlib.Core.Path.{◌∙◌}
 use Rattle.counts.proofs.Passes.{rows-turn}
 use borrow.Author.Rules.{rules}

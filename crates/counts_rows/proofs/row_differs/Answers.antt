@@ -1,4 +1,3 @@
-use Prim.Native.Nat.{◌-◌}
 use mathlib.Core.Path.{sym}
 use Rattle.rules.proofs.First.{first-zero, first_more, some_at}
 use Rattle.plan_service.proofs.Turns.{held_none}

@@ -9,7 +9,5 @@ use Rattle.counts_rows.proofs.row_differs.Given as goal
 abbrev pub invariant-loop-k : goal.invariant-loop-k
 invariant-loop-k l = (l.k ≤ l.f) × (l.h ≤ l.k) × (l.h ≡ held Own l.plan l.p l.k 0) × (first (differs_at l.plan l.list l.p) l.k ≡ l.k)
 
-
 abbrev pub decreases-loop-k : goal.decreases-loop-k
 decreases-loop-k l = l.f - l.k
-

@@ -1,4 +1,3 @@
-use mathlib.Core.Path.{◌≡◌}
 use Rattle.desk_engine.specs.Deciding.{applied}
 use Rattle.desk_lent.proofs.apply.Goals as goal
 

@@ -1,5 +1,4 @@
 use mathlib.Core.Path.{sym, ◌∙◌, ap, subst}
-use lib.ListN.{length}
 use Rattle.desk.specs.Call.{call_of}
 use Rattle.desk_reading.specs.Reading.{scanned}
 use Rattle.desk_reading.specs.declared.scan.Scan.{Scan}

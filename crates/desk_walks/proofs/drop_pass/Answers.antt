@@ -1,11 +1,11 @@
-use Prim.Native.Nat.{ℕ, ◌+◌, ◌<◌, ◌≤◌, max}
-use mathlib.Core.Path.{◌≡◌, refl, ap, sym, ◌∙◌}
+use Prim.Native.Nat.{ℕ, ◌+◌, ◌<◌, ◌≤◌}
+use mathlib.Core.Path.{◌≡◌, sym, ◌∙◌}
 use mathlib.Core.List.{List}
 use lib.ListN.{length, get_or, set}
 use native.Mathlib.Omega.{arith}
 use Rattle.desk.specs.Table.{none}
 use Rattle.desk.specs.declared.Job.{Job}
-use Rattle.desk_walks.proofs.Along.{move_at, move_at_zero, move_at_more, move_at_read, move_at_end, move_at_length}
+use Rattle.desk_walks.proofs.Along.{move_at, move_at_zero, move_at_more, move_at_read, move_at_end}
 use Rattle.desk_walks.proofs.drop_pass.Goals as goal
 
 -- the job at `from`, put at `to`, is the next of those moved

@@ -1,5 +1,5 @@
 use Prim.Native.Nat.{ℕ, ◌+◌, ◌-◌, ◌<◌, ◌≤◌}
-use mathlib.Core.Path.{◌≡◌, refl, ap, sym, ◌∙◌}
+use mathlib.Core.Path.{◌≡◌, ap, sym, ◌∙◌}
 use mathlib.Core.List.{List}
 use lib.ListN.{length, drop, get_or, set}
 use native.Mathlib.Omega.{arith}
@@ -31,12 +31,11 @@ pub loop-i-init : goal.loop-i-init
 loop-i-init c = (omega arith, sym (fold_back-start fit_step c.args.s c.args.jobs.now), sym (back_at_start fit_step fit_out c.args.s c.args.jobs.now))
 
 pub loop-i-preserved : goal.loop-i-preserved
-loop-i-preserved c =
-    (
-      omega arith,
-      c.fit_step-st.ensures ∙ steps c.args.s c.args.jobs.now c.loop-i.i c.loop-i.st c.loop-i.jobs c.loop-i-test.true c.loop-i.invariant.0 c.loop-i.invariant.1 c.loop-i.invariant.2,
-      ap (set c.loop-i.jobs (c.loop-i.i - 1)) c.fit_out-k.ensures ∙ puts c.args.s c.args.jobs.now c.loop-i.i c.loop-i.st c.loop-i.jobs c.loop-i-test.true c.loop-i.invariant.0 c.loop-i.invariant.1 c.loop-i.invariant.2,
-    )
+loop-i-preserved c = (
+  omega arith,
+  c.fit_step-st.ensures ∙ steps c.args.s c.args.jobs.now c.loop-i.i c.loop-i.st c.loop-i.jobs c.loop-i-test.true c.loop-i.invariant.0 c.loop-i.invariant.1 c.loop-i.invariant.2,
+  ap (set c.loop-i.jobs (c.loop-i.i - 1)) c.fit_out-k.ensures ∙ puts c.args.s c.args.jobs.now c.loop-i.i c.loop-i.st c.loop-i.jobs c.loop-i-test.true c.loop-i.invariant.0 c.loop-i.invariant.1 c.loop-i.invariant.2,
+)
 
 pub returns : goal.returns
 unfolding fitted_all

@@ -1,8 +1,6 @@
-use Prim.Native.Nat.{◌+◌, ◌≤◌}
-use mathlib.Core.Path.{◌≡◌, refl, ap, sym, ◌∙◌}
-use lib.ListN.{length, take}
+use mathlib.Core.Path.{◌≡◌, ap, sym, ◌∙◌}
+use lib.ListN.{length}
 use native.Mathlib.Omega.{arith}
-use Rattle.desk_records.specs.Folds.{fold}
 use Rattle.desk_reading.specs.Reading.{scanned, scan_step}
 use Rattle.desk_reading.specs.declared.scan.Scan.{Scan}
 use Rattle.desk_walks.proofs.Along.{fold-zero, fold_more, fold_end}

@@ -1,5 +1,5 @@
-use Prim.Native.Nat.{ℕ, ◌+◌, ◌<◌, ◌≤◌}
-use mathlib.Core.Path.{◌≡◌, refl, ap, sym, ◌∙◌}
+use Prim.Native.Nat.{ℕ, ◌+◌, ◌<◌}
+use mathlib.Core.Path.{◌≡◌, ap, sym, ◌∙◌}
 use mathlib.Core.List.{List}
 use lib.ListN.{length, take, get_or, set}
 use native.Mathlib.Omega.{arith}
@@ -28,8 +28,7 @@ loop-i-init c = (omega arith, sym (fold-zero shift_step c.args.s c.args.jobs.now
 
 pub loop-i-preserved : goal.loop-i-preserved
 loop-i-preserved c =
-    let h : c.loop-i.i < length c.args.jobs.now = omega (arith, c.loop-i-test.true, c.loop-i.auto.jobs) in
-    (
+    let h : c.loop-i.i < length c.args.jobs.now = omega (arith, c.loop-i-test.true, c.loop-i.auto.jobs) in (
       omega arith,
       c.shift_step-st.ensures ∙ steps c.args.s c.args.jobs.now c.loop-i.i c.loop-i.st c.loop-i.jobs h c.loop-i.invariant.1 c.loop-i.invariant.2,
       ap (set c.loop-i.jobs c.loop-i.i) c.shift_out-k.ensures ∙ puts c.args.s c.args.jobs.now c.loop-i.i c.loop-i.st c.loop-i.jobs h c.loop-i.invariant.1 c.loop-i.invariant.2,

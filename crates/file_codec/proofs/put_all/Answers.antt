@@ -1,5 +1,4 @@
 use mathlib.Core.Path.{◌≡◌, ap, ◌∙◌}
-use Prim.Native.Nat.{◌-◌}
 use lib.ListN.{length, length-set}
 use Rattle.file_codec.proofs.Bytes.{put_more, put_done}
 use borrow.Author.Rules.{rules}

@@ -1,8 +1,4 @@
 use native.Mathlib.Omega.{arith}
-use mathlib.Core.Path.{sym}
-use Prim.Native.Nat.{◌≤◌}
-use lib.ListN.{length}
-use lib.Seq.{length-take-le}
 use Rattle.file_listing.proofs.Tables.{listed-short, listed_text}
 use borrow.Author.Rules.{rules}
 use Rattle.file_listing.proofs.listing.Goals as goal

@@ -1,7 +1,5 @@
-use mathlib.Core.Path.{sym}
-use Prim.Native.Nat.{ℕ, ◌≤◌}
-use lib.ListN.{length, replicate, length-replicate}
-use lib.Seq.{length-take-le}
+use Prim.Native.Nat.{ℕ}
+use lib.ListN.{replicate, length-replicate}
 use Rattle.rules.specs.Limits.{longest}
 use Rattle.file_runs.proofs.Loaded.{ticks-held}
 use borrow.Author.Rules.{rules}

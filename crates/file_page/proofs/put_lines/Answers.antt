@@ -1,5 +1,4 @@
 use mathlib.Core.Path.{refl}
-use Prim.Native.Nat.{◌-◌}
 use Rattle.output.proofs.Put.{lines_none, lines_more}
 use borrow.Author.Rules.{rules}
 use Rattle.file_page.proofs.put_lines.Goals as goal

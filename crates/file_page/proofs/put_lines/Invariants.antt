@@ -10,7 +10,5 @@ use Rattle.file_page.proofs.put_lines.Given as goal
 abbrev pub invariant-loop-j : goal.invariant-loop-j
 invariant-loop-j l = (l.j ≤ l.n) × Put l.initial.out l.start (gathered (line_by l.table l.points l.ticks) l.j) l.at l.out × (l.at ≤ l.start + longest_line * l.j) × (length l.out ≡ length l.initial.out)
 
-
 abbrev pub decreases-loop-j : goal.decreases-loop-j
 decreases-loop-j l = l.n - l.j
-

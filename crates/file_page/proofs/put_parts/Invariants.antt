@@ -10,7 +10,5 @@ use Rattle.file_page.proofs.put_parts.Given as goal
 abbrev pub invariant-loop-k : goal.invariant-loop-k
 invariant-loop-k l = (l.k ≤ l.n) × Put l.initial.out l.start (gathered (part_line l.rule l.plan l.parts) l.k) l.at l.out × (l.at ≤ l.start + longest_line * l.k) × (length l.out ≡ length l.initial.out)
 
-
 abbrev pub decreases-loop-k : goal.decreases-loop-k
 decreases-loop-k l = l.n - l.k
-

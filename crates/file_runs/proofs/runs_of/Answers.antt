@@ -1,4 +1,3 @@
-use Prim.Native.Nat.{◌-◌}
 use Rattle.output.proofs.Put.{put_none}
 use Rattle.file_runs.proofs.Ticks.{runs_none, runs-empty, runs-some, runs-turn, runs_end}
 use borrow.Author.Rules.{rules}

@@ -1,11 +1,9 @@
 use mathlib.Core.Path.{ap}
 use mathlib.Core.Bool.{not}
 use mathlib.Core.Path.{sym, ◌∙◌}
-use Prim.Native.Nat.{◌-◌}
 use native.Mathlib.Omega.{arith}
 use Rattle.rules.proofs.First.{first-zero, first_more, first_found}
 use Rattle.rules.proofs.Sum.{sum-zero}
-use Rattle.file_tables.specs.Runs.{run_length, good_run}
 use Rattle.file_tables.proofs.Chain.{total_more, run_bad, run_good}
 use borrow.Author.Rules.{rules}
 use Rattle.file_tables.proofs.first_bad_run.Goals as goal

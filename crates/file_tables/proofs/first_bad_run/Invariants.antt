@@ -7,7 +7,5 @@ use Rattle.file_tables.proofs.first_bad_run.Given as goal
 abbrev pub invariant-loop-k : goal.invariant-loop-k
 invariant-loop-k l = (l.k ≤ l.n) × (first (fails (good_run l.parts l.frame l.table)) l.k ≡ l.k) × (l.total ≡ sum (run_length l.table) l.k) × (l.total ≤ 65536 * l.k)
 
-
 abbrev pub decreases-loop-k : goal.decreases-loop-k
 decreases-loop-k l = l.n - l.k
-

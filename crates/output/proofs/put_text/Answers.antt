@@ -1,7 +1,6 @@
 use Rattle.output.proofs.Put.{put_more}
 use lib.ListN.{length-set}
 use mathlib.Core.Path.{◌∙◌, ap}
-use Prim.Native.Nat.{◌-◌}
 use lib.ListN.{length}
 use borrow.Author.Rules.{rules}
 use Rattle.output.proofs.put_text.Goals as goal

@@ -16,15 +16,11 @@ invariant-loop-stretch l = (l.stretch.start ≤ l.f)
     × (l.stretch.enters ≡ (l.stretch.start + l.stretch.length) % l.f)
     × (first (short_at l.rule (wanted l.terms l.parts) l.plan l.parts l.k) l.stretch.start ≡ l.stretch.start)
 
-
 abbrev pub decreases-loop-stretch : goal.decreases-loop-stretch
 decreases-loop-stretch l = l.f - l.stretch.start
-
 
 abbrev pub invariant-scan : goal.invariant-scan
 invariant-scan l = (l.k ≤ l.n) × (l.found ≡ Good) × (first (short_in l.rule (wanted l.terms l.parts) l.plan l.parts) l.k ≡ l.k)
 
-
 abbrev pub decreases-scan : goal.decreases-scan
 decreases-scan l = l.n - l.k
-

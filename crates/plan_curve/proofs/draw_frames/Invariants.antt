@@ -13,7 +13,5 @@ invariant-loop-t l = (l.k ≤ l.t)
     × (l.k < l.n → (0 < l.f) × (l.k ≡ l.f + 1))
     × ((rule : Rule) → AsNamed (least rule l.plan l.p) l.k l.initial.list l.initial.list → AsNamed (least rule l.plan l.p) l.t l.initial.list l.list)
 
-
 abbrev pub decreases-loop-t : goal.decreases-loop-t
 decreases-loop-t l = l.n - l.t
-

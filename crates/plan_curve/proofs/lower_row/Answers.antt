@@ -13,11 +13,11 @@ loop-t-init c = (search rules, search rules, refl, rw c.requires.5 (held-le (ser
 
 pub loop-t-preserved : goal.loop-t-preserved
 loop-t-preserved c = let l = c.loop-t in (
-      search rules,
-      search rules,
-      simp length-set l.invariant.2,
-      search rules,
-      l.invariant.4,
-      held-turn _ _ _ _ _ _ _ _ (place_in_row _ _ _ _ _ l.invariant.4 l.invariant.0 (search rules)) l.invariant.5 c.serves_at-all.ensures.1,
-      row-turn _ _ _ _ _ _ _ _ _ _ _ l.invariant.6 (search rules) l.invariant.5 (c.smaller.ensures ∙ ap₂ min c.wide32.ensures.1 refl) refl,
-    )
+  search rules,
+  search rules,
+  simp length-set l.invariant.2,
+  search rules,
+  l.invariant.4,
+  held-turn _ _ _ _ _ _ _ _ (place_in_row _ _ _ _ _ l.invariant.4 l.invariant.0 (search rules)) l.invariant.5 c.serves_at-all.ensures.1,
+  row-turn _ _ _ _ _ _ _ _ _ _ _ l.invariant.6 (search rules) l.invariant.5 (c.smaller.ensures ∙ ap₂ min c.wide32.ensures.1 refl) refl,
+)

@@ -14,7 +14,5 @@ invariant-loop-t l = (l.b ≤ l.t)
     × (l.all ≡ held l.rule l.plan l.p l.t l.s)
     × LoweredOn l.rule l.plan l.p l.s l.b l.t l.initial.list l.list
 
-
 abbrev pub decreases-loop-t : goal.decreases-loop-t
 decreases-loop-t l = l.e - l.t
-

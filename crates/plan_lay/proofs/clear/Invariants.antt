@@ -8,7 +8,5 @@ use Rattle.plan_lay.proofs.clear.Given as goal
 abbrev pub invariant-loop-t : goal.invariant-loop-t
 invariant-loop-t l = (l.t ≤ l.h) × (length l.out ≡ length l.initial.out) × AsNamed idle l.t l.initial.out l.out
 
-
 abbrev pub decreases-loop-t : goal.decreases-loop-t
 decreases-loop-t l = l.h - l.t
-

@@ -5,7 +5,5 @@ use Rattle.plan_lay.proofs.give.Given as goal
 abbrev pub invariant-loop-t : goal.invariant-loop-t
 invariant-loop-t l = (l.t ≤ l.h) × Giving l.p l.q l.m l.initial.out l.t l.at l.seen l.out
 
-
 abbrev pub decreases-loop-t : goal.decreases-loop-t
 decreases-loop-t l = l.h - l.t
-

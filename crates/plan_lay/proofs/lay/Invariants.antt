@@ -9,7 +9,5 @@ use Rattle.plan_lay.proofs.lay.Given as goal
 abbrev pub invariant-loop-r : goal.invariant-loop-r
 invariant-loop-r l = (l.r ≤ l.n) × (length l.out ≡ length l.initial.out) × AsNamed (planned (wanted l.terms l.parts) l.parts l.r) l.h l.initial.out l.out
 
-
 abbrev pub decreases-loop-r : goal.decreases-loop-r
 decreases-loop-r l = l.n - l.r
-

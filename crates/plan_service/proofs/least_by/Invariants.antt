@@ -12,7 +12,5 @@ invariant-loop-stretch l = (l.stretch.start ≤ l.f)
     × (l.stretch.enters ≡ (l.stretch.start + l.stretch.length) % l.f)
     × (l.best ≡ smallest (held l.rule l.plan l.p l.t) l.stretch.start)
 
-
 abbrev pub decreases-loop-stretch : goal.decreases-loop-stretch
 decreases-loop-stretch l = l.f - l.stretch.start
-

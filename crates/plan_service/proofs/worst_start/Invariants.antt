@@ -12,7 +12,5 @@ invariant-loop-stretch l = (l.stretch.start ≤ l.frame)
     × (l.stretch.enters ≡ (l.stretch.start + l.stretch.length) % l.frame)
     × (first (worst l.rule l.plan l.p l.t) l.stretch.start ≡ l.stretch.start)
 
-
 abbrev pub decreases-loop-stretch : goal.decreases-loop-stretch
 decreases-loop-stretch l = l.frame - l.stretch.start
-

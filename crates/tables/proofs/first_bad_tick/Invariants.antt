@@ -7,7 +7,5 @@ use Rattle.tables.proofs.first_bad_tick.Given as goal
 abbrev pub invariant-loop-t : goal.invariant-loop-t
 invariant-loop-t l = (l.t ≤ l.n) × (first (fails (good_tick l.parts l.plan)) l.t ≡ l.t)
 
-
 abbrev pub decreases-loop-t : goal.decreases-loop-t
 decreases-loop-t l = l.n - l.t
-

@@ -14,7 +14,5 @@ invariant-loop-p l = (l.p ≤ l.parts)
     × AsNamed (judged_upto l.table l.p (task_point l.rule l.plan l.table) l.initial.points) (tasks l.table) l.initial.points l.points
     × AsNamed (judged_upto l.table l.p (task_tick l.rule l.plan l.table) l.initial.ticks) (tasks l.table) l.initial.ticks l.ticks
 
-
 abbrev pub decreases-loop-p : goal.decreases-loop-p
 decreases-loop-p l = l.parts - l.p
-

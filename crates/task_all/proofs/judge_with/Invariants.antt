@@ -19,7 +19,5 @@ invariant-loop-j l = (l.j ≤ l.n)
     → AsNamed (judged_in l.table l.p (task_point rule l.plan l.table) l.initial.points) l.j l.initial.points l.points
     × AsNamed (judged_in l.table l.p (task_tick rule l.plan l.table) l.initial.ticks) l.j l.initial.ticks l.ticks)
 
-
 abbrev pub decreases-loop-j : goal.decreases-loop-j
 decreases-loop-j l = l.n - l.j
-

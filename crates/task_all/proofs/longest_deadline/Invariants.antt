@@ -7,7 +7,5 @@ use Rattle.task_all.proofs.longest_deadline.Given as goal
 abbrev pub invariant-loop-j : goal.invariant-loop-j
 invariant-loop-j l = (l.j ≤ l.n) × (l.d ≡ largest (deadline_in l.table l.p) l.j)
 
-
 abbrev pub decreases-loop-j : goal.decreases-loop-j
 decreases-loop-j l = l.n - l.j
-

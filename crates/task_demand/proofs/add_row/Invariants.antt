@@ -7,7 +7,5 @@ use Rattle.task_demand.proofs.add_row.Given as goal
 abbrev pub invariant-loop-t : goal.invariant-loop-t
 invariant-loop-t l = (l.b ≤ l.t) × (l.t ≤ l.e) × (length l.asks ≡ length l.initial.asks) × Added l.all l.b l.t l.initial.asks l.asks
 
-
 abbrev pub decreases-loop-t : goal.decreases-loop-t
 decreases-loop-t l = l.e - l.t
-

@@ -12,7 +12,5 @@ invariant-loop-t l = (l.t ≤ l.n)
     × AsNamed (with_task l.c l.period l.initial.asks) l.t l.initial.asks l.asks
     × ((k : ℕ) × Jobs l.period l.n k l.t × (l.all ≡ l.c * k))
 
-
 abbrev pub decreases-loop-t : goal.decreases-loop-t
 decreases-loop-t l = l.n - l.t
-

@@ -8,7 +8,5 @@ use Rattle.task_demand.proofs.ask_rivals.Given as goal
 abbrev pub invariant-loop-j : goal.invariant-loop-j
 invariant-loop-j l = (l.j ≤ l.i) × (length l.asks ≡ length l.initial.asks) × AsNamed (all_asked l.tasks l.p l.j) l.n l.initial.asks l.asks
 
-
 abbrev pub decreases-loop-j : goal.decreases-loop-j
 decreases-loop-j l = l.i - l.j
-

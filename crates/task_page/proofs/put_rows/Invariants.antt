@@ -10,7 +10,5 @@ use Rattle.task_page.proofs.put_rows.Given as goal
 abbrev pub invariant-loop-t : goal.invariant-loop-t
 invariant-loop-t l = (1 ≤ l.t) × (l.t ≤ l.end + 1) × (l.end ≡ deadline l.tasks l.i) × Put l.initial.rows 0 (gathered (row_at l.rule l.plan l.tasks l.i) l.t) l.at l.rows × (length l.rows ≡ length l.initial.rows)
 
-
 abbrev pub decreases-loop-t : goal.decreases-loop-t
 decreases-loop-t l = l.end + 1 - l.t
-

@@ -7,7 +7,5 @@ use Rattle.task_plain.proofs.tick_in.Given as goal
 abbrev pub invariant-loop-t : goal.invariant-loop-t
 invariant-loop-t l = (1 ≤ l.t) × (l.t ≤ l.end + 1) × (l.end ≡ l.d) × (first (tick_fits l.curve l.asks l.c) l.t ≡ l.t)
 
-
 abbrev pub decreases-loop-t : goal.decreases-loop-t
 decreases-loop-t l = l.end + 1 - l.t
-

@@ -7,7 +7,5 @@ use Rattle.why_lines.proofs.digits.Given as goal
 abbrev pub invariant-loop-rest : goal.invariant-loop-rest
 invariant-loop-rest l = (l.k + l.rest ≤ l.n + 1) × (l.k + length (decimal l.rest) ≡ length (decimal l.n) + 1)
 
-
 abbrev pub decreases-loop-rest : goal.decreases-loop-rest
 decreases-loop-rest l = l.rest
-

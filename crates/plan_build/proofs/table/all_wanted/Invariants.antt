@@ -8,7 +8,5 @@ use Rattle.plan_build.proofs.table.all_wanted.Given as goal
 abbrev pub invariant-loop-k : goal.invariant-loop-k
 invariant-loop-k l = (l.k ≤ l.n) × (l.all ≤ 2 ^ 53 * l.k) × (l.all ≡ sum (wanted_in (wanted l.terms l.parts) l.parts l.h) l.k)
 
-
 abbrev pub decreases-loop-k : goal.decreases-loop-k
 decreases-loop-k l = l.n - l.k
-

@@ -7,7 +7,5 @@ use Rattle.plan_build.proofs.table.clashes.Given as goal
 abbrev pub invariant-loop-j : goal.invariant-loop-j
 invariant-loop-j l = (l.j ≤ l.k) × (first (fails (pairs l.parts l.k)) l.j ≡ l.j)
 
-
 abbrev pub decreases-loop-j : goal.decreases-loop-j
 decreases-loop-j l = l.k - l.j
-

@@ -1,7 +1,7 @@
-use Prim.Native.Nat.{◌-◌, max}
+use Prim.Native.Nat.{max}
 use mathlib.Core.Path.{◌≡◌, sym, ap₂, ◌∙◌}
 use native.Mathlib.Omega.{arith}
-use Rattle.rules.specs.Table.{cycle, partitions}
+use Rattle.rules.specs.Table.{partitions}
 use Rattle.rules.proofs.Least.{largest-zero, largest_more}
 use Rattle.theory.specs.Harmonic.{frame}
 use borrow.Author.Rules.{rules}

@@ -7,7 +7,5 @@ use Rattle.plan_build.proofs.table.frame.Given as goal
 abbrev pub invariant-loop-k : goal.invariant-loop-k
 invariant-loop-k l = (l.k ≤ l.n) × (l.h < 2 ^ 16) × (l.h ≡ largest (cycle l.parts) l.k)
 
-
 abbrev pub decreases-loop-k : goal.decreases-loop-k
 decreases-loop-k l = l.n - l.k
-

@@ -1,8 +1,6 @@
-use Prim.Native.Nat.{◌-◌}
 use mathlib.Core.Path.{sym, ◌∙◌}
 use Rattle.rules.proofs.First.{first-zero, first_more, some_at, some-done}
 use Rattle.plan_build.specs.Build.{unharmonic}
-use Rattle.plan_build.specs.Inner.{clashes}
 use borrow.Author.Rules.{rules}
 use Rattle.plan_build.proofs.table.unharmonic.Goals as goal
 

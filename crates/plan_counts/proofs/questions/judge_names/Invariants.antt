@@ -7,7 +7,5 @@ use Rattle.plan_counts.proofs.questions.judge_names.Given as goal
 abbrev pub invariant-loop-k : goal.invariant-loop-k
 invariant-loop-k l = (l.k ≤ l.n) × (first (fails (names_one l.parts l.table)) l.k ≡ l.k)
 
-
 abbrev pub decreases-loop-k : goal.decreases-loop-k
 decreases-loop-k l = l.n - l.k
-
