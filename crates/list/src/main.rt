@@ -5,7 +5,6 @@ ghost use Rattle.std.specs.Prelude.{◌≡◌, List, ℕ, ◌≤◌, ◌<◌, le
 ghost use Rattle.rules.specs.Limits.{longest_file, longest_listing};
 ghost use Rattle.file_listing.specs.Listing.{listing_of};
 
-use libc::{STDERR_FILENO, STDOUT_FILENO};
 use rules::limits::{LONGEST_FILE, LONGEST_LISTING};
 
 // One byte more than a file may have, so that a longer one is seen.
@@ -24,13 +23,10 @@ fn list_input(file: &[u8], n: usize, out: &mut [u8]) -> usize
     file_listing::compose(&file[..n], out)
 }
 
-fn main() {
+fn main(rt: HostRuntime) {
     let mut file = [0u8; ROOM];
-    let n = io::read_full(0, &mut file);
+    let n = streams::read_full(&mut rt.stdin(), &mut file);
     let mut out = [0u8; LONGEST_LISTING];
     let k = list_input(&file, n, &mut out);
-    let written = io::write_all(STDOUT_FILENO, &out[..k]);
-    if !written {
-        io::write_all(STDERR_FILENO, b"a write failed\n");
-    }
+    streams::write_or_say(&mut rt.stdout(), &mut rt.stderr(), &out[..k]);
 }

@@ -7,7 +7,6 @@ ghost use Rattle.rules.specs.Limits.{longest_file};
 ghost use Rattle.share_text.specs.Table.{longest_text};
 ghost use Rattle.share_plan.specs.Answer.{answer_of};
 
-use libc::{STDERR_FILENO, STDOUT_FILENO};
 use rules::limits::LONGEST_FILE;
 use share_text::LONGEST_TEXT;
 
@@ -31,20 +30,17 @@ fn plan_input(edition: usize, text: &[u8], n: usize, out: &mut [u8]) -> usize
 }
 
 // The edition that the program was started with.
-fn edition_given() -> usize {
+fn edition_given(rt: &HostRuntime) -> usize {
     let mut word = [0u8; WORD];
-    let n = os::arg(1, &mut word);
-    share_plan::edition_asked(os::arg_count(), &word[..n])
+    let n = streams::word(rt, 1, &mut word);
+    share_plan::edition_asked(streams::word_count(rt), &word[..n])
 }
 
-fn main() {
-    let edition = edition_given();
+fn main(rt: HostRuntime) {
+    let edition = edition_given(&rt);
     let mut text = [0u8; READ];
-    let n = io::read_full(0, &mut text);
+    let n = streams::read_full(&mut rt.stdin(), &mut text);
     let mut out = [0u8; LONGEST_FILE];
     let k = plan_input(edition, &text, n, &mut out);
-    let written = io::write_all(STDOUT_FILENO, &out[..k]);
-    if !written {
-        io::write_all(STDERR_FILENO, b"a write failed\n");
-    }
+    streams::write_or_say(&mut rt.stdout(), &mut rt.stderr(), &out[..k]);
 }

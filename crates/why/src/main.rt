@@ -5,7 +5,6 @@ ghost use Rattle.std.specs.Prelude.{◌≡◌, List, ℕ, ◌≤◌, ◌<◌, le
 ghost use Rattle.rules.specs.Limits.{longest_file, longest_why};
 ghost use Rattle.why_page.specs.Why.{why_of};
 
-use libc::{STDERR_FILENO, STDOUT_FILENO};
 use rules::limits::{LONGEST_FILE, LONGEST_WHY};
 
 // The longest number in bytes; a longer word is none.
@@ -28,20 +27,17 @@ fn why_input(file: &[u8], n: usize, place: usize, out: &mut [u8]) -> usize
 }
 
 // The task that the program was started for.
-fn place_given() -> usize {
+fn place_given(rt: &HostRuntime) -> usize {
     let mut word = [0u8; WORD];
-    let n = os::arg(1, &mut word);
-    why_page::place_asked(os::arg_count(), &word[..n])
+    let n = streams::word(rt, 1, &mut word);
+    why_page::place_asked(streams::word_count(rt), &word[..n])
 }
 
-fn main() {
-    let place = place_given();
+fn main(rt: HostRuntime) {
+    let place = place_given(&rt);
     let mut file = [0u8; ROOM];
-    let n = io::read_full(0, &mut file);
+    let n = streams::read_full(&mut rt.stdin(), &mut file);
     let mut out = [0u8; LONGEST_WHY];
     let k = why_input(&file, n, place, &mut out);
-    let written = io::write_all(STDOUT_FILENO, &out[..k]);
-    if !written {
-        io::write_all(STDERR_FILENO, b"a write failed\n");
-    }
+    streams::write_or_say(&mut rt.stdout(), &mut rt.stderr(), &out[..k]);
 }
