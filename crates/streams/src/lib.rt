@@ -7,6 +7,13 @@ ghost use Rattle.std.specs.Io.KnownBytes.{Consumes, Appends};
 use std::env::{Env, FillError};
 use std::io::{Read, Write};
 
+// N zeros. Whoever lends them as room sees their length alone, however large N is.
+pub fn zeros<const N: usize>() -> [u8; N]
+    ensures { length result ≡ N }
+{
+    [0; N]
+}
+
 // Reads until `buf` is full, the input ends or a read fails. The answer is how many bytes it put at the start of `buf`:
 // the first ones of what was left of the input, in their order.
 pub fn read_full<R: Read>(input: &mut R, buf: &mut [u8]) -> usize

@@ -13,6 +13,9 @@ const WORD: usize = 5;
 // One byte more than a file may have, so that a longer one is seen.
 const ROOM: usize = LONGEST_FILE + 1;
 
+// The longest page in bytes.
+const PAGE: usize = LONGEST_WHY;
+
 // Of whatever came in, b, `file` has the first n bytes: all of it, or as many as there is room for.
 // Then the page of b's task is put at the start of `out`, and the answer is its length.
 fn why_input(file: &[u8], n: usize, place: usize, out: &mut [u8]) -> usize
@@ -37,7 +40,7 @@ fn main(rt: HostRuntime) {
     let place = place_given(&rt);
     let mut file = [0u8; ROOM];
     let n = streams::read_full(&mut rt.stdin(), &mut file);
-    let mut out = [0u8; LONGEST_WHY];
+    let mut out = streams::zeros::<PAGE>();
     let k = why_input(&file, n, place, &mut out);
     streams::write_or_say(&mut rt.stdout(), &mut rt.stderr(), &out[..k]);
 }
