@@ -1,7 +1,7 @@
 // What the programs share: their input, their words and what they write, over std's streams.
 #![tactic(auto)]
 
-ghost use Rattle.std.specs.Prelude.{◌≡◌, ◌≤◌, true, length, take};
+ghost use Rattle.std.specs.Prelude.{◌≡◌, ◌≤◌, true, false, length, take, IfSome};
 ghost use Rattle.std.specs.Io.KnownBytes.{Consumes, Appends};
 
 use std::env::{Env, FillError};
@@ -14,21 +14,43 @@ pub fn zeros<const N: usize>() -> [u8; N]
     [0; N]
 }
 
-// Reads until `buf` is full, the input ends or a read fails. The answer is how many bytes it put at the start of `buf`:
-// the first ones of what was left of the input, in their order.
-pub fn read_full<R: Read>(input: &mut R, buf: &mut [u8]) -> usize
-    ensures bound { result ≤ length buf.new }
-    ensures bytes { Consumes (R.remaining input.old) (R.remaining input.new) (take result buf.new) }
+// What was read: how many bytes, and whether that ended with a read that failed.
+#[derive(Clone, Copy)]
+pub struct Taken {
+    pub count: usize,
+    pub failed: bool,
+}
+
+// Reads until `buf` is full, the input ends or a read fails, in pieces of any sizes, and puts the bytes at the start of `buf`:
+// the first ones of what was left of the input. Where no read failed, those are all, or as many as there is room for.
+pub fn read_full<R: Read>(input: &mut R, buf: &mut [u8]) -> Taken
+    ensures bound { result.count ≤ length buf.new }
+    ensures bytes { Consumes (R.remaining input.old) (R.remaining input.new) (take result.count buf.new) }
+    ensures whole { result.failed ≡ false → IfSome (R.remaining input.old)
+        (λ b. take result.count buf.new ≡ take (length buf.new) b) }
 {
     let mut done = 0;
     while done < buf.len() {
         match input.read(&mut buf[done..]) {
-            Ok(0) => break,
+            Ok(0) => {
+                return Taken {
+                    count: done,
+                    failed: false,
+                };
+            }
             Ok(n) => done += n,
-            Err(_) => break,
+            Err(_) => {
+                return Taken {
+                    count: done,
+                    failed: true,
+                };
+            }
         }
     }
-    done
+    Taken {
+        count: done,
+        failed: false,
+    }
 }
 
 // Writes the answer, or says on standard error that it could not. The answer is whether it was written whole.

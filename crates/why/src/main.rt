@@ -1,11 +1,13 @@
 // Reads a plan file from standard input and writes the page of one of its tasks, which a word names by its number from 1.
 #![tactic(auto)]
 
-ghost use Rattle.std.specs.Prelude.{◌≡◌, List, ℕ, ◌≤◌, ◌<◌, length, take};
+ghost use Rattle.std.specs.Prelude.{◌≡◌, List, ℕ, ◌≤◌, ◌<◌, true, length, take, IfSome};
+ghost use Rattle.std.specs.Io.KnownBytes.{Appends};
 ghost use Rattle.rules.specs.Limits.{longest_file, longest_why};
 ghost use Rattle.why_page.specs.Why.{why_of};
 
 use rules::limits::{LONGEST_FILE, LONGEST_WHY};
+use std::io::{Read, Write};
 
 // The longest number in bytes; a longer word is none.
 const WORD: usize = 5;
@@ -22,11 +24,30 @@ fn why_input(file: &[u8], n: usize, place: usize, out: &mut [u8]) -> usize
     requires { (n ≤ length file.now)
         × (longest_file < length file.now)
         × (longest_why ≤ length out.old) }
-    ensures by_index { (b : List ℕ) → take n file.now ≡ take (length file.now) b
+    ensures text { (b : List ℕ) → take n file.now ≡ take (length file.now) b
         → take result out.new ≡ why_of b place }
-    ensures upper_bound { result ≤ length out.new }
+    ensures bound { result ≤ length out.new }
 {
     why_page::compose(&file[..n], place, out)
+}
+
+// Pages what comes in, in pieces of any sizes, and writes that. The answer is whether no read and no write failed: then the page of
+// the task of all that the input had was written, and nothing else.
+fn page_all<R: Read, W: Write, E: Write>(
+    place: usize,
+    input: &mut R,
+    output: &mut W,
+    said: &mut E,
+) -> bool
+    ensures { result ≡ true → IfSome (R.remaining input.old)
+        (λ b. Appends (W.contents output.old) (W.contents output.new) (why_of b place)) }
+{
+    let mut file = [0u8; ROOM];
+    let taken = streams::read_full(input, &mut file);
+    let mut out = streams::zeros::<PAGE>();
+    let k = why_input(&file, taken.count, place, &mut out);
+    let written = streams::write_or_say(output, said, &out[..k]);
+    written && !taken.failed
 }
 
 // The task that the program was started for.
@@ -38,9 +59,5 @@ fn place_given(rt: &HostRuntime) -> usize {
 
 fn main(rt: HostRuntime) {
     let place = place_given(&rt);
-    let mut file = [0u8; ROOM];
-    let n = streams::read_full(&mut rt.stdin(), &mut file);
-    let mut out = streams::zeros::<PAGE>();
-    let k = why_input(&file, n, place, &mut out);
-    streams::write_or_say(&mut rt.stdout(), &mut rt.stderr(), &out[..k]);
+    page_all(place, &mut rt.stdin(), &mut rt.stdout(), &mut rt.stderr());
 }

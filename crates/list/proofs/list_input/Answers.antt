@@ -5,7 +5,7 @@ use Rattle.file_listing.specs.Listing.{listing_of}
 use Rattle.file_listing.proofs.Proved.{proved}
 use Rattle.list.proofs.list_input.Goals as goal
 
-pub returns-clause-by_index : goal.returns-clause-by_index
-returns-clause-by_index c =
+pub returns-clause-text : goal.returns-clause-text
+returns-clause-text c =
     let s = put_taken c.compose.ensures.0 (search rules) in
     λ b e. s.1 ∙ ap listing_of e ∙ proved.listing_first b (length c.args.file.now) c.requires.1

@@ -6,8 +6,8 @@ use Rattle.share_plan.specs.Answer.{answer_of}
 use Rattle.share_plan.proofs.Proved.{proved}
 use Rattle.plan.proofs.plan_input.Goals as goal
 
-pub returns-clause-by_index : goal.returns-clause-by_index
-returns-clause-by_index c =
+pub returns-clause-answer : goal.returns-clause-answer
+returns-clause-answer c =
     let a = c.args in
     let s = put_taken c.plan.ensures.plans (search rules) in
     λ t e.

@@ -5,7 +5,7 @@ use Rattle.why_page.specs.Why.{why_of}
 use Rattle.why_page.proofs.Proved.{proved}
 use Rattle.why.proofs.why_input.Goals as goal
 
-pub returns-clause-by_index : goal.returns-clause-by_index
-returns-clause-by_index c =
+pub returns-clause-text : goal.returns-clause-text
+returns-clause-text c =
     let s = put_taken c.compose.ensures.0 (search rules) in
     λ b e. s.1 ∙ ap (λ (x : List ℕ). why_of x c.args.place) e ∙ proved.why_first b c.args.place (length c.args.file.now) c.requires.1
