@@ -1,12 +1,13 @@
 # The library for C and C++: `make install PREFIX=..` proves and builds it, and puts it there with its header.
 PREFIX = /usr/local
 into = $(DESTDIR)$(PREFIX)
-archive = target/staticlib/libapi.a
+archive = crates/api_c/out/libapi_c.a
 
 all: $(archive)
 
-$(archive): crates.txt $(shell find crates -type f)
-	rt staticlib api
+$(archive): crates.txt $(shell find crates -name out -prune -o -type f -print)
+	cd crates/api_c && rt lib
+	touch $(archive)
 
 install: $(archive)
 	install -d "$(into)/include" "$(into)/lib/pkgconfig"

@@ -2,7 +2,7 @@
    requests; docs/FORMAT.md has the plan file, all limits and the refusals in words.
 
    The library is for x86-64 Linux. Installed by `make install`, it is libmerkazobi.a (pkg-config: merkazobi); in the
-   repository `rt staticlib api` writes target/staticlib/libapi.a, which is the same archive.
+   repository `make` writes crates/api_c/out/libapi_c.a, which is the same archive.
 
    Every call ends with an answer, whatever numbers and bytes it is given. It allocates nothing, keeps nothing between
    calls and calls nothing back, so any thread may call at any time, with memory of its own.

@@ -5,36 +5,45 @@ cd "$(dirname "$0")/.." || exit 1
 . tests/expect.sh
 
 tree="$made/a tree"
-mkdir -p "$tree/crates/rules" "$made/bin"
+mkdir -p "$tree" "$made/bin"
 cp -R box VERSION tools "$tree"
 cp samples/w1.plan "$tree"
-echo first >"$tree/crates/rules/source"
-printf 'rules:\ntheory: rules\nservice: rules theory\nlist: service io libc\nplan: rules\n' >"$tree/crates.txt"
+mkdir -p "$tree/crates/rules/src" "$tree/crates/list/src"
+echo program >"$tree/crates/list/src/source"
+echo first >"$tree/crates/rules/src/source"
+printf 'rules:\ntheory: rules\nservice: rules theory\nlist: service io\nplan: rules\n' >"$tree/crates.txt"
 
 export STANDS_FOR TOP="$PWD"
 STANDS_FOR=$(command -v rt)
 export CALLS="$made/calls" PROOF=good
 cat >"$made/bin/rt" <<'RT'
 #!/bin/sh
-[ "$1" = check ] || exec "$STANDS_FOR" "$@"
-echo "$2" >>"$CALLS"
+# In a program's folder, as rt: what it says of the proofs is on standard error, and the program's own on standard output.
+[ "$1" = run ] || exec "$STANDS_FOR" "$@"
+name=$(basename "$PWD")
+echo "$name" >>"$CALLS"
 sleep 0.2
-echo 'rt: rules proved (17 s)'
-echo 'logic=proved functions=3'
-[ "$PROOF" = good ] || {
-    printf 'src/lib.rt:3: error\nrt: theory NOT PROVED (exit 1, 2 s)\nrt: FAILED: theory\n'
-    exit 1
+said() {
+    printf '%s\n' "$@" >&2
 }
-printf 'rt: theory proved (2 s)\nrt: service proved (8 s)\n'
-sum=$(find crates -type f -exec cksum {} +)
-mkdir -p target/bin target/stamp
-if [ "$(cat "target/stamp/$2" 2>/dev/null)" = "$sum" ]; then
-    echo "rt: $2 proved (unchanged since it was last proved)"
+proved() {
+    said "rt: chose --jobs 2 for $1" "fn $1::first: proved" "crate $1: modules loaded=4 checked=3" 'logic=proved functions=1 sum=0'
+}
+sum=$(cat ../*/src/* | cksum)
+if [ -x "out/$name" ] && [ "$(cat "out/$name.stamp")" = "$sum" ]; then
+    said "rt: nothing has changed since the last proved build, by out/$name.stamp, so nothing is checked now"
 else
-    cp "$TOP/target/bin/$2" target/bin && echo "$sum" >"target/stamp/$2"
-    printf 'rt: %s proved (10 s)\nrt: %s ran as nobody\n' "$2" "$2"
+    proved rules
+    [ "$PROOF" = good ] || {
+        said 'fn theory::first: no proof: it wants one' 'fn theory::second: proved' 'crate theory: modules loaded=4 checked=3' 'logic=not-proved' \
+            'rt: the library theory did not build, so nothing above it was checked'
+        exit 1
+    }
+    proved theory && proved service && proved "$name"
+    mkdir -p out && cp "$TOP/crates/$name/out/$name" out && echo "$sum" >"out/$name.stamp"
 fi
-echo 'rt: ok, 4 crates proved'
+said "rt: running out/$name; to give it other input, run that file yourself"
+exec "out/$name"
 RT
 chmod +x "$made/bin/rt"
 PATH=$made/bin:$PATH
@@ -43,29 +52,29 @@ calls() { wc -l <"$CALLS"; }
 list() { "$tree/box" list "$tree/w1.plan"; }
 
 ends "the first time" 0 "box: building list: 4 crates are proved first, *
-box: 1 of 4: rules proved (17 s)
-box: 2 of 4: theory proved (2 s)
-box: 3 of 4: service proved (8 s)
-box: 4 of 4: list proved (10 s)" list
+box: 1 of 4: rules proved
+box: 2 of 4: theory proved
+box: 3 of 4: service proved
+box: 4 of 4: list proved" list
 same "the first time" "$made/out" samples/w1.txt
 ends "the second time" 0 '' list
 is "the second time" "$(calls)" 1
 
 sleep 0.1
-echo changed >"$tree/crates/rules/source"
-ends "a source changed" 0 'box: building list: *list proved (10 s)' list
+echo changed >"$tree/crates/rules/src/source"
+ends "a source changed" 0 'box: building list: *list proved' list
 is "a source changed" "$(calls)" 2
 sleep 0.1
-touch "$tree/crates/rules/source"
-ends "a source is newer, but the same" 0 'box: building list: *list proved (unchanged *' list
+touch "$tree/crates/rules/src/source"
+ends "a source is newer, but the same" 0 'box: building list: 4 crates are proved first, which takes some minutes' list
 is "a source is newer, but the same" "$(calls)" 3
 ends "which is asked once" 0 '' list
 is "which is asked once" "$(calls)" 3
-rm "$tree/target/bin/list"
-ends "the program is gone" 0 'box: building list: *list proved (10 s)' list
+rm "$tree/crates/list/out/list"
+ends "the program is gone" 0 'box: building list: *list proved' list
 is "the program is gone" "$(calls)" 4
 
-rm -r "$tree/target"
+rm -r "$tree/target" "$tree/crates/list/out"
 list >"$made/one" 2>/dev/null &
 list >"$made/two" 2>/dev/null
 wait
@@ -74,12 +83,12 @@ same "two at a time" "$made/two" samples/w1.txt
 is "two at a time, built once" "$(calls)" 5
 
 sleep 0.1
-echo wrong >"$tree/crates/rules/source"
+echo wrong >"$tree/crates/rules/src/source"
 PROOF=bad
 ends "a proof fails" 2 "box: building list: *
-box: 1 of 4: rules proved (17 s)
-rt: theory NOT PROVED (exit 1, 2 s)
-rt: FAILED: theory
+box: 1 of 4: rules proved
+fn theory::first: no proof: it wants one
+rt: the library theory did not build, so nothing above it was checked
 box: list could not be built: *" list
 is "a proof fails, nothing printed" "$(cat "$made/out")" ""
 

@@ -1,7 +1,7 @@
 #!/bin/sh
 # The comparisons of the library and the programs against the second program (tests/second/README.md). Words choose the
-# trials whose names start with one of them. Needs the archive and the programs: rt staticlib api, rt check plan, rt
-# check why.
+# trials whose names start with one of them. Needs the archive and the programs: make, tools/program plan,
+# tools/program why.
 set -eu
 cd "$(dirname "$0")/.."
 
@@ -9,10 +9,11 @@ cd "$(dirname "$0")/.."
 needed() {
     [ -f "$1" ] || { echo "there is no $1: $2 first" >&2 && exit 2; }
 }
-archive=target/staticlib/libapi.a
-needed "$archive" "rt staticlib api"
-needed target/bin/plan "rt check plan"
-needed target/bin/why "rt check why"
+archive=crates/api_c/out/libapi_c.a
+needed "$archive" make
+needed crates/plan/out/plan "tools/program plan"
+needed crates/why/out/why "tools/program why"
+mkdir -p target
 tools/x86 cc target/calls tests/c/calls.c "$archive" -std=c11 -Wall -Wextra -Werror -Iinclude
 tools/x86 so target/again.so tests/c/again.c -std=c11 -Wall -Wextra -Werror -Iinclude
 

@@ -19,7 +19,7 @@ done
 for name in $(grep -o 'Tells[A-Z][a-z]*' crates/api/specs/Answers.antt | sort -u); do
     named "$name" "\`$name\`"
 done
-for name in $(sed -n '/^pub record Demand[13] /,/^$/s/^  pub \([a-z-]*\) .*/\1/p' crates/demands/specs/Demands.antt | grep -v '^runs-'); do
+for name in $(sed -n '/^pub record Demand[13] /,/^$/s/^  pub \([a-z_0-9-]*\) .*/\1/p' crates/demands/specs/Demands.antt | grep -v '^runs[-_]'); do
     named "$name" "\`$name\`"
 done
 for edit in crates/*/must-fail/*.edit tests/lies/*.patch; do

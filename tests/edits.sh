@@ -1,81 +1,64 @@
 #!/bin/sh
 # shellcheck disable=SC2154 # what expect.sh sets
-# Why each must-fail edit was refused. `rt ci` counts any refusal, also one by a slip in the edit itself, so its logs are read here:
-# each has to name a fact that fails, and no slip. The words are the prover's; tests/edits.txt has excerpts of real logs with each of
-# them, and is read first. A log can't show that the fact is the one meant: people read it when they write an edit.
+# Why each must-fail edit was refused: `edits.sh [SAID]`, where the file SAID has what `rt ci` said; without it `rt must-fail` tries the edits
+# now. `rt ci` counts any refusal, and an edit that it can't try fails nothing there. Here each edit has to be refused, and at a fact that fails:
+# for no slip in the edit itself, no proof that is merely written for other names, and no limit of the prover. The words are rt's;
+# tests/edits.txt has lines of real runs with each of them, and is read first. A line can't show that the fact is the one meant: people read it
+# when they write an edit.
 set -u
 cd "$(dirname "$0")/.." || exit 1
 . tests/expect.sh
 
-# why LOG: fact, slip or shape, and the line that shows it
+# why: of lines of rt about one edit, on standard input: fact, slip, shape, limit, proved or untried, and the line that shows it
 why() {
     LC_ALL=C awk '
         BEGIN {
-            # A slip: the edit says something else than it was meant to say.
-            declared = ": error: `[^`]*`: "             # else the file is not read: a parse error, an import, the compiler itself
-            slip = "/must-fail/[^/]*/[^/]*/(specs|src)/[^ ]*: error" # in the edited text, not in a proof: it has no type
-            slip = slip "|` is not in scope"            # a name that is not there
-            slip = slip "|` that can be named from here" # the same, of another module
-
-            # The shape of a proof: it does not fit the edited text, whatever that means.
-            need = "[Tt]ie\\.Need-"                     # a need that is gone, or another one in its place
-            moved = "` has no field `"                  # a test, call or loop that is gone, or stands elsewhere
-            shape = need "|" moved
-            shape = shape "| not admitted"              # it hangs on something refused before
-            shape = shape "|: error: `(Inv|μ)-"         # a loop of other variables
-            shape = shape "|no occurrence of the path"  # rw finds nothing to rewrite
-            shape = shape "|no equation of the list"    # simp too
-            shape = shape "|types\\.(Kit|Run)\\.|prog\\.Wp\\.|code-mir\\." # a walk by hand that does not follow the code
-
-            # A fact that fails.
-            fact = "the goal does not follow from what it read" # omega, often with numbers for which it fails
+            # A fact that fails: in a proof that rattle makes itself, or in one of ours.
+            fact = "note: [^ ]*: (it is not proved that |`search` found no proof )"
             fact = fact "|: no proof of `"              # search
+            fact = fact "|the goal does not follow from what it read" # omega, often with numbers for which it fails
             fact = fact "|the equations do not join"    # cc
-            fact = fact "|whose two ends are equal, and `" # rw and simp: what is left is no equation that holds
-            fact = fact "|: it is not proved that "     # of a proof that rattle makes itself
-            # A term proves something else than is asked: a relation, by its sign or its name with arguments, or the fact of a contract; not a number or a type.
-            other = "the two (types|sides) (first differ|differ only|are) |but this has type |: does not hold "
-            relation = "≡|≤|<|Path |⊥|`([^` ]*\\.)?[A-Z][A-Za-z]* [({a-z]|`fact [^ ]* \\("
+            fact = fact "|whose two ends are equal"     # rw and simp: what is left is no equation that holds
+            fact = fact "|the two (types|sides) (first differ|differ only|are) |expected type .*, but this has type |: does not hold "
+            # The shape of a proof: it does not fit the edited text, whatever that means.
+            shape = "` has no field `| is not in scope|was not admitted| has no `|no occurrence of the path|no equation of the list"
         }
-        function judge(    file) {
-            if (head == "") return
-            file = head
-            sub(/:[0-9].*/, "", file)
-            if (slipped == "" && head !~ /^note: / && (head !~ declared || (head ~ slip && head !~ need))) slipped = head
-            if (head ~ moved) shifted[file] = 1
-            if (block !~ shape && (block ~ fact || (block ~ other && block ~ relation))) { named[++n] = head; where[n] = file }
-            if (first == "") first = head
-            head = ""
-        }
-        /^  / { block = block "\n" $0; next } # an error goes on
-        { judge() }
-        /^[^ ]*: error/ || /^note: [^ ]*: it is not proved that / { head = block = $0 }
-        END {
-            judge()
-            if (slipped != "") { print "slip: " slipped; exit }
-            # In a proof that reads from another place than it was written for, no fact is what it seems.
-            for (k = 1; k <= n; k++) if (!(where[k] in shifted)) { print "fact: " named[k]; exit }
-            print "shape: " (first == "" ? "no error" : first)
-        }' "$1"
+        $0 !~ /^rt: must-fail [^ ]*\.edit: / { next }
+        {
+            said = $0
+            sub(/^rt: must-fail [^ ]*\.edit: /, "", said)
+            if (said ~ /^BAD EDIT/) kind = "slip"
+            else if (said ~ /^NOT TRIED/) kind = "untried"
+            else if (said ~ /^refused, as it must be \(only by a limit/) kind = "limit"
+            else if (said ~ /^refused, as it must be \(/) kind = "shape"
+            else if (said !~ /^refused, as it must be: /) kind = "proved"
+            else if (said ~ shape) kind = "shape"
+            else kind = said ~ fact ? "fact" : "shape"
+            print kind ": " said
+        }'
 }
 
-# ---- the words: below a line `== KIND: what` of tests/edits.txt stands an excerpt of that kind
+# ---- the words: below a line `== KIND: what` of tests/edits.txt stands a line of that kind
 
 awk -v to="$made" '/^== / { kind = $2; sub(/:$/, "", kind); at = to "/" ++n "." kind; next } { print > at }' tests/edits.txt
-for excerpt in "$made"/*.slip "$made"/*.shape "$made"/*.fact; do
-    said=$(why "$excerpt")
-    is "tests/edits.txt, $(head -n 1 "$excerpt")" "${said%%:*}" "${excerpt##*.}"
+for line in "$made"/*.slip "$made"/*.shape "$made"/*.limit "$made"/*.proved "$made"/*.untried "$made"/*.fact; do
+    said=$(why <"$line")
+    is "tests/edits.txt, $(head -n 1 "$line")" "${said%%:*}" "${line##*.}"
 done
 
 # ---- the edits
 
+if [ $# -gt 0 ]; then cat "$1"; else rt must-fail; fi >"$made/said" 2>&1
 for edit in crates/*/must-fail/*.edit; do
     name=${edit#crates/}
-    name=${name%%/*}/$(basename "$edit" .edit)
-    log=target/must-fail/$name/.log
-    if [ -f "$log" ]; then said=$(why "$log"); else said="no log, $log"; fi
+    name=${name%%/*}/$(basename "$edit")
+    said=$(grep -F -e "rt: must-fail $name: " "$made/said" | why)
     case $said in
     fact:*) ;;
+    '')
+        echo "$name is not told of"
+        failed=1
+        ;;
     *)
         printf '%s is not refused by a fact: %.400s\n' "$name" "$said"
         failed=1

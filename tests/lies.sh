@@ -1,6 +1,6 @@
 #!/bin/sh
 # Lies that the check of their own crate can't refuse, for code and contract, or code and definition, tell them together. Each tests/lies/*.patch is
-# told in a copy of what was proved: the crate that it names has to refuse it, at the fact that it names, and every crate below has to be proved with it.
+# told in a copy, over what was proved: the crate that it names has to refuse it, at the fact that it names, and every crate below has to be proved with it.
 set -u
 cd "$(dirname "$0")/.." || exit 1
 . tests/expect.sh
@@ -13,15 +13,14 @@ of() {
 for lie in tests/lies/*.patch; do
     name=$(basename "$lie" .patch)
     tree=$made/$name
-    mkdir -p "$tree/target"
-    cp -R crates crates.txt "$tree"
-    cp -R target/rlib target/stamp "$tree/target"
+    mkdir -p "$tree"
+    tar -c --exclude=out/incremental crates crates.txt | tar -x -C "$tree"
     patch --silent --directory="$tree" --strip=1 <"$lie"
     is "$name told" $? 0
     crate=$(of "$lie" falls)
-    (cd "$tree" && rt check "$crate") >"$made/log" 2>&1
+    (cd "$tree/crates/$crate" && rt check) >"$made/log" 2>&1
     is "$name, status" $? 1
-    is "$name falls in" "$(sed -n 's/^rt: \(.*\) NOT PROVED.*/\1/p' "$made/log")" "$crate"
+    is "$name falls in" "$(awk '/^crate / { at = $2; sub(/:$/, "", at) } /^logic=not-proved/ { print at }' "$made/log")" "$crate"
     is "$name, refused at its fact" "$(grep ': error: ' "$made/log" | grep -c -F -m 1 -e "$(of "$lie" fact)")" 1
     rm -r "$tree"
 done

@@ -4,9 +4,9 @@ set -u
 cd "$(dirname "$0")/.." || exit 1
 . tests/expect.sh
 
-listed() { tools/x86 run target/bin/list; }
-planned() { tools/x86 run target/bin/plan; }
-paged() { tools/x86 run target/bin/why "$@"; }
+listed() { tools/x86 run crates/list/out/list; }
+planned() { tools/x86 run crates/plan/out/plan; }
+paged() { tools/x86 run crates/why/out/why "$@"; }
 
 for name in w1 cabin second; do
     ends "list $name" 0 '' ./box list "samples/$name.plan"

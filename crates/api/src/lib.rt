@@ -1,5 +1,4 @@
-// The one export crate: every entry over plain numbers and slices, for C and Rust. include/merkazobi.h
-// declares it.
+// The one surface: every entry over plain numbers and slices. api_c exports it to C.
 #![tactic(auto)]
 
 ghost use Rattle.rules.specs.Table.{WantsIs};
@@ -8,29 +7,25 @@ ghost use Rattle.api.specs.Answers.{TellsHeld, TellsLeast, TellsCurve, TellsChec
 use desk::{Desk, Job};
 use rules::{Terms, Told};
 
-#[unsafe(no_mangle)]
-pub extern "C" fn merkazobi_wants(granule: usize, m: u16, num: u16, den: u16) -> usize
+pub fn merkazobi_wants(granule: usize, m: u16, num: u16, den: u16) -> usize
     ensures { WantsIs granule m num den result }
 {
     rules::records::wants(granule, m, num, den)
 }
 
-#[unsafe(no_mangle)]
-pub extern "C" fn merkazobi_held(edition: usize, plan: &[u16], p: u16, s: u32, n: u32) -> Told
+pub fn merkazobi_held(edition: usize, plan: &[u16], p: u16, s: u32, n: u32) -> Told
     ensures { TellsHeld edition plan.now p s n result }
 {
     answers::tell_holding(plan_service::held(edition, plan, p, s, n))
 }
 
-#[unsafe(no_mangle)]
-pub extern "C" fn merkazobi_least(edition: usize, plan: &[u16], p: u16, t: u32) -> Told
+pub fn merkazobi_least(edition: usize, plan: &[u16], p: u16, t: u32) -> Told
     ensures { TellsLeast edition plan.now p t result }
 {
     answers::tell_holding(plan_service::least(edition, plan, p, t))
 }
 
-#[unsafe(no_mangle)]
-pub extern "C" fn merkazobi_curve(
+pub fn merkazobi_curve(
     edition: usize,
     plan: &[u16],
     p: u16,
@@ -42,8 +37,7 @@ pub extern "C" fn merkazobi_curve(
     answers::tell_filling(plan_curve::curve(edition, plan, p, n, list))
 }
 
-#[unsafe(no_mangle)]
-pub extern "C" fn merkazobi_check(
+pub fn merkazobi_check(
     edition: usize,
     granule: usize,
     plan: &[u16],
@@ -54,8 +48,7 @@ pub extern "C" fn merkazobi_check(
     answers::tell_finding(plan_check::check(Terms { edition, granule }, plan, parts))
 }
 
-#[unsafe(no_mangle)]
-pub extern "C" fn merkazobi_build(granule: usize, parts: &[u16], out: &mut [u16]) -> Told
+pub fn merkazobi_build(granule: usize, parts: &[u16], out: &mut [u16]) -> Told
     ensures { TellsBuild granule parts.now out.old out.new result }
 {
     answers::tell_filling(plan_build::build(
@@ -68,15 +61,13 @@ pub extern "C" fn merkazobi_build(granule: usize, parts: &[u16], out: &mut [u16]
     ))
 }
 
-#[unsafe(no_mangle)]
-pub extern "C" fn merkazobi_counts_fill(plan: &[u16], parts: &[u16], list: &mut [u16]) -> Told
+pub fn merkazobi_counts_fill(plan: &[u16], parts: &[u16], list: &mut [u16]) -> Told
     ensures { TellsFill plan.now parts.now list.old list.new result }
 {
     answers::tell_filling(plan_counts::fill(plan, parts, list))
 }
 
-#[unsafe(no_mangle)]
-pub extern "C" fn merkazobi_counts_held(
+pub fn merkazobi_counts_held(
     plan: &[u16],
     parts: &[u16],
     list: &[u16],
@@ -90,8 +81,7 @@ pub extern "C" fn merkazobi_counts_held(
     answers::tell_holding(plan_counts::held(plan, parts, list, partition, start, length))
 }
 
-#[unsafe(no_mangle)]
-pub extern "C" fn merkazobi_counts_held_many(
+pub fn merkazobi_counts_held_many(
     plan: &[u16],
     parts: &[u16],
     list: &[u16],
@@ -104,8 +94,7 @@ pub extern "C" fn merkazobi_counts_held_many(
     answers::tell_filling(plan_counts::held_many(plan, parts, list, questions, answers))
 }
 
-#[unsafe(no_mangle)]
-pub extern "C" fn merkazobi_counts_change(
+pub fn merkazobi_counts_change(
     plan: &mut [u16],
     parts: &[u16],
     list: &mut [u16],
@@ -118,8 +107,7 @@ pub extern "C" fn merkazobi_counts_change(
     answers::tell_finding(plan_counts::change(plan, parts, list, tick, owner))
 }
 
-#[unsafe(no_mangle)]
-pub extern "C" fn merkazobi_verdict(
+pub fn merkazobi_verdict(
     edition: usize,
     granule: usize,
     plan: &[u16],
@@ -139,8 +127,7 @@ pub extern "C" fn merkazobi_verdict(
     ))
 }
 
-#[unsafe(no_mangle)]
-pub extern "C" fn merkazobi_plain(
+pub fn merkazobi_plain(
     edition: usize,
     granule: usize,
     plan: &[u16],
@@ -154,8 +141,7 @@ pub extern "C" fn merkazobi_plain(
     answers::tell_judged(task_verdict::plain(Terms { edition, granule }, plan, parts, tasks, place))
 }
 
-#[unsafe(no_mangle)]
-pub extern "C" fn merkazobi_page(
+pub fn merkazobi_page(
     edition: usize,
     granule: usize,
     plan: &[u16],
@@ -170,22 +156,19 @@ pub extern "C" fn merkazobi_page(
     answers::tell_page(task_page::page(Terms { edition, granule }, plan, parts, tasks, place, rows))
 }
 
-#[unsafe(no_mangle)]
-pub extern "C" fn merkazobi_read(file: &[u8]) -> Told
+pub fn merkazobi_read(file: &[u8]) -> Told
     ensures { TellsRead file.now result }
 {
     answers::tell_reading(file_read::read(file))
 }
 
-#[unsafe(no_mangle)]
-pub extern "C" fn merkazobi_section(file: &[u8], which: usize) -> Told
+pub fn merkazobi_section(file: &[u8], which: usize) -> Told
     ensures { TellsSection file.now which result }
 {
     answers::tell_part(which, file_read::read(file))
 }
 
-#[unsafe(no_mangle)]
-pub extern "C" fn merkazobi_write(
+pub fn merkazobi_write(
     edition: usize,
     frame: usize,
     parts: &[u16],
@@ -199,15 +182,13 @@ pub extern "C" fn merkazobi_write(
     answers::tell_filling(file_write::write(edition, frame, parts, tasks, runs, out))
 }
 
-#[unsafe(no_mangle)]
-pub extern "C" fn merkazobi_list(file: &[u8], out: &mut [u8]) -> Told
+pub fn merkazobi_list(file: &[u8], out: &mut [u8]) -> Told
     ensures { TellsList file.now out.old out.new result }
 {
     answers::tell_filling(file_listing::listing(file, out))
 }
 
-#[unsafe(no_mangle)]
-pub extern "C" fn merkazobi_open(desk: &mut Desk, jobs: &mut [Job]) -> Told
+pub fn merkazobi_open(desk: &mut Desk, jobs: &mut [Job]) -> Told
     ensures { TellsOpen desk.old jobs.old desk.new jobs.new result }
 {
     let ask = answers::to_open();
@@ -215,8 +196,7 @@ pub extern "C" fn merkazobi_open(desk: &mut Desk, jobs: &mut [Job]) -> Told
     answers::tell_desk(answered)
 }
 
-#[unsafe(no_mangle)]
-pub extern "C" fn merkazobi_request(
+pub fn merkazobi_request(
     desk: &mut Desk,
     jobs: &mut [Job],
     t: u32,

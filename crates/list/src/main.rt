@@ -1,12 +1,13 @@
 // Reads a plan file from standard input and writes its listing to standard output.
 #![tactic(auto)]
 
-ghost use Rattle.std.specs.Prelude.{◌≡◌, List, ℕ, ◌≤◌, ◌<◌, length, take};
+ghost use Rattle.std.specs.Prelude.{◌≡◌, List, ℕ, ◌≤◌, ◌<◌, true, length, take, IfSome};
+ghost use Rattle.std.specs.Io.KnownBytes.{Appends};
 ghost use Rattle.rules.specs.Limits.{longest_file, longest_listing};
 ghost use Rattle.file_listing.specs.Listing.{listing_of};
 
-use libc::{STDERR_FILENO, STDOUT_FILENO};
 use rules::limits::{LONGEST_FILE, LONGEST_LISTING};
+use std::io::{Read, Write};
 
 // One byte more than a file may have, so that a longer one is seen.
 const ROOM: usize = LONGEST_FILE + 1;
@@ -17,20 +18,27 @@ fn list_input(file: &[u8], n: usize, out: &mut [u8]) -> usize
     requires { (n ≤ length file.now)
         × (longest_file < length file.now)
         × (longest_listing ≤ length out.old) }
-    ensures by_index { (b : List ℕ) → take n file.now ≡ take (length file.now) b
+    ensures text { (b : List ℕ) → take n file.now ≡ take (length file.now) b
         → take result out.new ≡ listing_of b }
-    ensures upper_bound { result ≤ length out.new }
+    ensures bound { result ≤ length out.new }
 {
     file_listing::compose(&file[..n], out)
 }
 
-fn main() {
+// Lists what comes in, in pieces of any sizes, and writes the listing. The answer is whether no read and no write failed: then the
+// listing of all that the input had was written, and nothing else.
+fn list_all<R: Read, W: Write, E: Write>(input: &mut R, output: &mut W, said: &mut E) -> bool
+    ensures { result ≡ true → IfSome (R.remaining input.old)
+        (λ b. Appends (W.contents output.old) (W.contents output.new) (listing_of b)) }
+{
     let mut file = [0u8; ROOM];
-    let n = io::read_full(0, &mut file);
+    let taken = streams::read_full(input, &mut file);
     let mut out = [0u8; LONGEST_LISTING];
-    let k = list_input(&file, n, &mut out);
-    let written = io::write_all(STDOUT_FILENO, &out[..k]);
-    if !written {
-        io::write_all(STDERR_FILENO, b"a write failed\n");
-    }
+    let k = list_input(&file, taken.count, &mut out);
+    let written = streams::write_or_say(output, said, &out[..k]);
+    written && !taken.failed
+}
+
+fn main(rt: HostRuntime) {
+    list_all(&mut rt.stdin(), &mut rt.stdout(), &mut rt.stderr());
 }

@@ -2,14 +2,15 @@
 // file's edition, 1 where there is none.
 #![tactic(auto)]
 
-ghost use Rattle.std.specs.Prelude.{◌≡◌, List, ℕ, ◌≤◌, ◌<◌, length, take};
+ghost use Rattle.std.specs.Prelude.{◌≡◌, List, ℕ, ◌≤◌, ◌<◌, true, length, take, IfSome};
+ghost use Rattle.std.specs.Io.KnownBytes.{Appends};
 ghost use Rattle.rules.specs.Limits.{longest_file};
 ghost use Rattle.share_text.specs.Table.{longest_text};
 ghost use Rattle.share_plan.specs.Answer.{answer_of};
 
-use libc::{STDERR_FILENO, STDOUT_FILENO};
 use rules::limits::LONGEST_FILE;
 use share_text::LONGEST_TEXT;
+use std::io::{Read, Write};
 
 // The longest edition in bytes; a longer word is none.
 const WORD: usize = 5;
@@ -23,28 +24,40 @@ fn plan_input(edition: usize, text: &[u8], n: usize, out: &mut [u8]) -> usize
     requires { (n ≤ length text.now)
         × (longest_text < length text.now)
         × (longest_file ≤ length out.old) }
-    ensures by_index { (t : List ℕ) → take n text.now ≡ take (length text.now) t
+    ensures answer { (t : List ℕ) → take n text.now ≡ take (length text.now) t
         → take result out.new ≡ answer_of edition t longest_file }
-    ensures upper_bound { result ≤ length out.new }
+    ensures bound { result ≤ length out.new }
 {
     share_plan::plan(edition, &text[..n], out)
 }
 
-// The edition that the program was started with.
-fn edition_given() -> usize {
-    let mut word = [0u8; WORD];
-    let n = os::arg(1, &mut word);
-    share_plan::edition_asked(os::arg_count(), &word[..n])
+// Plans what comes in, in pieces of any sizes, and writes what is answered. The answer is whether no read and no write failed: then
+// what is answered to all that the input had was written, and nothing else.
+fn plan_all<R: Read, W: Write, E: Write>(
+    edition: usize,
+    input: &mut R,
+    output: &mut W,
+    said: &mut E,
+) -> bool
+    ensures { result ≡ true → IfSome (R.remaining input.old)
+        (λ t. Appends (W.contents output.old) (W.contents output.new) (answer_of edition t longest_file)) }
+{
+    let mut text = [0u8; READ];
+    let taken = streams::read_full(input, &mut text);
+    let mut out = [0u8; LONGEST_FILE];
+    let k = plan_input(edition, &text, taken.count, &mut out);
+    let written = streams::write_or_say(output, said, &out[..k]);
+    written && !taken.failed
 }
 
-fn main() {
-    let edition = edition_given();
-    let mut text = [0u8; READ];
-    let n = io::read_full(0, &mut text);
-    let mut out = [0u8; LONGEST_FILE];
-    let k = plan_input(edition, &text, n, &mut out);
-    let written = io::write_all(STDOUT_FILENO, &out[..k]);
-    if !written {
-        io::write_all(STDERR_FILENO, b"a write failed\n");
-    }
+// The edition that the program was started with.
+fn edition_given(rt: &HostRuntime) -> usize {
+    let mut word = [0u8; WORD];
+    let n = streams::word(rt, 1, &mut word);
+    share_plan::edition_asked(streams::word_count(rt), &word[..n])
+}
+
+fn main(rt: HostRuntime) {
+    let edition = edition_given(&rt);
+    plan_all(edition, &mut rt.stdin(), &mut rt.stdout(), &mut rt.stderr());
 }

@@ -9,7 +9,7 @@ compile_error!("the archive is for x86-64, and a time under an emulator means no
 /// With which the second program's entries are asked too: whole ticks.
 pub const GRANULE: u64 = 1;
 
-#[link(name = "api", kind = "static")]
+#[link(name = "api_c", kind = "static")]
 extern "C" {
     fn merkazobi_held(
         edition: usize,

@@ -6,8 +6,8 @@ use std::path::{self, Path, PathBuf};
 use std::process::{Child, Command, Stdio};
 
 pub const ADVICE: &str = "`sh tests/compare.sh` builds it";
-const PLAN_ADVICE: &str = "`rt check plan` builds it";
-const WHY_ADVICE: &str = "`rt check why` builds it";
+const PLAN_ADVICE: &str = "`tools/program plan` builds it";
+const WHY_ADVICE: &str = "`tools/program why` builds it";
 
 #[derive(Clone)]
 pub struct Programs {
@@ -48,7 +48,7 @@ pub struct Ended {
 }
 
 impl Programs {
-    /// target/calls, target/bin/plan and target/bin/why, or what SECOND_CALLS, SECOND_PLAN and
+    /// target/calls and the two programs as rt built them, or what SECOND_CALLS, SECOND_PLAN and
     /// SECOND_WHY name. The package's folder is asked for now: that of the building is another one
     /// where the repository was copied or moved with what it built.
     pub fn find() -> Result<Programs, String> {
@@ -60,8 +60,8 @@ impl Programs {
             named.unwrap_or_else(|| root.join(usual))
         };
         let calls = there(&named("SECOND_CALLS", "target/calls"), ADVICE)?;
-        let plan = there(&named("SECOND_PLAN", "target/bin/plan"), PLAN_ADVICE)?;
-        let why = there(&named("SECOND_WHY", "target/bin/why"), WHY_ADVICE)?;
+        let plan = there(&named("SECOND_PLAN", "crates/plan/out/plan"), PLAN_ADVICE)?;
+        let why = there(&named("SECOND_WHY", "crates/why/out/why"), WHY_ADVICE)?;
         let program = |path: PathBuf| Program {
             x86: root.join("tools/x86"),
             before: Vec::new(),
