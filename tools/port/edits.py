@@ -63,7 +63,7 @@ def tight(line):
     line = re.sub(r"\(?\bnow \((\w+) \.exit\)\)?", r"\1.new", line)
     line = re.sub(r"(?<=[\w'])((?: \.[\w']+)+)", lambda it: it[1].replace(" ", ""), line)
     line = re.sub(r"\(([\w']+(?:\.[\w']+)+)\)", r"\1", line)
-    return line.replace("Rattle·", "Rattle.")
+    return re.sub(r"(Prim\.Native\.Nat\.)_([-+*/%])_", r"\1◌\2◌", line.replace("Rattle·", "Rattle."))
 
 
 def turned(line):
@@ -86,7 +86,7 @@ for edit in sorted(glob.glob("crates/*/must-fail/*.edit")):
             if word == "old":
                 keep = target.count(rest) == 1
                 bad = bad or not (keep or target.count(turned(rest)) == 1)
-            lines.append(f"{word}: {rest if keep else turned(rest)}")
+            lines.append(f"{word}: {tight(rest) if keep and word == 'new' else rest if keep else turned(rest)}")
         else:
             lines.append(line)
     new = "\n".join(lines) + "\n"

@@ -36,8 +36,8 @@ def declared(text):
     return found
 
 
-def fields(text):
-    """The fields of the records that a file declares."""
+def fields(text, ends):
+    """The fields of the records that a file declares, each with what ends its name: in specs/ the type may stand in the next line."""
     found, inside = set(), False
     for line in code(text).split("\n"):
         if re.match(r"\s*(pub )?record ", line):
@@ -45,7 +45,7 @@ def fields(text):
         elif inside and line and not line.startswith(" "):
             inside = False
         elif inside:
-            it = re.match(rf"^\s+pub ({WORD}) :", line)
+            it = re.match(rf"^\s+pub ({WORD}) :{ends}", line)
             if it:
                 found.add(it[1])
     return found
@@ -57,7 +57,7 @@ def snake(name):
 
 FILES = sorted(glob.glob("crates/*/specs/*.antt") + glob.glob("crates/*/proofs/*.antt"))
 OWN = {path: declared(read(path)) for path in FILES}
-FIELDS = set().union(*(fields(read(path)) for path in FILES))
+FIELDS = set().union(*(fields(read(path), r"(?:\s|$)" if "/specs/" in path else r"\s") for path in FILES))
 DEFINED = {snake(n) for path in FILES if "/specs/" in path for n in OWN[path] if "-" not in n} | PLAIN_NAMES
 
 
@@ -73,7 +73,7 @@ def respelled(name):
     return new
 
 
-NAMES = {n for path in FILES for n in OWN[path]}
+NAMES = {n for path in FILES for n in OWN[path]} | FIELDS
 TABLE = {n: respelled(n) for n in NAMES if respelled(n) != n}
 # A lemma that would have its definition's name ends in _lem.
 TO_CAMEL = {new for n, new in TABLE.items() if "-" not in n}

@@ -25,24 +25,13 @@ pub fn merkazobi_least(edition: usize, plan: &[u16], p: u16, t: u32) -> Told
     answers::tell_holding(plan_service::least(edition, plan, p, t))
 }
 
-pub fn merkazobi_curve(
-    edition: usize,
-    plan: &[u16],
-    p: u16,
-    n: u32,
-    list: &mut [u32],
-) -> Told
+pub fn merkazobi_curve(edition: usize, plan: &[u16], p: u16, n: u32, list: &mut [u32]) -> Told
     ensures { TellsCurve edition plan.now p n list.old list.new result }
 {
     answers::tell_filling(plan_curve::curve(edition, plan, p, n, list))
 }
 
-pub fn merkazobi_check(
-    edition: usize,
-    granule: usize,
-    plan: &[u16],
-    parts: &[u16],
-) -> Told
+pub fn merkazobi_check(edition: usize, granule: usize, plan: &[u16], parts: &[u16]) -> Told
     ensures { TellsCheck edition granule plan.now parts.now result }
 {
     answers::tell_finding(plan_check::check(Terms { edition, granule }, plan, parts))
@@ -196,13 +185,7 @@ pub fn merkazobi_open(desk: &mut Desk, jobs: &mut [Job]) -> Told
     answers::tell_desk(answered)
 }
 
-pub fn merkazobi_request(
-    desk: &mut Desk,
-    jobs: &mut [Job],
-    t: u32,
-    c: u32,
-    d: u32,
-) -> Told
+pub fn merkazobi_request(desk: &mut Desk, jobs: &mut [Job], t: u32, c: u32, d: u32) -> Told
     ensures { TellsRequest desk.old jobs.old t c d
         desk.new jobs.new result }
 {

@@ -99,9 +99,9 @@ module _ (plan ps list plan' o : List ℕ) (tick owner : ℕ) (c : Changes plan 
     list_as_long = kept-tail.0;
     earlier = λ p k h l. omega (arith, rw (le-ltb tick k l) at (shift p k h));
     of_others = λ p k h a b. omega (arith, shift p k h, not_other (get_or plan tick 0) p k a, not_other owner p k b);
-    of-old = λ p k h l a b. omega (arith, shift p k h, other (get_or plan tick 0) p k l a, not_other owner p k b);
-    of-new = λ p k h l a b. omega (arith, shift p k h, not_other (get_or plan tick 0) p k a, other owner p k l b);
-    of-both = λ p k h a b. omega (arith, shift p k h, ap (λ (x : ℕ). only (ltb tick k && eqb x p) 1) (sym a ∙ b));
+    of_old = λ p k h l a b. omega (arith, shift p k h, other (get_or plan tick 0) p k l a, not_other owner p k b);
+    of_new = λ p k h l a b. omega (arith, shift p k h, not_other (get_or plan tick 0) p k a, other owner p k l b);
+    of_both = λ p k h a b. omega (arith, shift p k h, ap (λ (x : ℕ). only (ltb tick k && eqb x p) 1) (sym a ∙ b));
     tail = kept-tail.1;
   }
     where

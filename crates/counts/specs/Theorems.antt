@@ -186,13 +186,13 @@ pub record OnlyMoves (plan ps list plan' o : List ℕ) (tick owner : ℕ) : Type
   pub earlier : (p k : ℕ) → HasNumber plan ps p k → k ≤ tick → get_or o (number_of plan p k) 0 ≡ get_or list (number_of plan p k) 0
   pub of_others :
       (p k : ℕ) → HasNumber plan ps p k → ¬ (p ≡ get_or plan tick 0) → ¬ (p ≡ owner) → get_or o (number_of plan p k) 0 ≡ get_or list (number_of plan p k) 0
-  pub of-old :
+  pub of_old :
       (p k : ℕ) → HasNumber plan ps p k → tick < k → p ≡ get_or plan tick 0 → ¬ (p ≡ owner)
       → get_or o (number_of plan p k) 0 + 1 ≡ get_or list (number_of plan p k) 0
-  pub of-new :
+  pub of_new :
       (p k : ℕ) → HasNumber plan ps p k → tick < k → ¬ (p ≡ get_or plan tick 0) → p ≡ owner
       → get_or o (number_of plan p k) 0 ≡ get_or list (number_of plan p k) 0 + 1
-  pub of-both :
+  pub of_both :
       (p k : ℕ) → HasNumber plan ps p k → p ≡ get_or plan tick 0 → p ≡ owner → get_or o (number_of plan p k) 0 ≡ get_or list (number_of plan p k) 0
   pub tail : (i : ℕ) → needed plan ps ≤ i → get_or o i 0 ≡ get_or list i 0
 

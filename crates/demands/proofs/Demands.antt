@@ -337,7 +337,7 @@ module _ (k k' : Desk) (l l' : List Job) (time c d : ℕ) (t : Told) (p : TellsR
       let w = (desk.proved).busy_ends k.clock k.count l time c d (rw (desk_is asked k' l' t p) at e) in
       let tells : (k₃ : Desk) (l₃ : List Job) → k₃ ≡ desk_of asked → l₃ ≡ asked.jobs → (u c₂ d₂ : ℕ) → u ≡ ends (get_or l₃ 0 none)
       → ¬ ((said (request_of k₃.clock k₃.count l₃ u c₂ d₂).answer).number ≡ 16) =
-      λ k₃ l₃ ek el u c₂ d₂. rw (ek, el) (w.free-then u c₂ d₂) in (
+      λ k₃ l₃ ek el u c₂ d₂. rw (ek, el) (w.free_then u c₂ d₂) in (
         rw p.1.2 w.begun,
         rw p.1.2 w.unended,
         λ u c₂ d₂ k₂ l₂ t₂ at q f. tells k' l' p.1.1 p.1.2 u c₂ d₂ at (rw (desk_is _ k₂ l₂ t₂ q) at f),
@@ -449,13 +449,13 @@ first = record {
       (λ (c : Reading). Numbered (1 ∷ 2 ∷ 3 ∷ 4 ∷ 5 ∷ 6 ∷ 7 ∷ 8 ∷ []) (told_reading c)) reading.Refused (reading.Contents i f p t r) (λ e. refl) refl (λ k. refl) (λ j. refl) (λ r. refl) refl));
   section_refused = λ b which t u p q n. section_is b which t p ∙ no_part b which (λ z. n (rw (read_is b u q) z)) ∙ sym (read_is b u q);
   section_good = λ b which t u p q e. rw (section_is b which t p) (a_part b which (rw (read_is b u q) at e));
-  write-numbers = λ i f ps ts rs out o t p.
+  write_numbers = λ i f ps ts rs out o t p.
       rw (write_is i f ps ts rs out o t p)
       (file_holds i f ps ts rs (λ (w : Filling). Numbered (2 ∷ 3 ∷ 6 ∷ 7 ∷ 8 ∷ 12 ∷ []) (told_filling w)) filling.Refused _ (λ e. refl) refl (λ k. refl) (λ j. refl) (λ r. refl)
       (write-told (ltb (length out) (size_for ps ts rs)) _));
   list_numbers = λ b out o t p. rw (list_is b out o t p) (list-told (ltb (length out) (length (listing_of b))) _);
   open_numbers = λ k k' l l' t p. rw (desk_is _ k' l' t p) (open_told (table_ok k.count l) _ _ k.count k.clock);
-  request-numbers = λ k k' l l' time c d t p.
+  request_numbers = λ k k' l l' time c d t p.
       rw (desk_is _ k' l' t p) (request_holds (λ o. Numbered (13 ∷ 14 ∷ 15 ∷ 16 ∷ 17 ∷ 18 ∷ []) (said o.answer)) k.clock k.count l time c d refl refl refl refl refl refl (λ i s. refl));
   held_edition = λ i plan p s n t q.
       rw (held_is i plan p s n t q) (by_edition i (λ (r : Holding). (told_holding r).number) (holding.Holds (held (rule_of i) plan p n s)) (holding.Refused Edition) refl (λ z. absurd (omega arith)));
@@ -485,8 +485,8 @@ first = record {
       rw (judging.check_is i g plan ps t p)
       (granule_exactly i g (length plan) ps [] (λ (r : Finding). (told_finding r).number) found.Refused (plan_check_of (rule_of i) (wanted (given i g) ps) plan ps) (λ r. refl)
       (of_plan (λ (r : Finding). ¬ ((told_finding r).number ≡ 21)) (rule_of i) (wanted (given i g) ps) plan ps (λ z. absurd (omega arith)) (λ t z. absurd (omega arith)) (λ p s h w z. absurd (omega arith))));
-  verdict-granule = judging.judged-granule task_point;
-  plain-granule = judging.judged-granule task_tick;
+  verdict_granule = judging.judged-granule task_point;
+  plain_granule = judging.judged-granule task_tick;
   page_granule = paging.page_granule;
   build_refused = λ g ps out o t p n. p.1.1 ∙ left-refused p.0 (harmonic_plan (wanted (granules g) ps) ps) out (λ z. n (rw p.2 z));
   write_refused = λ i f ps ts rs out o t p n. p.1.1 ∙ left-refused (write_of i f ps ts rs (length out)) (file_of i f ps ts rs) out (λ z. n (rw (write_is i f ps ts rs out o t p) z));
@@ -498,8 +498,8 @@ first = record {
   change_refused = counting.change_refused;
   open_refused = λ k k' l l' t p n.
       let r = refusal_is _ k' l' t p n in left_is _ k' l' t p _ ((desk.proved).open_leaves k.clock k.count l r.0 r.1);
-  request-refused = stayed;
-  request-drops = dropped;
+  request_refused = stayed;
+  request_drops = dropped;
   request_taken = taken;
 }
 
@@ -526,7 +526,7 @@ one_outcome = record {
   check_one = λ i g plan ps. same-told told_finding (Checks (given i g) plan ps) ((checker.proved).check_one (given i g) plan ps);
   build_one = λ g ps out. same_left told_filling (Builds (granules g) ps out) ((builder.proved).build_one (granules g) ps out);
   fill_one = λ plan ps list. same_left told_filling (FillsCounts plan ps list) ((counts.proved).fill_one plan ps list);
-  counts-held-one = λ plan ps list p s n. same-told told_holding (HoldsOne plan ps list p s n) ((counts.proved).held_one plan ps list p s n);
+  counts_held_one = λ plan ps list p s n. same-told told_holding (HoldsOne plan ps list p s n) ((counts.proved).held_one plan ps list p s n);
   many_one = λ plan ps list qs out. same_left told_filling (HoldsMany plan ps list qs out) ((counts.proved).many_one plan ps list qs out);
   change_one = counting.change_one;
   verdict_one = λ i g plan ps ts place. same-told told_judged (Judges (given i g) plan ps ts place) ((verdict.proved).verdict_one (given i g) plan ps ts place);
@@ -534,10 +534,10 @@ one_outcome = record {
   page_one = λ i g plan ps ts place list. same_left told_page (Pages (given i g) plan ps ts place list) ((page.proved).page_one (given i g) plan ps ts place list);
   read_one = λ b. same-told told_reading (Reads b) ((reader.proved).one_read b);
   section_one = λ b which. same-told (told_part which) (Reads b) ((reader.proved).one_read b);
-  write-one = λ i f ps ts rs out. same_left told_filling (Writes i f ps ts rs out) ((writer.proved).one_write i f ps ts rs out);
+  write_one = λ i f ps ts rs out. same_left told_filling (Writes i f ps ts rs out) ((writer.proved).one_write i f ps ts rs out);
   list_one = λ b out. same_left told_filling (Lists b out) ((listing.proved).listing_one b out);
-  open-one = λ k k₁ k₂ l l₁ l₂ t t'. desk-one (open_of k.clock k.count l) k₁ k₂ l₁ l₂ t t';
-  request-one = λ k k₁ k₂ l l₁ l₂ time c d t t'. desk-one (request_of k.clock k.count l time c d) k₁ k₂ l₁ l₂ t t';
+  open_one = λ k k₁ k₂ l l₁ l₂ t t'. desk-one (open_of k.clock k.count l) k₁ k₂ l₁ l₂ t t';
+  request_one = λ k k₁ k₂ l l₁ l₂ time c d t t'. desk-one (request_of k.clock k.count l time c d) k₁ k₂ l₁ l₂ t t';
 }
 
 -- a curve that is drawn is of a known edition
@@ -567,15 +567,15 @@ second = record {
   granule_one = granule_one;
   read_write = (writer.proved).read_write;
   write_read = (writer.proved).write_read;
-  curve-least = λ i plan p n list o t (r, c, e) z u l.
+  curve_least = λ i plan p n list o t (r, c, e) z u l.
       let h : r ≡ filling.Fills t.first = rw e (filling_fills r (rw e at z)) in
       let w = ((curve.proved).curve_leaves i plan p n t.first list o (subst (DrawsCurve i plan p n list o) h c)).2 u l in
       let g = drawn i n (length list) t.first (sym c.0 ∙ h) in
       (holding.Holds (least (rule_of i) plan p u), rw g, rw w);
-  counts-walked = counting.walked;
-  counts-follow = counting.follow;
+  counts_walked = counting.walked;
+  counts_follow = counting.follow;
   engines_alike = judging.engines_alike;
-  page-says = paging.page-says;
+  page_says = paging.page_says;
   accepted_before = λ i g plan ps t u p e q.
       rw (judging.check_is 1 g plan ps u q, (checker.proved).accepted_before (given i g) plan ps (judging.accepted_is i g plan ps t p e));
   passed_before = judging.passed_before task_point (verdict.proved).by_points judging.point-from_1;
@@ -585,7 +585,7 @@ second = record {
   lower_exactly = lower-told;
   taken_exactly = taken-told;
   no_place_exactly = no_place_told;
-  no-place-explained = explained-told;
+  no_place_explained = explained-told;
   no_place_room_taken = room-told;
   taken_start = start-told;
   never_too_far = near_told;

@@ -261,7 +261,7 @@ limits = record {
   budget_1000001 = (_, (refl, refl, refl), refl);
   deadline_1000001 = (_, (refl, refl, refl), refl);
   clock_1000001 = (_, (refl, refl, refl), refl);
-  listed-1000001 = (_, (refl, refl, refl), refl);
+  listed_1000001 = (_, (refl, refl, refl), refl);
 }
 
 pub each_refusal : EachRefusal

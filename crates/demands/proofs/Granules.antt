@@ -150,5 +150,5 @@ granule_one = record {
   of_text = λ t h. rw (no_granule t h (length t));
   of_planner = λ ps ts room. rw (tables-whole _ ps ts, written_whole ps ts room);
   of_file = λ ps ts. ap (λ (q : ℕ → ℕ). file_of 1 (frame ps) ps ts (runs_of (harmonic_plan q ps))) (whole ps);
-  of-lines = λ plan ps k. rw (wants_whole (cycle ps k) (num ps k) (den ps k));
+  of_lines = λ plan ps k. rw (wants_whole (cycle ps k) (num ps k) (den ps k));
 }

@@ -172,10 +172,10 @@ module _ (i g : ℕ) (plan ps ts : List ℕ) (place : ℕ) (list o : List ℕ) (
   says : PageSays i plan ts (place - 1) list o t u
   says = record { pass = pass-told; refused = refused_alike; short = short-told; rows = rows_told; tightest = tightest-told }
 
-pub page-says :
+pub page_says :
     (i g : ℕ) (plan ps ts : List ℕ) (place : ℕ) (list o : List ℕ) (t v : Told) → TellsPage i g plan ps ts place list o t → TellsVerdict i g plan ps ts place v
     → PageSays i plan ts (place - 1) list o t v
-page-says i g plan ps ts place list o t v c (r, q, e) = subst (λ (x : Told). PageSays i plan ts (place - 1) list o t x) (sym (e ∙ ap told_judged q)) (says i g plan ps ts place list o t c)
+page_says i g plan ps ts place list o t v c (r, q, e) = subst (λ (x : Told). PageSays i plan ts (place - 1) list o t x) (sym (e ∙ ap told_judged q)) (says i g plan ps ts place list o t c)
 
 -- ---- each refusal, by computation
 

@@ -102,14 +102,14 @@ pub record Demand1 : Type 0 where
   pub section_refused : (b : List ℕ) (which : ℕ) (t u : Told) → TellsSection b which t → TellsRead b u → Refused u → t ≡ u
   pub section_good : (b : List ℕ) (which : ℕ) (t u : Told) → TellsSection b which t → TellsRead b u → u.number ≡ 0 → t.number ≡ 0
   -- "the writer 3, 6, 7, 8, 12" with 2
-  pub write-numbers :
+  pub write_numbers :
       (e f : ℕ) (ps ts rs out o : List ℕ) (t : Told) → TellsWrite e f ps ts rs out o t → Numbered (2 ∷ 3 ∷ 6 ∷ 7 ∷ 8 ∷ 12 ∷ []) t
   -- a listing is refused only for want of room
   pub list_numbers : (b out o : List ℕ) (t : Told) → TellsList b out o t → Numbered (12 ∷ []) t
   -- "opening 13"
   pub open_numbers : (k k' : Desk) (l l' : List Job) (t : Told) → TellsOpen k l k' l' t → Numbered (13 ∷ []) t
   -- "a request 13 to 19", and document 02, ask 8: "Refusal 19 goes."
-  pub request-numbers :
+  pub request_numbers :
       (k k' : Desk) (l l' : List Job) (time c d : ℕ) (t : Told) → TellsRequest k l time c d k' l' t
       → Numbered (13 ∷ 14 ∷ 15 ∷ 16 ∷ 17 ∷ 18 ∷ []) t
   -- document 02, ask 6: "2 now means neither 1 nor 2, in a call too": exactly then, whatever else comes in
@@ -125,9 +125,9 @@ pub record Demand1 : Type 0 where
   -- document 02, ask 5: "g outside 1 to 16 is 21, after 3": exactly then, whatever the records and the plan
   pub build_granule : (g : ℕ) (ps out o : List ℕ) (t : Told) → TellsBuild g ps out o t → (t.number ≡ 21) ↔ BadGranule 1 g longest ps []
   pub check_granule : (e g : ℕ) (plan ps : List ℕ) (t : Told) → TellsCheck e g plan ps t → (t.number ≡ 21) ↔ BadGranule e g (length plan) ps []
-  pub verdict-granule :
+  pub verdict_granule :
       (e g : ℕ) (plan ps ts : List ℕ) (place : ℕ) (t : Told) → TellsVerdict e g plan ps ts place t → (t.number ≡ 21) ↔ BadGranule e g (length plan) ps ts
-  pub plain-granule :
+  pub plain_granule :
       (e g : ℕ) (plan ps ts : List ℕ) (place : ℕ) (t : Told) → TellsPlain e g plan ps ts place t → (t.number ≡ 21) ↔ BadGranule e g (length plan) ps ts
   pub page_granule :
       (e g : ℕ) (plan ps ts : List ℕ) (place : ℕ) (list o : List ℕ) (t : Told) → TellsPage e g plan ps ts place list o t
@@ -147,11 +147,11 @@ pub record Demand1 : Type 0 where
       → (plan' ≡ plan) × (o ≡ list)
   -- "13, 14, 15 .. change nothing at the desk."
   pub open_refused : (k k' : Desk) (l l' : List Job) (t : Told) → TellsOpen k l k' l' t → Refused t → (k' ≡ k) × (l' ≡ l)
-  pub request-refused :
+  pub request_refused :
       (k k' : Desk) (l l' : List Job) (time c d : ℕ) (t : Told) → TellsRequest k l time c d k' l' t
       → ToldAs (13 ∷ 14 ∷ 15 ∷ []) t → (k' ≡ k) × (l' ≡ l)
   -- "16, 17, 18 set the clock to t and drop finished jobs .. nothing else changes."
-  pub request-drops :
+  pub request_drops :
       (k k' : Desk) (l l' : List Job) (time c d : ℕ) (t : Told) → TellsRequest k l time c d k' l' t → ToldAs (16 ∷ 17 ∷ 18 ∷ []) t
       → (k'.clock ≡ time) × (k'.count ≡ length (kept time (take k.count l))) × (l' ≡ filled (kept time (take k.count l)))
   -- "A job taken in sets the clock too."
@@ -168,7 +168,7 @@ pub record OneOutcome : Type 0 where
   pub build_one : (g : ℕ) (ps out o o' : List ℕ) (t t' : Told) → TellsBuild g ps out o t → TellsBuild g ps out o' t' → (t ≡ t') × (o ≡ o')
   pub fill_one :
       (plan ps list o o' : List ℕ) (t t' : Told) → TellsFill plan ps list o t → TellsFill plan ps list o' t' → (t ≡ t') × (o ≡ o')
-  pub counts-held-one :
+  pub counts_held_one :
       (plan ps list : List ℕ) (p s n : ℕ) (t t' : Told) → TellsCounted plan ps list p s n t → TellsCounted plan ps list p s n t' → t ≡ t'
   pub many_one :
       (plan ps list qs out o o' : List ℕ) (t t' : Told) → TellsMany plan ps list qs out o t → TellsMany plan ps list qs out o' t'
@@ -183,12 +183,12 @@ pub record OneOutcome : Type 0 where
       → (t ≡ t') × (o ≡ o')
   pub read_one : (b : List ℕ) (t t' : Told) → TellsRead b t → TellsRead b t' → t ≡ t'
   pub section_one : (b : List ℕ) (which : ℕ) (t t' : Told) → TellsSection b which t → TellsSection b which t' → t ≡ t'
-  pub write-one :
+  pub write_one :
       (e f : ℕ) (ps ts rs out o o' : List ℕ) (t t' : Told) → TellsWrite e f ps ts rs out o t → TellsWrite e f ps ts rs out o' t' → (t ≡ t') × (o ≡ o')
   pub list_one : (b out o o' : List ℕ) (t t' : Told) → TellsList b out o t → TellsList b out o' t' → (t ≡ t') × (o ≡ o')
-  pub open-one :
+  pub open_one :
       (k k₁ k₂ : Desk) (l l₁ l₂ : List Job) (t t' : Told) → TellsOpen k l k₁ l₁ t → TellsOpen k l k₂ l₂ t' → (t ≡ t') × (k₁ ≡ k₂) × (l₁ ≡ l₂)
-  pub request-one :
+  pub request_one :
       (k k₁ k₂ : Desk) (l l₁ l₂ : List Job) (time c d : ℕ) (t t' : Told) → TellsRequest k l time c d k₁ l₁ t → TellsRequest k l time c d k₂ l₂ t'
       → (t ≡ t') × (k₁ ≡ k₂) × (l₁ ≡ l₂)
 
@@ -263,14 +263,14 @@ pub record Demand2 : Type 0 where
   pub read_write : writer.ReadWrite
   pub write_read : writer.WriteRead
   -- each number of a curve is what `least` answers
-  pub curve-least :
+  pub curve_least :
       (e : ℕ) (plan : List ℕ) (p n : ℕ) (list o : List ℕ) (t : Told) → TellsCurve e plan p n list o t → t.number ≡ 0
       → (u : ℕ) → u ≤ n → TellsLeast e plan p u (placed 0 (get_or o u 0))
   -- document 02, ask 2: "Any stretch, across the frame's end too, is answered from it and equals the count by walking": what `held` tells in edition 1, for "Ask 2 goes on counting owned ticks"
-  pub counts-walked :
+  pub counts_walked :
       (plan ps list : List ℕ) (p s n : ℕ) (t : Told) → TellsCounted plan ps list p s n t → t.number ≡ 0 → TellsHeld 1 plan p s n t
   -- fill, then change, then held: neither is refused, and what is told is held of the changed plan
-  pub counts-follow :
+  pub counts_follow :
       (plan ps list o plan' o' : List ℕ) (tick owner p s n : ℕ) (t u v : Told) → TellsFill plan ps list o t → t.number ≡ 0
       → TellsChange plan ps o tick owner plan' o' u → owner ≤ partitions ps → tick < length plan
       → TellsCounted plan' ps o' p s n v → counts.Named ps p → counts.Within plan s n
@@ -280,7 +280,7 @@ pub record Demand2 : Type 0 where
       (e g : ℕ) (plan ps ts : List ℕ) (place : ℕ) (t u : Told) → TellsVerdict e g plan ps ts place t → TellsPlain e g plan ps ts place u
       → ToldAlike t u
   -- document 02, ask 7: "When a task fails, his engineer wants the reason."
-  pub page-says :
+  pub page_says :
       (e g : ℕ) (plan ps ts : List ℕ) (place : ℕ) (list o : List ℕ) (t u : Told) → TellsPage e g plan ps ts place list o t → TellsVerdict e g plan ps ts place u
       → PageSays e plan ts (place - 1) list o t u
   -- document 02, ask 6: a plan that is accepted in edition 2 is so in edition 1, and a task that passes there, by either engine, passes here
@@ -303,7 +303,7 @@ pub record Demand2 : Type 0 where
       (k k' : Desk) (l l' : List Job) (time c d : ℕ) (t : Told) → TellsRequest k l time c d k' l' t
       → (t.number ≡ 18) ↔ (¬ ToldAs lower t × ¬ desk.Fits time c d (kept time (take k.count l)))
   -- "With its 18 the desk gives the lowest place with the largest room, that room, and whether the request's own deadline or a listed job's binds it"
-  pub no-place-explained :
+  pub no_place_explained :
       (k k' : Desk) (l l' : List Job) (time c d : ℕ) (t : Told) → TellsRequest k l time c d k' l' t → t.number ≡ 18
       → Explains time c d (kept time (take k.count l)) t
   -- and so many ticks are taken, just there

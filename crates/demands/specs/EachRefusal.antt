@@ -354,7 +354,7 @@ pub record EachLimit : Type 0 where
   pub budget_1000001 : TellsRequest (desk 0 0) empty 1 1000001 1 (desk 0 0) empty (placed 14 0)
   pub deadline_1000001 : TellsRequest (desk 0 0) empty 1 1 1000001 (desk 0 0) empty (placed 14 0)
   pub clock_1000001 : TellsRequest (desk 1000001 0) empty 1 1 1 (desk 1000001 0) empty (placed 13 0)
-  pub listed-1000001 :
+  pub listed_1000001 :
       TellsOpen (desk 0 1) (filled (job 1 1 1000001 0 ∷ [])) (desk 0 1) (filled (job 1 1 1000001 0 ∷ [])) (placed 13 0)
 
 pub record EachRefusal : Type 0 where

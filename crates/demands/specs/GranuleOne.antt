@@ -62,5 +62,5 @@ pub record GranuleOne : Type 0 where
       (ps ts : List ℕ) (room : ℕ) → write_plan_of usual ps ts room ≡ unless filling.Refused (tables01 longest ps ts) (written01 (build_of usual ps longest) ps ts room)
   pub of_file : (ps ts : List ℕ) → plan_file usual ps ts ≡ file_of 1 (frame ps) ps ts (runs_of (harmonic_plan (whole_ticks ps) ps))
   -- "partition 1 wants 2 in 4 least 2"
-  pub of-lines :
+  pub of_lines :
       (plan ps : List ℕ) (k : ℕ) → part_line Own plan ps k ≡ partition_line (k + 1) (whole_ticks ps k) (cycle ps k) (least Own plan (k + 1) (cycle ps k))

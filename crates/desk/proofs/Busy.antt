@@ -69,7 +69,7 @@ running_of t l (j ∷ js) e b g s =
     record {
       begun = ltb-true _ _ b;
       unended = first-left t l j js e;
-      free-then = λ u c d at f.
+      free_then = λ u c d at f.
           let again = (is_busy t n (filled (j ∷ js)) u c d _ (ending t n (filled (j ∷ js)) u c d s) f).0 in
           let here = subst (λ (ks : List Job). busy u (kept u ks) ≡ true) (take-filled (j ∷ js) n refl) again in
           true≢false (sym here ∙ free u j js (omega arith) (chain_low (ends j) u js (omega arith) g.2));

@@ -186,7 +186,7 @@ NoPlaceRoomTaken =
 pub record Running (t : ℕ) (o : Outcome) : Type 0 where
   pub begun : start (get_or o.jobs 0 none) < t
   pub unended : t < ends (get_or o.jobs 0 none)
-  pub free-then :
+  pub free_then :
       (u c d : ℕ) → u ≡ ends (get_or o.jobs 0 none) → Refuses (request_of o.clock o.count o.jobs u c d) 16 → ⊥
 
 abbrev pub BusyEnds : Type 0
