@@ -3,8 +3,9 @@
 # Why each must-fail edit was refused: `edits.sh [SAID]`, where the file SAID has what `rt ci` said; without it `rt must-fail` tries the edits
 # now. `rt ci` counts any refusal, and an edit that it can't try fails nothing there. Here each edit has to be refused, and at a fact that fails:
 # for no slip in the edit itself, no proof that is merely written for other names, and no limit of the prover. The words are rt's;
-# tests/edits.txt has lines of real runs with each of them, and is read first. A line can't show that the fact is the one meant: people read it
-# when they write an edit.
+# tests/edits.txt has lines of real runs with each of them, and is read first. The line has the first error alone: where that is only a proof's
+# shape, as a rewriting that finds nothing, the edit is told in a copy and all that its check says is read for a fact.
+# A line can't show that the fact is the one meant: people read it when they write an edit.
 set -u
 cd "$(dirname "$0")/.." || exit 1
 . tests/expect.sh
@@ -18,8 +19,9 @@ why() {
             fact = fact "|: no proof of `"              # search
             fact = fact "|the goal does not follow from what it read" # omega, often with numbers for which it fails
             fact = fact "|the equations do not join"    # cc
-            fact = fact "|whose two ends are equal"     # rw and simp: what is left is no equation that holds
+            fact = fact "|whose two ends are equal|give a proof of that as the last argument" # rw and simp: what is left is no equation that holds
             fact = fact "|the two (types|sides) (first differ|differ only|are) |expected type .*, but this has type |: does not hold "
+            fact = fact "|expected type `?Path |expected type [^,]* (≡|≤|<) " # a line that is cut before what was found
             # The shape of a proof: it does not fit the edited text, whatever that means.
             shape = "` has no field `| is not in scope|was not admitted| has no `|no occurrence of the path|no equation of the list"
         }
@@ -46,6 +48,34 @@ for line in "$made"/*.slip "$made"/*.shape "$made"/*.limit "$made"/*.proved "$ma
     is "tests/edits.txt, $(head -n 1 "$line")" "${said%%:*}" "${line##*.}"
 done
 
+# whole EDIT: why, of all that the check of an edit says, told in a copy over what was proved
+whole() {
+    crate=${1#crates/}
+    crate=${crate%%/*}
+    if [ ! -d "$made/tree" ]; then
+        mkdir "$made/tree"
+        tar -c --exclude=out/incremental crates crates.txt | tar -x -C "$made/tree"
+    fi
+    python3 - "$1" "$made/tree/crates/$crate" <<'TELL'
+import sys
+lines = [line.rstrip("\n").partition(": ") for line in open(sys.argv[1], encoding="utf-8")]
+for word, _, text in lines:
+    if word == "file":
+        path = f"{sys.argv[2]}/{text}"
+    elif word == "old":
+        old = text
+    elif word == "new":
+        with open(path, encoding="utf-8") as f:
+            whole = f.read()
+        with open(path, "w", encoding="utf-8") as f:
+            f.write(whole.replace(old, text, 1))
+TELL
+    (cd "$made/tree/crates/$crate" && rt check 2>&1) | grep -E '^[^ ]*: error: |^note: [^ ]*: (it is not proved that|`search` found no proof)' |
+        sed "s,^,rt: must-fail $crate.edit: refused\, as it must be: ," | why | grep -m 1 '^fact: '
+    rm -r "$made/tree/crates/$crate/src" "$made/tree/crates/$crate/specs" 2>/dev/null
+    cp -R "crates/$crate/src" "crates/$crate/specs" "$made/tree/crates/$crate" 2>/dev/null
+}
+
 # ---- the edits
 
 if [ $# -gt 0 ]; then cat "$1"; else rt must-fail; fi >"$made/said" 2>&1
@@ -55,6 +85,12 @@ for edit in crates/*/must-fail/*.edit; do
     said=$(grep -F -e "rt: must-fail $name: " "$made/said" | why)
     case $said in
     fact:*) ;;
+    shape:*)
+        if [ -z "$(whole "$edit")" ]; then
+            printf '%s is not refused by a fact: %.400s\n' "$name" "$said"
+            failed=1
+        fi
+        ;;
     '')
         echo "$name is not told of"
         failed=1
