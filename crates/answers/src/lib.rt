@@ -2,7 +2,7 @@
 #![tactic(auto)]
 
 ghost use Rattle.std.specs.Prelude.{◌≡◌};
-ghost use Rattle.rules.specs.Refusals.{told_finding, told_filling, told_holding};
+ghost use Rattle.rules.specs.Refusals.{told_done, told_count};
 ghost use Rattle.task_verdict.specs.Verdict.{told_judged};
 ghost use Rattle.task_page.specs.Page.{told_page};
 ghost use Rattle.file_read.specs.Reader.{told_reading};
@@ -31,7 +31,7 @@ fn answer(first: usize, second: usize) -> Told
 }
 
 pub fn tell_finding(found: Finding) -> Told
-    ensures { result ≡ told_finding found }
+    ensures { result ≡ told_done found }
 {
     match found {
         Finding::Good => answer(0, 0),
@@ -40,7 +40,7 @@ pub fn tell_finding(found: Finding) -> Told
 }
 
 pub fn tell_filling(filled: Filling) -> Told
-    ensures { result ≡ told_filling filled }
+    ensures { result ≡ told_count filled }
 {
     match filled {
         Filling::Fills(n) => answer(n, 0),
@@ -49,7 +49,7 @@ pub fn tell_filling(filled: Filling) -> Told
 }
 
 pub fn tell_holding(held: Holding) -> Told
-    ensures { result ≡ told_holding held }
+    ensures { result ≡ told_count held }
 {
     match held {
         Holding::Holds(n) => answer(n, 0),

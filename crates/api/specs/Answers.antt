@@ -3,7 +3,7 @@
 use Rattle.std.specs.Prelude.{ℕ, List}
 use Rattle.rules.specs.Terms.{given, granules}
 use Rattle.rules.specs.declared.Told.{Told}
-use Rattle.rules.specs.Refusals.{told_finding, told_filling, told_holding, Tells}
+use Rattle.rules.specs.Refusals.{told_done, told_count, Tells}
 use Rattle.theory.specs.Plan.{HeldIs, LeastIs}
 use Rattle.plan_curve.specs.Curve.{DrawsCurve}
 use Rattle.plan_check.specs.Check.{Checks}
@@ -23,32 +23,32 @@ use Rattle.desk.specs.Call.{Leaves, said}
 use Rattle.answers.specs.Parts.{told_part}
 
 abbrev pub TellsHeld : ℕ → List ℕ → ℕ → ℕ → ℕ → Told → Type 0
-TellsHeld e plan p s n = Tells told_holding (HeldIs e plan p s n)
+TellsHeld e plan p s n = Tells told_count (HeldIs e plan p s n)
 
 abbrev pub TellsLeast : ℕ → List ℕ → ℕ → ℕ → Told → Type 0
-TellsLeast e plan p t = Tells told_holding (LeastIs e plan p t)
+TellsLeast e plan p t = Tells told_count (LeastIs e plan p t)
 
 abbrev pub TellsCurve : ℕ → List ℕ → ℕ → ℕ → List ℕ → List ℕ → Told → Type 0
-TellsCurve e plan p n list o = Tells told_filling (DrawsCurve e plan p n list o)
+TellsCurve e plan p n list o = Tells told_count (DrawsCurve e plan p n list o)
 
 abbrev pub TellsCheck : ℕ → ℕ → List ℕ → List ℕ → Told → Type 0
-TellsCheck e g plan ps = Tells told_finding (Checks (given e g) plan ps)
+TellsCheck e g plan ps = Tells told_done (Checks (given e g) plan ps)
 
 abbrev pub TellsBuild : ℕ → List ℕ → List ℕ → List ℕ → Told → Type 0
-TellsBuild g ps out o = Tells told_filling (Builds (granules g) ps out o)
+TellsBuild g ps out o = Tells told_count (Builds (granules g) ps out o)
 
 abbrev pub TellsFill : List ℕ → List ℕ → List ℕ → List ℕ → Told → Type 0
-TellsFill plan ps list o = Tells told_filling (FillsCounts plan ps list o)
+TellsFill plan ps list o = Tells told_count (FillsCounts plan ps list o)
 
 abbrev pub TellsCounted : List ℕ → List ℕ → List ℕ → ℕ → ℕ → ℕ → Told → Type 0
-TellsCounted plan ps list p s n = Tells told_holding (HoldsOne plan ps list p s n)
+TellsCounted plan ps list p s n = Tells told_count (HoldsOne plan ps list p s n)
 
 abbrev pub TellsMany : List ℕ → List ℕ → List ℕ → List ℕ → List ℕ → List ℕ → Told → Type 0
-TellsMany plan ps list qs out o = Tells told_filling (HoldsMany plan ps list qs out o)
+TellsMany plan ps list qs out o = Tells told_count (HoldsMany plan ps list qs out o)
 
 -- plan and list, as lent, and plan' and o what they then hold
 abbrev pub TellsChange : List ℕ → List ℕ → List ℕ → ℕ → ℕ → List ℕ → List ℕ → Told → Type 0
-TellsChange plan ps list tick owner plan' o = Tells told_finding (Changes plan ps list tick owner plan' o)
+TellsChange plan ps list tick owner plan' o = Tells told_done (Changes plan ps list tick owner plan' o)
 
 abbrev pub TellsVerdict : ℕ → ℕ → List ℕ → List ℕ → List ℕ → ℕ → Told → Type 0
 TellsVerdict e g plan ps ts place = Tells told_judged (Judges (given e g) plan ps ts place)
@@ -67,10 +67,10 @@ abbrev pub TellsSection : List ℕ → ℕ → Told → Type 0
 TellsSection b which = Tells (told_part which) (Reads b)
 
 abbrev pub TellsWrite : ℕ → ℕ → List ℕ → List ℕ → List ℕ → List ℕ → List ℕ → Told → Type 0
-TellsWrite e frame ps ts rs out o = Tells told_filling (Writes e frame ps ts rs out o)
+TellsWrite e frame ps ts rs out o = Tells told_count (Writes e frame ps ts rs out o)
 
 abbrev pub TellsList : List ℕ → List ℕ → List ℕ → Told → Type 0
-TellsList b out o = Tells told_filling (Lists b out o)
+TellsList b out o = Tells told_count (Lists b out o)
 
 -- the record k and the table l, as lent, and k' and l' what they then hold
 abbrev pub TellsOpen : Desk → List Job → Desk → List Job → Told → Type 0

@@ -15,17 +15,13 @@ use Rattle.rules.specs.Filling.{left_by}
 use Rattle.rules.specs.Refusals.{told}
 use Rattle.rules.specs.declared.Refusal.{Refusal}
 use Rattle.rules.specs.declared.Refusal.TheVariants.{Limits, Partition, Task, Tick, Output, Asked, Beyond}
-use Rattle.rules.specs.declared.Finding.{Finding}
-use Rattle.rules.specs.declared.Finding.TheVariants.{Good, Refused}
-use Rattle.rules.specs.declared.Filling.{Filling}
-use Rattle.rules.specs.declared.Filling.TheVariants as filling
+use Rattle.std.specs.Prelude.{Result, Ok, Err}
 use Rattle.rules.proofs.Named.{listed-length, listed_at, new_tail, named-list}
 use Rattle.tables.specs.Tables.{within_limits, lowest, unless, in_edition, tables_of, ticks_judged}
 use Rattle.tables.proofs.Chain.{in_turn, lowest_at}
 use Rattle.plan_check.specs.Check.{scan_of, plan_check_of, check_of}
 use Rattle.rules.specs.declared.Rule.TheVariants.{Own}
 use Rattle.theory.specs.Plan.{held}
-use Rattle.rules.specs.declared.Holding.TheVariants as holding
 use Rattle.counts.specs.Counts.{row_width, row_of, count_at, needed, running_counts, long_enough, agrees_at, plan_judged, unless_good, good_name, good_stretch, fill_of, held_of}
 use Rattle.counts.specs.Theorems.{ListIs, Planned, Counted, CountedIs, PlanExactly, PlanAsChecked, PlanPlaces, FilledBy, fill_plan, fill_length, fill_done, FillAnswers, FillCounted, FillKeeps, Named, Within, HeldBy, held_plan, held_name, held-length, held-counts, held_stretch, held-done, HeldAnswers, FillOne, CountsHeldOne}
 use Rattle.counts.proofs.Passes.{count-row, row_end}
@@ -67,7 +63,7 @@ plan_exactly plan ps = (planned plan ps, is_planned plan ps)
 
 pub plan_as_checked : PlanAsChecked
 unfolding check_of plan_check_of plan_judged
-plan_as_checked plan ps = sym (in_turn Refused (tables_of usual (length plan) ps []) (ticks_judged plan ps) (scan_of Own (wanted usual ps) plan ps))
+plan_as_checked plan ps = sym (in_turn Err (tables_of usual (length plan) ps []) (ticks_judged plan ps) (scan_of Own (wanted usual ps) plan ps))
 
 pub plan_places : PlanPlaces
 unfolding plan_judged good_edition in_edition tables_of good_granule
@@ -77,17 +73,17 @@ plan_places plan ps r e =
     Placed : Type 0
     Placed = ((told r).number ≡ 3) ⊎ (1 ≤ (told r).first)
 
-    from_1 : (refusal : ℕ → Refusal) (good : ℕ → Bool) (n : ℕ) → ((k : ℕ) → (told (refusal k)).first ≡ k) → lowest refusal good n ≡ Refused r → Placed
+    from_1 : (refusal : ℕ → Refusal) (good : ℕ → Bool) (n : ℕ) → ((k : ℕ) → (told (refusal k)).first ≡ k) → lowest refusal good n ≡ Err r → Placed
     from_1 refusal good n h e =
         let a = lowest_at refusal good n r e in
         inr (omega (arith, ap (λ (x : Refusal). (told x).first) a.1, h (a.0 + 1)))
 
-    go : (w : Bool) (a : Finding) → lowest Partition (good_part (length plan) ps) (partitions ps) ≡ a → (b : Finding) → lowest Task (good_task (partitions ps) []) 0 ≡ b
-        → (c : Finding) → ticks_judged plan ps ≡ c → unless Refused (pick w (unless Refused a b) (Refused Limits)) c ≡ Refused r → Placed
+    go : (w : Bool) (a : Result (Unit {0}) Refusal) → lowest Partition (good_part (length plan) ps) (partitions ps) ≡ a → (b : Result (Unit {0}) Refusal) → lowest Task (good_task (partitions ps) []) 0 ≡ b
+        → (c : Result (Unit {0}) Refusal) → ticks_judged plan ps ≡ c → unless Err (pick w (unless Err a b) (Err Limits)) c ≡ Err r → Placed
     go false a ea b eb c ec e = let z : Limits ≡ r = cc e in inl (rw (← z))
-    go true (Refused q) ea b eb c ec e = from_1 Partition (good_part (length plan) ps) (partitions ps) (λ k. refl) (ea ∙ e)
-    go true Good ea (Refused q) eb c ec e = from_1 Task (good_task (partitions ps) []) 0 (λ k. refl) (eb ∙ e)
-    go true Good ea Good eb c ec e = from_1 Tick (good_tick (partitions ps) plan) (length plan) (λ k. refl) (ec ∙ e)
+    go true (Err q) ea b eb c ec e = from_1 Partition (good_part (length plan) ps) (partitions ps) (λ k. refl) (ea ∙ e)
+    go true (Ok _) ea (Err q) eb c ec e = from_1 Task (good_task (partitions ps) []) 0 (λ k. refl) (eb ∙ e)
+    go true (Ok _) ea (Ok _) eb c ec e = from_1 Tick (good_tick (partitions ps) plan) (length plan) (λ k. refl) (ec ∙ e)
 
 -- ---- filling
 
@@ -95,11 +91,11 @@ pub fill_answers : FillAnswers
 unfolding fill_of
 fill_answers plan ps room = go (plan_judged plan ps) refl (long_enough plan ps room) refl
   where
-    go : (f : Finding) → plan_judged plan ps ≡ f → (b : Bool) → long_enough plan ps room ≡ b
-        → FilledBy plan ps room (unless filling.Refused f (pick b (filling.Fills (needed plan ps)) (filling.Refused Output)))
-    go (Refused r) e b h = fill_plan r e
-    go Good e true h = fill_done (planned plan ps e) (leb-true _ _ h)
-    go Good e false h = fill_length (planned plan ps e) (leb-false _ _ h)
+    go : (f : Result (Unit {0}) Refusal) → plan_judged plan ps ≡ f → (b : Bool) → long_enough plan ps room ≡ b
+        → FilledBy plan ps room (unless Err f (pick b (Ok (needed plan ps)) (Err Output)))
+    go (Err r) e b h = fill_plan r e
+    go (Ok _) e true h = fill_done (planned plan ps e) (leb-true _ _ h)
+    go (Ok _) e false h = fill_length (planned plan ps e) (leb-false _ _ h)
 
 pub fill_counted : FillCounted
 fill_counted plan ps list o n f = ((filled plan ps (length list) n (sym f.0)).0, counted-from plan ps o (drop n list) f.1)
@@ -107,9 +103,9 @@ fill_counted plan ps list o n f = ((filled plan ps (length list) n (sym f.0)).0,
 pub fill_keeps : FillKeeps
 fill_keeps plan ps list o r f = go r f.0 f.1
   where
-    go : (r : Filling) → r ≡ fill_of plan ps (length list) → o ≡ left_by r (running_counts plan ps) list → (length o ≡ length list) × ((i : ℕ) → needed plan ps ≤ i → get_or o i 0 ≡ get_or list i 0)
-    go (filling.Refused x) e h = (ap length h, λ i l. ap (λ (q : List ℕ). get_or q i 0) h)
-    go (filling.Fills n) e h =
+    go : (r : Result ℕ Refusal) → r ≡ fill_of plan ps (length list) → o ≡ left_by r (running_counts plan ps) list → (length o ≡ length list) × ((i : ℕ) → needed plan ps ≤ i → get_or o i 0 ≡ get_or list i 0)
+    go (Err x) e h = (ap length h, λ i l. ap (λ (q : List ℕ). get_or q i 0) h)
+    go (Ok n) e h =
         let a = filled plan ps (length list) n (sym e) in
         new_tail (running_counts plan ps) list o (needed plan ps) (rw a.1 at h) (listed-length (count_at plan) (needed plan ps)) a.2
 
@@ -119,11 +115,11 @@ pub held_answers : HeldAnswers
 unfolding held_of
 held_answers plan ps list p s n = go _ (judging plan ps list (unless_good (good_name (partitions ps) p) (Asked 0)) true (unless_good (good_stretch (length plan) s n) (Beyond 0)))
   where
-    named : unless_good (good_name (partitions ps) p) (Asked 0) ≡ Good → Named ps p
+    named : unless_good (good_name (partitions ps) p) (Asked 0) ≡ (Ok tt) → Named ps p
     named e = name_is (partitions ps) p (tested _ (Asked 0) e)
 
-    go : (f : Finding) → Judging plan ps list (unless_good (good_name (partitions ps) p) (Asked 0)) true (unless_good (good_stretch (length plan) s n) (Beyond 0)) f
-        → HeldBy plan ps list p s n (unless holding.Refused f (holding.Holds (held Own plan p n s)))
+    go : (f : Result (Unit {0}) Refusal) → Judging plan ps list (unless_good (good_name (partitions ps) p) (Asked 0)) true (unless_good (good_stretch (length plan) s n) (Beyond 0)) f
+        → HeldBy plan ps list p s n (unless Err f (Ok (held Own plan p n s)))
     go f (at_plan r e) = held_plan r e
     go f (at_name g r e) = let a = untested (good_name (partitions ps) p) (Asked 0) r e in rw a.1 (held_name g (λ h. true≢false (sym (is_name (partitions ps) p h.0 h.1) ∙ a.0)))
     go f (at_length g e (inl l)) = held-length g (named e) l
@@ -132,7 +128,7 @@ held_answers plan ps list p s n = go _ (judging plan ps list (unless_good (good_
     go f (at_stretch g e c m r h) = let a = untested (good_stretch (length plan) s n) (Beyond 0) r h in rw a.1 (held_stretch g (named e) c (λ w. true≢false (sym (is_stretch (length plan) s n w.0 w.1) ∙ a.0)))
     go f (at_none g e c m h) = held-done g (named e) c (stretch_is (length plan) s n (tested _ (Beyond 0) h))
 
-pub is_held : (plan ps list : List ℕ) (p s n : ℕ) → Planned plan ps → Counted plan ps list → Named ps p → Within plan s n → held_of plan ps list p s n ≡ holding.Holds (held Own plan p n s)
+pub is_held : (plan ps list : List ℕ) (p s n : ℕ) → Planned plan ps → Counted plan ps list → Named ps p → Within plan s n → held_of plan ps list p s n ≡ Ok (held Own plan p n s)
 is_held plan ps list p s n g c m w =
     sym (held-holds plan ps list p s n
     (is_called plan ps list _ true _ (record { plans = g; names = rw (is_name (partitions ps) p m.0 m.1); list_is = c; room = refl; insides = rw (is_stretch (length plan) s n w.0 w.1) })) _ refl)
@@ -142,7 +138,7 @@ is_held plan ps list p s n g c m w =
 pub fill_one : FillOne
 fill_one plan ps list o o' r r' a b =
     let e : r ≡ r' = a.0 ∙ sym b.0 in
-    (e, a.1 ∙ ap (λ (x : Filling). left_by x (running_counts plan ps) list) e ∙ sym b.1)
+    (e, a.1 ∙ ap (λ (x : Result ℕ Refusal). left_by x (running_counts plan ps) list) e ∙ sym b.1)
 
 pub held_one : CountsHeldOne
 held_one plan ps list p s n r r' a b = a ∙ sym b

@@ -13,16 +13,13 @@ use Rattle.rules.specs.Limits.{question_width}
 use Rattle.rules.specs.Table.{partitions}
 use Rattle.rules.specs.declared.Refusal.{Refusal}
 use Rattle.rules.specs.declared.Refusal.TheVariants.{Limits, Output, Asked, Beyond}
-use Rattle.rules.specs.declared.Finding.{Finding}
-use Rattle.rules.specs.declared.Finding.TheVariants.{Good, Refused}
-use Rattle.rules.specs.declared.Filling.TheVariants as filling
+use Rattle.std.specs.Prelude.{Result, Ok, Err}
 use Rattle.rules.proofs.Answers.{no_filling}
 use Rattle.rules.proofs.Tests.{pick_first}
 use Rattle.tables.specs.Tables.{lowest, unless}
 use Rattle.tables.proofs.Chain.{lowest-good}
 use Rattle.rules.specs.declared.Rule.TheVariants.{Own}
 use Rattle.theory.specs.Plan.{held}
-use Rattle.rules.specs.declared.Holding.TheVariants as holding
 use Rattle.counts.specs.Counts.{row_of, row_width, needed, long_enough, agrees_at, plan_judged, counts_judged, unless_good, good_name, good_stretch, fill_of, held_of, asked, start, span, questions, names_one, within_frame, answer_at, many_of}
 use Rattle.counts.specs.Inner.{Kept, Answerable}
 use Rattle.counts.specs.Theorems.{Planned, Counted, NamedIn, WithinIn}
@@ -32,29 +29,29 @@ use Rattle.counts.proofs.Orders.{name_is, stretch_is, tested, planned, sized, Ca
 -- ---- filling
 
 module _ (plan ps : List ℕ) (room : ℕ) where
-  pub fill_refused : (r : Refusal) → plan_judged plan ps ≡ Refused r → filling.Refused r ≡ fill_of plan ps room
+  pub fill_refused : (r : Refusal) → plan_judged plan ps ≡ Err r → Err r ≡ fill_of plan ps room
   unfolding fill_of
   fill_refused r e = rw e
 
-  module _ (e : plan_judged plan ps ≡ Good) (n : ℕ) (en : n ≡ partitions ps) where
-    pub fill_short : room < n * row_width plan → filling.Refused Output ≡ fill_of plan ps room
+  module _ (e : plan_judged plan ps ≡ (Ok tt)) (n : ℕ) (en : n ≡ partitions ps) where
+    pub fill_short : room < n * row_width plan → Err Output ≡ fill_of plan ps room
     unfolding fill_of
     fill_short h = rw (e, ← en, lt-leb (n * row_width plan) room h)
 
-    pub fill_fits : n * row_width plan ≤ room → filling.Fills (n * row_width plan) ≡ fill_of plan ps room
+    pub fill_fits : n * row_width plan ≤ room → Ok (n * row_width plan) ≡ fill_of plan ps room
     unfolding fill_of
     fill_fits h = rw (e, ← en, le-leb (n * row_width plan) room h)
 
   -- what an answer says
-  pub filled : (n : ℕ) → fill_of plan ps room ≡ filling.Fills n → Planned plan ps × (n ≡ needed plan ps) × (needed plan ps ≤ room)
+  pub filled : (n : ℕ) → fill_of plan ps room ≡ Ok n → Planned plan ps × (n ≡ needed plan ps) × (needed plan ps ≤ room)
   unfolding fill_of
   filled n e = go (plan_judged plan ps) refl e
     where
-      go : (f : Finding) → plan_judged plan ps ≡ f → unless filling.Refused f (pick (long_enough plan ps room) (filling.Fills (needed plan ps)) (filling.Refused Output)) ≡ filling.Fills n
+      go : (f : Result (Unit {0}) Refusal) → plan_judged plan ps ≡ f → unless Err f (pick (long_enough plan ps room) (Ok (needed plan ps)) (Err Output)) ≡ Ok n
           → Planned plan ps × (n ≡ needed plan ps) × (needed plan ps ≤ room)
-      go (Refused r) h q = absurd (no_filling n r q)
-      go Good h q =
-          let a = pick_first (long_enough plan ps room) _ _ (filling.Fills n) (no_filling n Output) q in
+      go (Err r) h q = absurd (no_filling n r q)
+      go (Ok tt) h q =
+          let a = pick_first (long_enough plan ps room) _ _ (Ok n) (no_filling n Output) q in
           let m : n ≡ needed plan ps = cc a.1 in
           (planned plan ps h, m, leb-true _ _ a.0)
 
@@ -73,18 +70,18 @@ kept_row plan ps list p g l m =
 
 module _ (plan ps list : List ℕ) (p s n : ℕ) where
   -- what is found of the call
-  abbrev pub one_found : Finding
+  abbrev pub one_found : Result (Unit {0}) Refusal
   one_found = counts_judged plan ps list (unless_good (good_name (partitions ps) p) (Asked 0)) true (unless_good (good_stretch (length plan) s n) (Beyond 0))
 
-  pub held-refused : (r : Refusal) → one_found ≡ Refused r → holding.Refused r ≡ held_of plan ps list p s n
+  pub held-refused : (r : Refusal) → one_found ≡ Err r → Err r ≡ held_of plan ps list p s n
   unfolding held_of
   held-refused r e = rw e
 
-  pub held-holds : one_found ≡ Good → (h : ℕ) → h ≡ held Own plan p n s → holding.Holds h ≡ held_of plan ps list p s n
+  pub held-holds : one_found ≡ (Ok tt) → (h : ℕ) → h ≡ held Own plan p n s → Ok h ≡ held_of plan ps list p s n
   unfolding held_of
   held-holds e h q = rw (e, q)
 
-  pub one_looks : one_found ≡ Good → Kept plan list p × (s < length plan) × (n ≤ length plan)
+  pub one_looks : one_found ≡ (Ok tt) → Kept plan list p × (s < length plan) × (n ≤ length plan)
   one_looks e =
       let g = called plan ps list _ true _ e in
       let a = name_is (partitions ps) p (tested _ (Asked 0) g.names) in
@@ -107,36 +104,36 @@ answer_as plan qs k a s n h ea es en eh = rw (← ea, ← es, ← en) eh
 
 module _ (plan ps list qs : List ℕ) (room : ℕ) where
   -- what is found of the call: of its questions, n of them
-  abbrev pub many_found : ℕ → Finding
+  abbrev pub many_found : ℕ → Result (Unit {0}) Refusal
   many_found n = counts_judged plan ps list (lowest Asked (names_one (partitions ps) qs) (questions qs)) (leb n room) (lowest Beyond (within_frame (length plan) qs) (questions qs))
 
-  pub many-whole : ¬ (length qs % question_width ≡ 0) → filling.Refused Limits ≡ many_of plan ps list qs room
+  pub many-whole : ¬ (length qs % question_width ≡ 0) → Err Limits ≡ many_of plan ps list qs room
   unfolding many_of
   many-whole h = rw (ne_eqb _ _ h)
 
   module _ (whole : length qs % question_width ≡ 0) (n : ℕ) (en : n ≡ questions qs) where
-    pub many_refused : (r : Refusal) → many_found n ≡ Refused r → filling.Refused r ≡ many_of plan ps list qs room
+    pub many_refused : (r : Refusal) → many_found n ≡ Err r → Err r ≡ many_of plan ps list qs room
     unfolding many_of
-    many_refused r e = let e' : many_found (questions qs) ≡ Refused r = rw en at e in rw (eq-eqb _ _ whole, e')
+    many_refused r e = let e' : many_found (questions qs) ≡ Err r = rw en at e in rw (eq-eqb _ _ whole, e')
 
-    pub many_fills : many_found n ≡ Good → filling.Fills n ≡ many_of plan ps list qs room
+    pub many_fills : many_found n ≡ (Ok tt) → Ok n ≡ many_of plan ps list qs room
     unfolding many_of
-    many_fills e = let e' : many_found (questions qs) ≡ Good = rw en at e in rw (eq-eqb _ _ whole, e') (ap filling.Fills en)
+    many_fills e = let e' : many_found (questions qs) ≡ (Ok tt) = rw en at e in rw (eq-eqb _ _ whole, e') (ap Ok en)
 
   -- what an answer says
-  pub many_called : (n : ℕ) → many_of plan ps list qs room ≡ filling.Fills n
+  pub many_called : (n : ℕ) → many_of plan ps list qs room ≡ Ok n
       → (length qs % question_width ≡ 0) × (n ≡ questions qs)
       × Called plan ps list (lowest Asked (names_one (partitions ps) qs) (questions qs)) (leb (questions qs) room) (lowest Beyond (within_frame (length plan) qs) (questions qs))
   unfolding many_of
   many_called n e =
-      let w = pick_first (eqb (length qs % question_width) 0) _ _ (filling.Fills n) (no_filling n Limits) e in
+      let w = pick_first (eqb (length qs % question_width) 0) _ _ (Ok n) (no_filling n Limits) e in
       let g = go (many_found (questions qs)) refl w.1 in
       (eqb-true _ _ w.0, g.0, g.1)
     where
-      go : (f : Finding) → many_found (questions qs) ≡ f → unless filling.Refused f (filling.Fills (questions qs)) ≡ filling.Fills n
+      go : (f : Result (Unit {0}) Refusal) → many_found (questions qs) ≡ f → unless Err f (Ok (questions qs)) ≡ Ok n
           → (n ≡ questions qs) × Called plan ps list (lowest Asked (names_one (partitions ps) qs) (questions qs)) (leb (questions qs) room) (lowest Beyond (within_frame (length plan) qs) (questions qs))
-      go (Refused r) h q = absurd (no_filling n r q)
-      go Good h q = let m : n ≡ questions qs = cc q in (m, called plan ps list _ _ _ h)
+      go (Err r) h q = absurd (no_filling n r q)
+      go (Ok _) h q = let m : n ≡ questions qs = cc q in (m, called plan ps list _ _ _ h)
 
   -- a question of them
   pub many_asks : Called plan ps list (lowest Asked (names_one (partitions ps) qs) (questions qs)) (leb (questions qs) room) (lowest Beyond (within_frame (length plan) qs) (questions qs))
@@ -147,7 +144,7 @@ module _ (plan ps list qs : List ℕ) (room : ℕ) where
     stretch_is (length plan) (start qs k) (span qs k) (lowest-good Beyond (within_frame (length plan) qs) (questions qs) g.insides k l),
   )
 
-  pub many_looks : (n : ℕ) → many_of plan ps list qs room ≡ filling.Fills n → (n ≡ questions qs) × (n ≤ room) × Answerable plan list qs n
+  pub many_looks : (n : ℕ) → many_of plan ps list qs room ≡ Ok n → (n ≡ questions qs) × (n ≤ room) × Answerable plan list qs n
   many_looks n e =
       let w = many_called n e in
       let g = w.2 in (

@@ -13,14 +13,13 @@ use borrow.Author.Tests.{lt-ltb, le-ltb, ltb-true, ltb-false, le-leb, leb-true, 
 use Rattle.rules.specs.Walk.{only}
 use Rattle.rules.specs.Table.{partitions, good_tick}
 use Rattle.rules.specs.declared.Refusal.TheVariants.{Asked, Beyond}
-use Rattle.rules.specs.declared.Finding.{Finding}
-use Rattle.rules.specs.declared.Finding.TheVariants.{Good, Refused}
+use Rattle.std.specs.Prelude.{Result, Ok, Err}
+use Rattle.rules.specs.declared.Refusal.{Refusal}
 use Rattle.rules.proofs.Named.{listed-length, new_tail}
 use Rattle.rules.proofs.Sum.{only_true, only_false}
 use Rattle.rules.proofs.Tests.{and_none}
 use Rattle.rules.specs.declared.Rule.TheVariants.{Own}
 use Rattle.theory.specs.Plan.{held}
-use Rattle.rules.specs.declared.Holding.TheVariants as holding
 use Rattle.counts.specs.Counts.{count_at, needed, running_counts, unless_good, held_of, change_of, changed_by, Changes}
 use Rattle.counts.specs.Theorems.{number_of, HasNumber, Planned, Counted, Named, Within, ChangedBy, change_plan, change_name, change_length, change-counts, change-stretch, change_done, ChangeAnswers, ChangeCounted, OnlyMoves, ChangeMoves, ChangeSame, FillChangeHeld, ChangeOne, Proved}
 use Rattle.counts.proofs.Orders.{tested, untested, is_called, Judging, at_plan, at_name, at_length, at-counts, at_stretch, at_none, judging}
@@ -29,7 +28,7 @@ use Rattle.counts.proofs.Changing.{moved, Changeable, changeable}
 use Rattle.counts.proofs.Answers.{list_is, counted-from, counted_is, plan_exactly, plan_as_checked, plan_places, fill_answers, fill_counted, fill_keeps, held_answers, is_held, fill_one, held_one}
 use Rattle.counts.proofs.Many.{many_answers, many_each, many_keeps, many_one}
 
-is_changed : (plan ps list : List ℕ) (tick owner : ℕ) → Planned plan ps → Counted plan ps list → owner ≤ partitions ps → tick < length plan → change_of plan ps list tick owner ≡ Good
+is_changed : (plan ps list : List ℕ) (tick owner : ℕ) → Planned plan ps → Counted plan ps list → owner ≤ partitions ps → tick < length plan → change_of plan ps list tick owner ≡ (Ok tt)
 unfolding change_of
 is_changed plan ps list tick owner g c l m = is_called plan ps list _ true _ (record { plans = g; names = rw (le-leb owner (partitions ps) l); list_is = c; room = refl; insides = rw (lt-ltb tick (length plan) m) })
 
@@ -37,10 +36,10 @@ pub change_answers : ChangeAnswers
 unfolding change_of
 change_answers plan ps list tick owner = go _ (judging plan ps list (unless_good (leb owner (partitions ps)) (Asked 0)) true (unless_good (ltb tick (length plan)) (Beyond 0)))
   where
-    named : unless_good (leb owner (partitions ps)) (Asked 0) ≡ Good → owner ≤ partitions ps
+    named : unless_good (leb owner (partitions ps)) (Asked 0) ≡ (Ok tt) → owner ≤ partitions ps
     named e = leb-true _ _ (tested _ (Asked 0) e)
 
-    go : (f : Finding) → Judging plan ps list (unless_good (leb owner (partitions ps)) (Asked 0)) true (unless_good (ltb tick (length plan)) (Beyond 0)) f → ChangedBy plan ps list tick owner f
+    go : (f : Result (Unit {0}) Refusal) → Judging plan ps list (unless_good (leb owner (partitions ps)) (Asked 0)) true (unless_good (ltb tick (length plan)) (Beyond 0)) f → ChangedBy plan ps list tick owner f
     go f (at_plan r e) = change_plan r e
     go f (at_name g r e) = let a = untested (leb owner (partitions ps)) (Asked 0) r e in rw a.1 (change_name g (leb-false _ _ a.0))
     go f (at_length g e (inl l)) = change_length g (named e) l
@@ -57,7 +56,7 @@ still_planned plan ps tick owner g l m = record { tables = rw (length-set plan t
     at t h (yes e) = rw (e, get_or-set_same plan tick owner 0 m) (le-leb owner (partitions ps) l)
     at t h (no n) = rw (get_or-set_other plan tick t owner 0 n) (g.ticks t h)
 
-module _ (plan ps list plan' o : List ℕ) (tick owner : ℕ) (c : Changes plan ps list tick owner plan' o Good) where
+module _ (plan ps list plan' o : List ℕ) (tick owner : ℕ) (c : Changes plan ps list tick owner plan' o (Ok tt)) where
   may : Changeable plan ps list tick owner
   may = changeable plan ps list tick owner (sym c.0)
 
@@ -123,10 +122,10 @@ change_same plan ps list plan' o tick r c = go r c.0 c.1 c.2
     same : set plan tick (get_or plan tick 0) ≡ plan
     same = set-get_or plan tick 0
 
-    go : (r : Finding) → r ≡ change_of plan ps list tick (get_or plan tick 0) → plan' ≡ changed_by r (set plan tick (get_or plan tick 0)) plan
+    go : (r : Result (Unit {0}) Refusal) → r ≡ change_of plan ps list tick (get_or plan tick 0) → plan' ≡ changed_by r (set plan tick (get_or plan tick 0)) plan
         → o ≡ changed_by r (running_counts (set plan tick (get_or plan tick 0)) ps ++ drop (needed plan ps) list) list → (plan' ≡ plan) × (o ≡ list)
-    go (Refused x) e f g = (f, g)
-    go Good e f g =
+    go (Err x) e f g = (f, g)
+    go (Ok tt) e f g =
         let a = changeable plan ps list tick (get_or plan tick 0) (sym e) in
         let w : running_counts (set plan tick (get_or plan tick 0)) ps ++ drop (needed plan ps) list ≡ list = rw same (sym ((counted_is plan ps list).0 a.list_is)) in
         (f ∙ same, g ∙ w)
@@ -134,21 +133,21 @@ change_same plan ps list plan' o tick r c = go r c.0 c.1 c.2
 pub fill_change_held : FillChangeHeld
 fill_change_held plan ps list o plan' o' m tick owner r f c l i =
     let a = fill_counted plan ps list o m f in
-    let e : r ≡ Good = c.0 ∙ is_changed plan ps o tick owner a.0 a.1 l i in
+    let e : r ≡ (Ok tt) = c.0 ∙ is_changed plan ps o tick owner a.0 a.1 l i in
     (e, λ p s n h m q w. w ∙ after (rw e at c) p s n m q)
   where
-    after : Changes plan ps o tick owner plan' o' Good → (p s n : ℕ) → Named ps p → Within plan s n → held_of plan' ps o' p s n ≡ holding.Holds (held Own (set plan tick owner) p n s)
+    after : Changes plan ps o tick owner plan' o' (Ok tt) → (p s n : ℕ) → Named ps p → Within plan s n → held_of plan' ps o' p s n ≡ Ok (held Own (set plan tick owner) p n s)
     after c p s n m q =
         let b = change_counted plan ps o plan' o' tick owner c in
         let e : length plan' ≡ length plan = ap length c.1 ∙ length-set plan tick owner in
-        is_held plan' ps o' p s n b.0 b.1 m (rw e q.0, rw e q.1) ∙ ap (λ (x : List ℕ). holding.Holds (held Own x p n s)) c.1
+        is_held plan' ps o' p s n b.0 b.1 m (rw e q.0, rw e q.1) ∙ ap (λ (x : List ℕ). Ok (held Own x p n s)) c.1
 
 pub change_one : ChangeOne
 change_one plan ps list plan₁ plan₂ o₁ o₂ tick owner r r' a b =
     let e : r ≡ r' = a.0 ∙ sym b.0 in (
       e,
-      a.1 ∙ ap (λ (x : Finding). changed_by x (set plan tick owner) plan) e ∙ sym b.1,
-      a.2 ∙ ap (λ (x : Finding). changed_by x (running_counts (set plan tick owner) ps ++ drop (needed plan ps) list) list) e ∙ sym b.2,
+      a.1 ∙ ap (λ (x : Result (Unit {0}) Refusal). changed_by x (set plan tick owner) plan) e ∙ sym b.1,
+      a.2 ∙ ap (λ (x : Result (Unit {0}) Refusal). changed_by x (running_counts (set plan tick owner) ps ++ drop (needed plan ps) list) list) e ∙ sym b.2,
     )
 
 pub proved : Proved

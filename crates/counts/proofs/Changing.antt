@@ -15,7 +15,7 @@ use borrow.Author.Tests.{lt-ltb, le-ltb, ltb-true, leb-true, eqb-true, ne_eqb}
 use Rattle.rules.specs.Walk.{only}
 use Rattle.rules.specs.Table.{partitions}
 use Rattle.rules.specs.declared.Refusal.TheVariants.{Asked, Beyond}
-use Rattle.rules.specs.declared.Finding.TheVariants.{Good}
+use Rattle.std.specs.Prelude.{Ok}
 use Rattle.rules.proofs.Named.{named-list}
 use Rattle.rules.proofs.Sum.{le-or-lt, only_false}
 use Rattle.rules.proofs.Tests.{and_none}
@@ -115,7 +115,7 @@ pub record Changeable (plan ps list : List ℕ) (tick new : ℕ) : Type 0 where
   pub old_owner : get_or plan tick 0 ≤ partitions ps
   pub inside : tick < length plan
 
-pub changeable : (plan ps list : List ℕ) (tick new : ℕ) → change_of plan ps list tick new ≡ Good → Changeable plan ps list tick new
+pub changeable : (plan ps list : List ℕ) (tick new : ℕ) → change_of plan ps list tick new ≡ (Ok tt) → Changeable plan ps list tick new
 unfolding change_of
 changeable plan ps list tick new e =
     let g = called plan ps list _ true _ e in

@@ -13,10 +13,8 @@ use Rattle.rules.specs.Limits.{question_width}
 use Rattle.rules.specs.Table.{partitions}
 use Rattle.rules.specs.Filling.{left_by}
 use Rattle.rules.specs.declared.Refusal.TheVariants.{Limits, Asked, Beyond}
-use Rattle.rules.specs.declared.Finding.{Finding}
-use Rattle.rules.specs.declared.Finding.TheVariants.{Good}
-use Rattle.rules.specs.declared.Filling.{Filling}
-use Rattle.rules.specs.declared.Filling.TheVariants as filling
+use Rattle.std.specs.Prelude.{Result, Ok, Err}
+use Rattle.rules.specs.declared.Refusal.{Refusal}
 use Rattle.rules.proofs.Named.{listed-length, listed_at, new_tail}
 use Rattle.tables.specs.Tables.{lowest, unless}
 use Rattle.tables.proofs.Chain.{lowest-good, lowest_at}
@@ -29,10 +27,10 @@ use Rattle.counts.proofs.Asking.{many_called, many_asks, many_looks}
 use Rattle.counts.proofs.Answers.{is_held}
 
 module _ (plan ps list qs : List ℕ) (room : ℕ) where
-  abbrev names : Finding
+  abbrev names : Result (Unit {0}) Refusal
   names = lowest Asked (names_one (partitions ps) qs) (questions qs)
 
-  abbrev insides : Finding
+  abbrev insides : Result (Unit {0}) Refusal
   insides = lowest Beyond (within_frame (length plan) qs) (questions qs)
 
   named : (k : ℕ) → names_one (partitions ps) qs k ≡ true → NamedIn ps qs k
@@ -43,7 +41,7 @@ module _ (plan ps list qs : List ℕ) (room : ℕ) where
   unfolding names_one
   unnamed k e h = true≢false (sym (is_name (partitions ps) (asked qs k) h.0 h.1) ∙ e)
 
-  all_named : names ≡ Good → All (NamedIn ps qs) (questions qs)
+  all_named : names ≡ (Ok tt) → All (NamedIn ps qs) (questions qs)
   all_named e k l = named k (lowest-good Asked (names_one (partitions ps) qs) (questions qs) e k l)
 
   within : (k : ℕ) → within_frame (length plan) qs k ≡ true → WithinIn plan qs k
@@ -58,8 +56,8 @@ module _ (plan ps list qs : List ℕ) (room : ℕ) where
   unfolding many_of
   many_by = whole (eqb (length qs % question_width) 0) refl
     where
-      go : length qs % question_width ≡ 0 → (f : Finding) → Judging plan ps list names (leb (questions qs) room) insides f
-          → ManyBy plan ps list qs room (unless filling.Refused f (filling.Fills (questions qs)))
+      go : length qs % question_width ≡ 0 → (f : Result (Unit {0}) Refusal) → Judging plan ps list names (leb (questions qs) room) insides f
+          → ManyBy plan ps list qs room (unless Err f (Ok (questions qs)))
       go w f (at_plan r e) = many_plan w r e
       go w f (at_name g r e) =
           let a = lowest_at Asked (names_one (partitions ps) qs) (questions qs) r e in
@@ -73,7 +71,7 @@ module _ (plan ps list qs : List ℕ) (room : ℕ) where
       go w f (at_none g e c m h) = many-done w g (all_named e) c (leb-true _ _ m) (λ k l. within k (lowest-good Beyond (within_frame (length plan) qs) (questions qs) h k l))
 
       whole : (b : Bool) → eqb (length qs % question_width) 0 ≡ b
-          → ManyBy plan ps list qs room (pick b (unless filling.Refused (counts_judged plan ps list names (leb (questions qs) room) insides) (filling.Fills (questions qs))) (filling.Refused Limits))
+          → ManyBy plan ps list qs room (pick b (unless Err (counts_judged plan ps list names (leb (questions qs) room) insides) (Ok (questions qs))) (Err Limits))
       whole true e = go (eqb-true _ _ e) _ (judging plan ps list names (leb (questions qs) room) insides)
       whole false e = many-questions (eqb-false _ _ e)
 
@@ -94,14 +92,14 @@ many_each plan ps list qs out o n h k l =
 pub many_keeps : ManyKeeps
 many_keeps plan ps list qs out o r h = go r h.0 h.1
   where
-    go : (r : Filling) → r ≡ many_of plan ps list qs (length out) → o ≡ left_by r (listed (answer_at plan qs) (questions qs)) out
+    go : (r : Result ℕ Refusal) → r ≡ many_of plan ps list qs (length out) → o ≡ left_by r (listed (answer_at plan qs) (questions qs)) out
         → (length o ≡ length out) × ((i : ℕ) → questions qs ≤ i → get_or o i 0 ≡ get_or out i 0)
-    go (filling.Refused x) e f = (ap length f, λ i l. ap (λ (q : List ℕ). get_or q i 0) f)
-    go (filling.Fills n) e f =
+    go (Err x) e f = (ap length f, λ i l. ap (λ (q : List ℕ). get_or q i 0) f)
+    go (Ok n) e f =
         let a = many_looks plan ps list qs (length out) n (sym e) in
         new_tail (listed (answer_at plan qs) (questions qs)) out o (questions qs) (rw a.0 at f) (listed-length (answer_at plan qs) (questions qs)) (rw (← a.0) a.1)
 
 pub many_one : ManyOne
 many_one plan ps list qs out o o' r r' a b =
     let e : r ≡ r' = a.0 ∙ sym b.0 in
-    (e, a.1 ∙ ap (λ (x : Filling). left_by x (listed (answer_at plan qs) (questions qs)) out) e ∙ sym b.1)
+    (e, a.1 ∙ ap (λ (x : Result ℕ Refusal). left_by x (listed (answer_at plan qs) (questions qs)) out) e ∙ sym b.1)

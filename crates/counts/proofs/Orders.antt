@@ -14,8 +14,7 @@ use Rattle.rules.specs.Limits.{longest, most_partitions}
 use Rattle.rules.specs.Table.{partitions, good_tick}
 use Rattle.rules.specs.declared.Refusal.{Refusal}
 use Rattle.rules.specs.declared.Refusal.TheVariants.{Limits, Partition, Tick, Output, Counts}
-use Rattle.rules.specs.declared.Finding.{Finding}
-use Rattle.rules.specs.declared.Finding.TheVariants.{Good, Refused}
+use Rattle.std.specs.Prelude.{Result, Ok, Err}
 use Rattle.rules.proofs.First.{first_every}
 use Rattle.rules.proofs.Tests.{and_parts}
 use Rattle.rules.specs.Terms.{usual}
@@ -62,28 +61,28 @@ unfolding good_stretch
 is_stretch f s n l m = rw (lt-ltb s f l, le-leb n f m)
 
 -- refused unless the test holds
-pub tested : (b : Bool) (r : Refusal) → pick b Good (Refused r) ≡ Good → b ≡ true
+pub tested : (b : Bool) (r : Refusal) → pick b (Ok tt) (Err r) ≡ (Ok tt) → b ≡ true
 tested true r e = refl
 tested false r e = absurd (not_good r e)
 
 -- ---- 3, 6 and 8
 
 module _ (plan ps : List ℕ) where
-  pub plan_refused : (r : Refusal) → tables_of usual (length plan) ps [] ≡ Refused r → Refused r ≡ plan_judged plan ps
+  pub plan_refused : (r : Refusal) → tables_of usual (length plan) ps [] ≡ Err r → Err r ≡ plan_judged plan ps
   unfolding plan_judged
   plan_refused r e = rw e
 
-  pub plan_next : tables_of usual (length plan) ps [] ≡ Good → (r : Finding) → r ≡ ticks_judged plan ps → r ≡ plan_judged plan ps
+  pub plan_next : tables_of usual (length plan) ps [] ≡ (Ok tt) → (r : Result (Unit {0}) Refusal) → r ≡ ticks_judged plan ps → r ≡ plan_judged plan ps
   unfolding plan_judged
   plan_next e r h = rw e h
 
-pub planned : (plan ps : List ℕ) → plan_judged plan ps ≡ Good → Planned plan ps
+pub planned : (plan ps : List ℕ) → plan_judged plan ps ≡ (Ok tt) → Planned plan ps
 unfolding plan_judged
 planned plan ps e =
     let a = both_good (tables_of usual (length plan) ps []) (ticks_judged plan ps) e in
     record { tables = (good_exactly usual (length plan) ps []).0 a.0; ticks = lowest-good Tick (good_tick (partitions ps) plan) (length plan) a.1 }
 
-pub is_planned : (plan ps : List ℕ) → Planned plan ps → plan_judged plan ps ≡ Good
+pub is_planned : (plan ps : List ℕ) → Planned plan ps → plan_judged plan ps ≡ (Ok tt)
 unfolding plan_judged
 is_planned plan ps g = rw ((good_exactly usual (length plan) ps []).1 g.tables) (good-lowest Tick (good_tick (partitions ps) plan) (length plan) g.ticks)
 
@@ -98,51 +97,51 @@ small-list f n l m = let w : f + 1 ≤ longest + 1 = omega arith in mul-le-mul m
 
 -- n is the number of partitions
 module _ (plan ps list : List ℕ) (enough : Bool) (n : ℕ) (en : n ≡ partitions ps) where
-  pub list-short : length list < n * row_width plan → Refused Output ≡ list_judged plan ps list enough
+  pub list-short : length list < n * row_width plan → Err Output ≡ list_judged plan ps list enough
   unfolding list_judged
   list-short h = rw (← en, lt-leb (n * row_width plan) (length list) h)
 
   module _ (long : n * row_width plan ≤ length list) where
-    pub list-room : not enough ≡ true → Refused Output ≡ list_judged plan ps list enough
+    pub list-room : not enough ≡ true → Err Output ≡ list_judged plan ps list enough
     unfolding list_judged
     list-room e = rw (← en, le-leb (n * row_width plan) (length list) long, not-true enough e)
 
     module _ (full : not enough ≡ false) where
-      pub list-differs : some (fails (agrees_at plan list)) (n * row_width plan) ≡ true → Refused Counts ≡ list_judged plan ps list enough
+      pub list-differs : some (fails (agrees_at plan list)) (n * row_width plan) ≡ true → Err Counts ≡ list_judged plan ps list enough
       unfolding list_judged
       list-differs e = rw (← en, le-leb (n * row_width plan) (length list) long, not-false enough full, e)
 
-      pub list_agrees : some (fails (agrees_at plan list)) (n * row_width plan) ≡ false → Good ≡ list_judged plan ps list enough
+      pub list_agrees : some (fails (agrees_at plan list)) (n * row_width plan) ≡ false → (Ok tt) ≡ list_judged plan ps list enough
       unfolding list_judged
       list_agrees e = rw (← en, le-leb (n * row_width plan) (length list) long, not-false enough full, e)
 
 module _ (plan ps list : List ℕ) (enough : Bool) where
-  pub is_listed : Counted plan ps list → enough ≡ true → list_judged plan ps list enough ≡ Good
+  pub is_listed : Counted plan ps list → enough ≡ true → list_judged plan ps list enough ≡ (Ok tt)
   is_listed g e = sym (list_agrees plan ps list enough (partitions ps) refl g.long (rw e) (all_agree plan list (needed plan ps) g.counts))
 
 -- ---- all of them
 
-pub record Called (plan ps list : List ℕ) (named : Finding) (enough : Bool) (inside : Finding) : Type 0 where
+pub record Called (plan ps list : List ℕ) (named : Result (Unit {0}) Refusal) (enough : Bool) (inside : Result (Unit {0}) Refusal) : Type 0 where
   pub plans : Planned plan ps
-  pub names : named ≡ Good
+  pub names : named ≡ (Ok tt)
   pub list_is : Counted plan ps list
   pub room : enough ≡ true
-  pub insides : inside ≡ Good
+  pub insides : inside ≡ (Ok tt)
 
-module _ (plan ps list : List ℕ) (named : Finding) (enough : Bool) (inside : Finding) where
-  pub call_first : (r : Refusal) → unless Refused (plan_judged plan ps) named ≡ Refused r → Refused r ≡ counts_judged plan ps list named enough inside
+module _ (plan ps list : List ℕ) (named : Result (Unit {0}) Refusal) (enough : Bool) (inside : Result (Unit {0}) Refusal) where
+  pub call_first : (r : Refusal) → unless Err (plan_judged plan ps) named ≡ Err r → Err r ≡ counts_judged plan ps list named enough inside
   unfolding counts_judged
   call_first r e = go (plan_judged plan ps) e
     where
-      go : (a : Finding) → unless Refused a named ≡ Refused r → Refused r ≡ unless Refused a (unless Refused named (unless Refused (list_judged plan ps list enough) inside))
-      go Good e = rw e
-      go (Refused q) e = sym e
+      go : (a : Result (Unit {0}) Refusal) → unless Err a named ≡ Err r → Err r ≡ unless Err a (unless Err named (unless Err (list_judged plan ps list enough) inside))
+      go (Ok _) e = rw e
+      go (Err q) e = sym e
 
-  pub call_next : unless Refused (plan_judged plan ps) named ≡ Good → unless Refused (list_judged plan ps list enough) inside ≡ counts_judged plan ps list named enough inside
+  pub call_next : unless Err (plan_judged plan ps) named ≡ (Ok tt) → unless Err (list_judged plan ps list enough) inside ≡ counts_judged plan ps list named enough inside
   unfolding counts_judged
   call_next e = let a = both_good (plan_judged plan ps) named e in rw (a.0, a.1)
 
-  pub is_called : Called plan ps list named enough inside → counts_judged plan ps list named enough inside ≡ Good
+  pub is_called : Called plan ps list named enough inside → counts_judged plan ps list named enough inside ≡ (Ok tt)
   unfolding counts_judged
   is_called g = rw (is_planned plan ps g.plans, g.names, is_listed plan ps list enough g.list_is g.room) g.insides
 
@@ -151,41 +150,41 @@ pub plan_holds : (plan ps : List ℕ) {A : Type 0} (P : A → Type 0) (refused :
     → P (refused Limits) → ((k : ℕ) → P (refused (Partition k))) → ((t : ℕ) → P (refused (Tick t))) → P next → P (unless refused (plan_judged plan ps) next)
 unfolding plan_judged
 plan_holds plan ps P refused next three six eight h =
-    unless-parts_hold usual (length plan) ps (λ (f : Finding). P (unless refused f next)) Refused (ticks_judged plan ps) not_2 three usual-not_21 six (ticks (ltb (first_bad_tick (partitions ps) plan) (length plan)))
+    unless-parts_hold usual (length plan) ps (λ (f : Result (Unit {0}) Refusal). P (unless refused f next)) Err (ticks_judged plan ps) not_2 three usual-not_21 six (ticks (ltb (first_bad_tick (partitions ps) plan) (length plan)))
   where
-    ticks : (b : Bool) → P (unless refused (pick b (Refused (Tick (first_bad_tick (partitions ps) plan + 1))) Good) next)
+    ticks : (b : Bool) → P (unless refused (pick b (Err (Tick (first_bad_tick (partitions ps) plan + 1))) (Ok tt)) next)
     ticks true = eight _
     ticks false = h
 
-pub call_holds : (plan ps list : List ℕ) (named : Finding) (enough : Bool) (inside : Finding) {A : Type 0} (P : A → Type 0) (refused : Refusal → A) (next : A)
-    → P (refused Limits) → ((k : ℕ) → P (refused (Partition k))) → ((t : ℕ) → P (refused (Tick t))) → ((r : Refusal) → named ≡ Refused r → P (refused r))
-    → P (refused Output) → P (refused Counts) → ((r : Refusal) → inside ≡ Refused r → P (refused r)) → P next → P (unless refused (counts_judged plan ps list named enough inside) next)
+pub call_holds : (plan ps list : List ℕ) (named : Result (Unit {0}) Refusal) (enough : Bool) (inside : Result (Unit {0}) Refusal) {A : Type 0} (P : A → Type 0) (refused : Refusal → A) (next : A)
+    → P (refused Limits) → ((k : ℕ) → P (refused (Partition k))) → ((t : ℕ) → P (refused (Tick t))) → ((r : Refusal) → named ≡ Err r → P (refused r))
+    → P (refused Output) → P (refused Counts) → ((r : Refusal) → inside ≡ Err r → P (refused r)) → P next → P (unless refused (counts_judged plan ps list named enough inside) next)
 unfolding counts_judged list_judged
 call_holds plan ps list named enough inside P refused next three six eight name twelve twenty stretch h =
-    plan_holds plan ps (λ (f : Finding). P (unless refused f next)) Refused _ three six eight
+    plan_holds plan ps (λ (f : Result (Unit {0}) Refusal). P (unless refused f next)) Err _ three six eight
     (names named refl (leb (needed plan ps) (length list) && enough) (some (fails (agrees_at plan list)) (needed plan ps)) inside refl)
   where
-    names : (n : Finding) → named ≡ n → (a b : Bool) (i : Finding) → inside ≡ i
-        → P (unless refused (unless Refused n (unless Refused (pick a (pick b (Refused Counts) Good) (Refused Output)) i)) next)
-    names (Refused r) e a b i f = name r e
-    names Good e false b i f = twelve
-    names Good e true true i f = twenty
-    names Good e true false (Refused r) f = stretch r f
-    names Good e true false Good f = h
+    names : (n : Result (Unit {0}) Refusal) → named ≡ n → (a b : Bool) (i : Result (Unit {0}) Refusal) → inside ≡ i
+        → P (unless refused (unless Err n (unless Err (pick a (pick b (Err Counts) (Ok tt)) (Err Output)) i)) next)
+    names (Err r) e a b i f = name r e
+    names (Ok _) e false b i f = twelve
+    names (Ok _) e true true i f = twenty
+    names (Ok _) e true false (Err r) f = stretch r f
+    names (Ok _) e true false (Ok _) f = h
 
 -- ---- why a call is refused, or not
 
 -- the first of the rules that is broken, or none
-pub data Judging (plan ps list : List ℕ) (named : Finding) (enough : Bool) (inside : Finding) : Finding → Type 0 where
-  at_plan : (r : Refusal) → plan_judged plan ps ≡ Refused r → Judging plan ps list named enough inside (Refused r)
-  at_name : Planned plan ps → (r : Refusal) → named ≡ Refused r → Judging plan ps list named enough inside (Refused r)
-  at_length : Planned plan ps → named ≡ Good → (length list < needed plan ps) ⊎ (enough ≡ false) → Judging plan ps list named enough inside (Refused Output)
+pub data Judging (plan ps list : List ℕ) (named : Result (Unit {0}) Refusal) (enough : Bool) (inside : Result (Unit {0}) Refusal) : Result (Unit {0}) Refusal → Type 0 where
+  at_plan : (r : Refusal) → plan_judged plan ps ≡ Err r → Judging plan ps list named enough inside (Err r)
+  at_name : Planned plan ps → (r : Refusal) → named ≡ Err r → Judging plan ps list named enough inside (Err r)
+  at_length : Planned plan ps → named ≡ (Ok tt) → (length list < needed plan ps) ⊎ (enough ≡ false) → Judging plan ps list named enough inside (Err Output)
   at-counts :
-      Planned plan ps → named ≡ Good → needed plan ps ≤ length list → enough ≡ true → ¬ Counted plan ps list → Judging plan ps list named enough inside (Refused Counts)
-  at_stretch : Planned plan ps → named ≡ Good → Counted plan ps list → enough ≡ true → (r : Refusal) → inside ≡ Refused r → Judging plan ps list named enough inside (Refused r)
-  at_none : Planned plan ps → named ≡ Good → Counted plan ps list → enough ≡ true → inside ≡ Good → Judging plan ps list named enough inside Good
+      Planned plan ps → named ≡ (Ok tt) → needed plan ps ≤ length list → enough ≡ true → ¬ Counted plan ps list → Judging plan ps list named enough inside (Err Counts)
+  at_stretch : Planned plan ps → named ≡ (Ok tt) → Counted plan ps list → enough ≡ true → (r : Refusal) → inside ≡ Err r → Judging plan ps list named enough inside (Err r)
+  at_none : Planned plan ps → named ≡ (Ok tt) → Counted plan ps list → enough ≡ true → inside ≡ (Ok tt) → Judging plan ps list named enough inside (Ok tt)
 
-module _ (plan ps list : List ℕ) (named : Finding) (enough : Bool) (inside : Finding) where
+module _ (plan ps list : List ℕ) (named : Result (Unit {0}) Refusal) (enough : Bool) (inside : Result (Unit {0}) Refusal) where
   pub judging : Judging plan ps list named enough inside (counts_judged plan ps list named enough inside)
   unfolding counts_judged list_judged
   judging = go (plan_judged plan ps) refl named refl (leb (needed plan ps) (length list)) refl enough refl (some (fails (agrees_at plan list)) (needed plan ps)) refl inside refl
@@ -193,22 +192,22 @@ module _ (plan ps list : List ℕ) (named : Finding) (enough : Bool) (inside : F
       counted : needed plan ps ≤ length list → some (fails (agrees_at plan list)) (needed plan ps) ≡ false → Counted plan ps list
       counted l e = record { long = l; counts = first_every (agrees_at plan list) (needed plan ps) (ltb-false _ _ e) }
 
-      go : (a : Finding) → plan_judged plan ps ≡ a → (b : Finding) → named ≡ b → (l : Bool) → leb (needed plan ps) (length list) ≡ l → (m : Bool) → enough ≡ m
-          → (d : Bool) → some (fails (agrees_at plan list)) (needed plan ps) ≡ d → (i : Finding) → inside ≡ i
-          → Judging plan ps list named enough inside (unless Refused a (unless Refused b (unless Refused (pick (l && m) (pick d (Refused Counts) Good) (Refused Output)) i)))
-      go (Refused r) ea b eb l el m em d ed i ei = at_plan r ea
-      go Good ea (Refused r) eb l el m em d ed i ei = at_name (planned plan ps ea) r eb
-      go Good ea Good eb false el m em d ed i ei = at_length (planned plan ps ea) eb (inl (leb-false _ _ el))
-      go Good ea Good eb true el false em d ed i ei = at_length (planned plan ps ea) eb (inr em)
-      go Good ea Good eb true el true em true ed i ei =
+      go : (a : Result (Unit {0}) Refusal) → plan_judged plan ps ≡ a → (b : Result (Unit {0}) Refusal) → named ≡ b → (l : Bool) → leb (needed plan ps) (length list) ≡ l → (m : Bool) → enough ≡ m
+          → (d : Bool) → some (fails (agrees_at plan list)) (needed plan ps) ≡ d → (i : Result (Unit {0}) Refusal) → inside ≡ i
+          → Judging plan ps list named enough inside (unless Err a (unless Err b (unless Err (pick (l && m) (pick d (Err Counts) (Ok tt)) (Err Output)) i)))
+      go (Err r) ea b eb l el m em d ed i ei = at_plan r ea
+      go (Ok _) ea (Err r) eb l el m em d ed i ei = at_name (planned plan ps ea) r eb
+      go (Ok _) ea (Ok _) eb false el m em d ed i ei = at_length (planned plan ps ea) eb (inl (leb-false _ _ el))
+      go (Ok _) ea (Ok _) eb true el false em d ed i ei = at_length (planned plan ps ea) eb (inr em)
+      go (Ok tt) ea (Ok tt) eb true el true em true ed i ei =
           at-counts (planned plan ps ea) eb (leb-true _ _ el) em (λ g. true≢false (sym ed ∙ all_agree plan list (needed plan ps) g.counts))
-      go Good ea Good eb true el true em false ed (Refused r) ei = at_stretch (planned plan ps ea) eb (counted (leb-true _ _ el) ed) em r ei
-      go Good ea Good eb true el true em false ed Good ei = at_none (planned plan ps ea) eb (counted (leb-true _ _ el) ed) em ei
+      go (Ok _) ea (Ok _) eb true el true em false ed (Err r) ei = at_stretch (planned plan ps ea) eb (counted (leb-true _ _ el) ed) em r ei
+      go (Ok _) ea (Ok _) eb true el true em false ed (Ok _) ei = at_none (planned plan ps ea) eb (counted (leb-true _ _ el) ed) em ei
 
-  pub called : counts_judged plan ps list named enough inside ≡ Good → Called plan ps list named enough inside
+  pub called : counts_judged plan ps list named enough inside ≡ (Ok tt) → Called plan ps list named enough inside
   called e = go _ judging e
     where
-      go : (f : Finding) → Judging plan ps list named enough inside f → f ≡ Good → Called plan ps list named enough inside
+      go : (f : Result (Unit {0}) Refusal) → Judging plan ps list named enough inside f → f ≡ (Ok tt) → Called plan ps list named enough inside
       go f (at_plan r h) e = absurd (not_good r e)
       go f (at_name g r h) e = absurd (not_good r e)
       go f (at_length g n l) e = absurd (not_good Output e)
@@ -217,6 +216,6 @@ module _ (plan ps list : List ℕ) (named : Finding) (enough : Bool) (inside : F
       go f (at_none g n c m h) e = record { plans = g; names = n; list_is = c; room = m; insides = h }
 
 -- a test failed: its refusal
-pub untested : (b : Bool) (q r : Refusal) → unless_good b q ≡ Refused r → (b ≡ false) × (r ≡ q)
+pub untested : (b : Bool) (q r : Refusal) → unless_good b q ≡ Err r → (b ≡ false) × (r ≡ q)
 untested true q r e = absurd (not_good r (sym e))
 untested false q r e = let z : q ≡ r = cc e in (refl, sym z)

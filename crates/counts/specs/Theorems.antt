@@ -1,22 +1,16 @@
 -- What the answers mean. Assumes nothing.
-use Rattle.std.specs.Prelude.{ℕ, ◌+◌, ◌*◌, ◌%◌, ◌≤◌, ◌<◌, ◌≡◌, ◌↔◌, ◌⊎◌, List, [], ◌++◌, length, get_or, set, drop}
+use Rattle.std.specs.Prelude.{ℕ, ◌+◌, ◌*◌, ◌%◌, ◌≤◌, ◌<◌, ◌≡◌, ◌↔◌, ◌⊎◌, List, [], ◌++◌, length, get_or, set, drop, Result, Ok, Err}
 use Rattle.rules.specs.Walk.{Every}
 use Rattle.rules.specs.Limits.{question_width}
 use Rattle.rules.specs.Table.{partitions, good_tick}
 use Rattle.rules.specs.Refusals.{told}
 use Rattle.rules.specs.declared.Refusal.{Refusal}
 use Rattle.rules.specs.declared.Refusal.TheVariants.{Limits, Output, Asked, Counts, Beyond}
-use Rattle.rules.specs.declared.Finding.{Finding}
-use Rattle.rules.specs.declared.Finding.TheVariants.{Good, Refused}
-use Rattle.rules.specs.declared.Filling.{Filling}
-use Rattle.rules.specs.declared.Filling.TheVariants as filling
 use Rattle.rules.specs.Terms.{usual, wanted}
 use Rattle.tables.specs.Tables.{unless, GoodTables}
 use Rattle.plan_check.specs.Check.{scan_of, check_of}
 use Rattle.rules.specs.declared.Rule.TheVariants.{Own}
 use Rattle.theory.specs.Plan.{held}
-use Rattle.rules.specs.declared.Holding.{Holding}
-use Rattle.rules.specs.declared.Holding.TheVariants as holding
 use Rattle.counts.specs.Counts.{row_width, row_of, needed, running_counts, agrees_at, plan_judged, fill_of, FillsCounts, held_of, HoldsOne, asked, start, span, questions, many_of, HoldsMany, change_of, Changes}
 
 -- ---- the list
@@ -59,22 +53,22 @@ CountedIs = (plan ps list : List ℕ) → Counted plan ps list ↔ (list ≡ run
 
 -- "the checker's 3, 6 and 8": of these nothing tells exactly where the plan is good, and the checker tells them first
 abbrev pub PlanExactly : Type 0
-PlanExactly = (plan ps : List ℕ) → (plan_judged plan ps ≡ Good) ↔ Planned plan ps
+PlanExactly = (plan ps : List ℕ) → (plan_judged plan ps ≡ (Ok tt)) ↔ Planned plan ps
 
 abbrev pub PlanAsChecked : Type 0
-PlanAsChecked = (plan ps : List ℕ) → check_of usual plan ps ≡ unless Refused (plan_judged plan ps) (scan_of Own (wanted usual ps) plan ps)
+PlanAsChecked = (plan ps : List ℕ) → check_of usual plan ps ≡ unless Err (plan_judged plan ps) (scan_of Own (wanted usual ps) plan ps)
 
 -- a bad record or tick is told with its place from 1, so that 8 with place 0 is never a tick's
 abbrev pub PlanPlaces : Type 0
-PlanPlaces = (plan ps : List ℕ) (r : Refusal) → plan_judged plan ps ≡ Refused r → ((told r).number ≡ 3) ⊎ (1 ≤ (told r).first)
+PlanPlaces = (plan ps : List ℕ) (r : Refusal) → plan_judged plan ps ≡ Err r → ((told r).number ≡ 3) ⊎ (1 ≤ (told r).first)
 
 -- ---- what each call answers, and where: the cases exclude one another, so that each answer is given exactly there
 
 -- filling: "the checker's 3, 6 and 8", then "a list too short is 12"
-pub data FilledBy (plan ps : List ℕ) (room : ℕ) : Filling → Type 0 where
-  fill_plan : (r : Refusal) → plan_judged plan ps ≡ Refused r → FilledBy plan ps room (filling.Refused r)
-  fill_length : Planned plan ps → room < needed plan ps → FilledBy plan ps room (filling.Refused Output)
-  fill_done : Planned plan ps → needed plan ps ≤ room → FilledBy plan ps room (filling.Fills (needed plan ps))
+pub data FilledBy (plan ps : List ℕ) (room : ℕ) : Result ℕ Refusal → Type 0 where
+  fill_plan : (r : Refusal) → plan_judged plan ps ≡ Err r → FilledBy plan ps room (Err r)
+  fill_length : Planned plan ps → room < needed plan ps → FilledBy plan ps room (Err Output)
+  fill_done : Planned plan ps → needed plan ps ≤ room → FilledBy plan ps room (Ok (needed plan ps))
 
 abbrev pub FillAnswers : Type 0
 FillAnswers = (plan ps : List ℕ) (room : ℕ) → FilledBy plan ps room (fill_of plan ps room)
@@ -84,15 +78,15 @@ abbrev pub Within : List ℕ → ℕ → ℕ → Type 0
 Within plan s n = (s < length plan) × (n ≤ length plan)
 
 -- held: then 8 with place 0, 12, 20 and 26; else "is answered from it and equals the count by walking"
-pub data HeldBy (plan ps list : List ℕ) (p s n : ℕ) : Holding → Type 0 where
-  held_plan : (r : Refusal) → plan_judged plan ps ≡ Refused r → HeldBy plan ps list p s n (holding.Refused r)
-  held_name : Planned plan ps → ¬ Named ps p → HeldBy plan ps list p s n (holding.Refused (Asked 0))
-  held-length : Planned plan ps → Named ps p → length list < needed plan ps → HeldBy plan ps list p s n (holding.Refused Output)
+pub data HeldBy (plan ps list : List ℕ) (p s n : ℕ) : Result ℕ Refusal → Type 0 where
+  held_plan : (r : Refusal) → plan_judged plan ps ≡ Err r → HeldBy plan ps list p s n (Err r)
+  held_name : Planned plan ps → ¬ Named ps p → HeldBy plan ps list p s n (Err (Asked 0))
+  held-length : Planned plan ps → Named ps p → length list < needed plan ps → HeldBy plan ps list p s n (Err Output)
   held-counts :
-      Planned plan ps → Named ps p → needed plan ps ≤ length list → ¬ Counted plan ps list → HeldBy plan ps list p s n (holding.Refused Counts)
-  held_stretch : Planned plan ps → Named ps p → Counted plan ps list → ¬ Within plan s n → HeldBy plan ps list p s n (holding.Refused (Beyond 0))
+      Planned plan ps → Named ps p → needed plan ps ≤ length list → ¬ Counted plan ps list → HeldBy plan ps list p s n (Err Counts)
+  held_stretch : Planned plan ps → Named ps p → Counted plan ps list → ¬ Within plan s n → HeldBy plan ps list p s n (Err (Beyond 0))
   held-done :
-      Planned plan ps → Named ps p → Counted plan ps list → Within plan s n → HeldBy plan ps list p s n (holding.Holds (held Own plan p n s))
+      Planned plan ps → Named ps p → Counted plan ps list → Within plan s n → HeldBy plan ps list p s n (Ok (held Own plan p n s))
 
 abbrev pub HeldAnswers : Type 0
 HeldAnswers = (plan ps list : List ℕ) (p s n : ℕ) → HeldBy plan ps list p s n (held_of plan ps list p s n)
@@ -112,24 +106,24 @@ All P n = (k : ℕ) → k < n → P k
 abbrev pub Whole : List ℕ → Type 0
 Whole qs = length qs % question_width ≡ 0
 
-pub data ManyBy (plan ps list qs : List ℕ) (room : ℕ) : Filling → Type 0 where
-  many-questions : ¬ Whole qs → ManyBy plan ps list qs room (filling.Refused Limits)
-  many_plan : Whole qs → (r : Refusal) → plan_judged plan ps ≡ Refused r → ManyBy plan ps list qs room (filling.Refused r)
+pub data ManyBy (plan ps list qs : List ℕ) (room : ℕ) : Result ℕ Refusal → Type 0 where
+  many-questions : ¬ Whole qs → ManyBy plan ps list qs room (Err Limits)
+  many_plan : Whole qs → (r : Refusal) → plan_judged plan ps ≡ Err r → ManyBy plan ps list qs room (Err r)
   many-name :
       Whole qs → Planned plan ps → (k : ℕ) → k < questions qs → ¬ NamedIn ps qs k → All (NamedIn ps qs) k
-      → ManyBy plan ps list qs room (filling.Refused (Asked (k + 1)))
+      → ManyBy plan ps list qs room (Err (Asked (k + 1)))
   many-length :
       Whole qs → Planned plan ps → All (NamedIn ps qs) (questions qs) → (length list < needed plan ps) ⊎ (room < questions qs)
-      → ManyBy plan ps list qs room (filling.Refused Output)
+      → ManyBy plan ps list qs room (Err Output)
   many-counts :
       Whole qs → Planned plan ps → All (NamedIn ps qs) (questions qs) → needed plan ps ≤ length list → questions qs ≤ room
-      → ¬ Counted plan ps list → ManyBy plan ps list qs room (filling.Refused Counts)
+      → ¬ Counted plan ps list → ManyBy plan ps list qs room (Err Counts)
   many-stretch :
       Whole qs → Planned plan ps → All (NamedIn ps qs) (questions qs) → Counted plan ps list → questions qs ≤ room
-      → (k : ℕ) → k < questions qs → ¬ WithinIn plan qs k → All (WithinIn plan qs) k → ManyBy plan ps list qs room (filling.Refused (Beyond (k + 1)))
+      → (k : ℕ) → k < questions qs → ¬ WithinIn plan qs k → All (WithinIn plan qs) k → ManyBy plan ps list qs room (Err (Beyond (k + 1)))
   many-done :
       Whole qs → Planned plan ps → All (NamedIn ps qs) (questions qs) → Counted plan ps list → questions qs ≤ room
-      → All (WithinIn plan qs) (questions qs) → ManyBy plan ps list qs room (filling.Fills (questions qs))
+      → All (WithinIn plan qs) (questions qs) → ManyBy plan ps list qs room (Ok (questions qs))
 
 abbrev pub ManyAnswers : Type 0
 ManyAnswers = (plan ps list qs : List ℕ) (room : ℕ) → ManyBy plan ps list qs room (many_of plan ps list qs room)
@@ -137,19 +131,19 @@ ManyAnswers = (plan ps list qs : List ℕ) (room : ℕ) → ManyBy plan ps list 
 -- each answer is that of the call that asks this alone
 abbrev pub ManyEach : Type 0
 ManyEach =
-    (plan ps list qs out o : List ℕ) (n : ℕ) → HoldsMany plan ps list qs out o (filling.Fills n)
-    → (k : ℕ) → k < n → held_of plan ps list (asked qs k) (start qs k) (span qs k) ≡ holding.Holds (get_or o k 0)
+    (plan ps list qs out o : List ℕ) (n : ℕ) → HoldsMany plan ps list qs out o (Ok n)
+    → (k : ℕ) → k < n → held_of plan ps list (asked qs k) (start qs k) (span qs k) ≡ Ok (get_or o k 0)
 
 -- change: "a new owner outside the table .. (owner 0 is good)", "a tick outside the plan"
-pub data ChangedBy (plan ps list : List ℕ) (tick owner : ℕ) : Finding → Type 0 where
-  change_plan : (r : Refusal) → plan_judged plan ps ≡ Refused r → ChangedBy plan ps list tick owner (Refused r)
-  change_name : Planned plan ps → partitions ps < owner → ChangedBy plan ps list tick owner (Refused (Asked 0))
-  change_length : Planned plan ps → owner ≤ partitions ps → length list < needed plan ps → ChangedBy plan ps list tick owner (Refused Output)
+pub data ChangedBy (plan ps list : List ℕ) (tick owner : ℕ) : Result (Unit {0}) Refusal → Type 0 where
+  change_plan : (r : Refusal) → plan_judged plan ps ≡ Err r → ChangedBy plan ps list tick owner (Err r)
+  change_name : Planned plan ps → partitions ps < owner → ChangedBy plan ps list tick owner (Err (Asked 0))
+  change_length : Planned plan ps → owner ≤ partitions ps → length list < needed plan ps → ChangedBy plan ps list tick owner (Err Output)
   change-counts :
-      Planned plan ps → owner ≤ partitions ps → needed plan ps ≤ length list → ¬ Counted plan ps list → ChangedBy plan ps list tick owner (Refused Counts)
+      Planned plan ps → owner ≤ partitions ps → needed plan ps ≤ length list → ¬ Counted plan ps list → ChangedBy plan ps list tick owner (Err Counts)
   change-stretch :
-      Planned plan ps → owner ≤ partitions ps → Counted plan ps list → length plan ≤ tick → ChangedBy plan ps list tick owner (Refused (Beyond 0))
-  change_done : Planned plan ps → owner ≤ partitions ps → Counted plan ps list → tick < length plan → ChangedBy plan ps list tick owner Good
+      Planned plan ps → owner ≤ partitions ps → Counted plan ps list → length plan ≤ tick → ChangedBy plan ps list tick owner (Err (Beyond 0))
+  change_done : Planned plan ps → owner ≤ partitions ps → Counted plan ps list → tick < length plan → ChangedBy plan ps list tick owner (Ok tt)
 
 abbrev pub ChangeAnswers : Type 0
 ChangeAnswers = (plan ps list : List ℕ) (tick owner : ℕ) → ChangedBy plan ps list tick owner (change_of plan ps list tick owner)
@@ -158,16 +152,16 @@ ChangeAnswers = (plan ps list : List ℕ) (tick owner : ℕ) → ChangedBy plan 
 
 -- a list that is filled is the plan's
 abbrev pub FillCounted : Type 0
-FillCounted = (plan ps list o : List ℕ) (n : ℕ) → FillsCounts plan ps list o (filling.Fills n) → Planned plan ps × Counted plan ps o
+FillCounted = (plan ps list o : List ℕ) (n : ℕ) → FillsCounts plan ps list o (Ok n) → Planned plan ps × Counted plan ps o
 
 -- a longer list keeps its tail, and so do longer answers
 abbrev pub FillKeeps : Type 0
 FillKeeps =
-    (plan ps list o : List ℕ) (r : Filling) → FillsCounts plan ps list o r → (length o ≡ length list) × ((i : ℕ) → needed plan ps ≤ i → get_or o i 0 ≡ get_or list i 0)
+    (plan ps list o : List ℕ) (r : Result ℕ Refusal) → FillsCounts plan ps list o r → (length o ≡ length list) × ((i : ℕ) → needed plan ps ≤ i → get_or o i 0 ≡ get_or list i 0)
 
 abbrev pub ManyKeeps : Type 0
 ManyKeeps =
-    (plan ps list qs out o : List ℕ) (r : Filling) → HoldsMany plan ps list qs out o r
+    (plan ps list qs out o : List ℕ) (r : Result ℕ Refusal) → HoldsMany plan ps list qs out o r
     → (length o ≡ length out) × ((i : ℕ) → questions qs ≤ i → get_or o i 0 ≡ get_or out i 0)
 
 -- ---- change
@@ -175,7 +169,7 @@ ManyKeeps =
 -- the list is then that of the changed plan
 abbrev pub ChangeCounted : Type 0
 ChangeCounted =
-    (plan ps list plan' o : List ℕ) (tick owner : ℕ) → Changes plan ps list tick owner plan' o Good → Planned plan' ps × Counted plan' ps o
+    (plan ps list plan' o : List ℕ) (tick owner : ℕ) → Changes plan ps list tick owner plan' o (Ok tt) → Planned plan' ps × Counted plan' ps o
 
 -- "Changing one tick's owner changes that tick and only the later counts of the old and the new owner", each by one, number by number
 pub record OnlyMoves (plan ps list plan' o : List ℕ) (tick owner : ℕ) : Type 0 where
@@ -198,37 +192,37 @@ pub record OnlyMoves (plan ps list plan' o : List ℕ) (tick owner : ℕ) : Type
 
 abbrev pub ChangeMoves : Type 0
 ChangeMoves =
-    (plan ps list plan' o : List ℕ) (tick owner : ℕ) → Changes plan ps list tick owner plan' o Good → OnlyMoves plan ps list plan' o tick owner
+    (plan ps list plan' o : List ℕ) (tick owner : ℕ) → Changes plan ps list tick owner plan' o (Ok tt) → OnlyMoves plan ps list plan' o tick owner
 
 -- a new owner that is the old one changes nothing
 abbrev pub ChangeSame : Type 0
 ChangeSame =
-    (plan ps list plan' o : List ℕ) (tick : ℕ) (r : Finding) → Changes plan ps list tick (get_or plan tick 0) plan' o r → (plan' ≡ plan) × (o ≡ list)
+    (plan ps list plan' o : List ℕ) (tick : ℕ) (r : Result (Unit {0}) Refusal) → Changes plan ps list tick (get_or plan tick 0) plan' o r → (plan' ≡ plan) × (o ≡ list)
 
 -- fill, then change, then held: neither is refused, and what is answered is held of the changed plan
 abbrev pub FillChangeHeld : Type 0
 FillChangeHeld =
-    (plan ps list o plan' o' : List ℕ) (m tick owner : ℕ) (r : Finding) → FillsCounts plan ps list o (filling.Fills m)
+    (plan ps list o plan' o' : List ℕ) (m tick owner : ℕ) (r : Result (Unit {0}) Refusal) → FillsCounts plan ps list o (Ok m)
     → Changes plan ps o tick owner plan' o' r → owner ≤ partitions ps → tick < length plan
-    → (r ≡ Good)
-    × ((p s n : ℕ) (a : Holding) → Named ps p → Within plan s n → HoldsOne plan' ps o' p s n a → a ≡ holding.Holds (held Own (set plan tick owner) p n s))
+    → (r ≡ (Ok tt))
+    × ((p s n : ℕ) (a : Result ℕ Refusal) → Named ps p → Within plan s n → HoldsOne plan' ps o' p s n a → a ≡ Ok (held Own (set plan tick owner) p n s))
 
 -- ---- "any two outcomes it permits are equal": the answer, and what is then left in all that was lent
 
 abbrev pub FillOne : Type 0
-FillOne = (plan ps list o o' : List ℕ) (r r' : Filling) → FillsCounts plan ps list o r → FillsCounts plan ps list o' r' → (r ≡ r') × (o ≡ o')
+FillOne = (plan ps list o o' : List ℕ) (r r' : Result ℕ Refusal) → FillsCounts plan ps list o r → FillsCounts plan ps list o' r' → (r ≡ r') × (o ≡ o')
 
 abbrev pub CountsHeldOne : Type 0
-CountsHeldOne = (plan ps list : List ℕ) (p s n : ℕ) (r r' : Holding) → HoldsOne plan ps list p s n r → HoldsOne plan ps list p s n r' → r ≡ r'
+CountsHeldOne = (plan ps list : List ℕ) (p s n : ℕ) (r r' : Result ℕ Refusal) → HoldsOne plan ps list p s n r → HoldsOne plan ps list p s n r' → r ≡ r'
 
 abbrev pub ManyOne : Type 0
 ManyOne =
-    (plan ps list qs out o o' : List ℕ) (r r' : Filling) → HoldsMany plan ps list qs out o r → HoldsMany plan ps list qs out o' r'
+    (plan ps list qs out o o' : List ℕ) (r r' : Result ℕ Refusal) → HoldsMany plan ps list qs out o r → HoldsMany plan ps list qs out o' r'
     → (r ≡ r') × (o ≡ o')
 
 abbrev pub ChangeOne : Type 0
 ChangeOne =
-    (plan ps list plan₁ plan₂ o₁ o₂ : List ℕ) (tick owner : ℕ) (r r' : Finding) → Changes plan ps list tick owner plan₁ o₁ r
+    (plan ps list plan₁ plan₂ o₁ o₂ : List ℕ) (tick owner : ℕ) (r r' : Result (Unit {0}) Refusal) → Changes plan ps list tick owner plan₁ o₁ r
     → Changes plan ps list tick owner plan₂ o₂ r' → (r ≡ r') × (plan₁ ≡ plan₂) × (o₁ ≡ o₂)
 
 pub record Proved : Type 0 where

@@ -22,26 +22,21 @@ use Rattle.rules.specs.declared.Explanation.{Explanation}
 use Rattle.rules.specs.declared.Explanation.TheVariants as why
 use Rattle.rules.specs.declared.Refusal.{Refusal}
 use Rattle.rules.specs.declared.Refusal.TheVariants.{Edition, Tick, Shortfall, Unharmonic, Want, Output, Rules, Numbers, Past, Busy, Full, NoPlace}
-use Rattle.rules.specs.Refusals.{telling, told, told_finding, told_filling, told_holding, Tells}
+use Rattle.rules.specs.Refusals.{telling, told, told_done, told_count, Tells}
 use Rattle.rules.specs.Filling.{left_by}
 use Rattle.rules.proofs.Known.{not_0, by_number, filling_fills, tells_one}
 use Rattle.rules.proofs.Tests.{and_parts, pick_first}
 use Rattle.rules.proofs.Answers.{no_filling}
-use Rattle.rules.specs.declared.Holding.{Holding}
-use Rattle.rules.specs.declared.Holding.TheVariants as holding
+use Rattle.std.specs.Prelude.{Result, Ok, Err}
 use Rattle.tables.proofs.Chain.{unless-parts_hold, not_2}
 use Rattle.output.proofs.Proved as output
 use Rattle.theory.specs.Plan.{held, count_in, HeldIs, least, LeastIs}
 use Rattle.theory.specs.Harmonic.{frame, all_wanted, harmonic_plan}
 use Rattle.theory.specs.Task.{task_point, task_tick}
 use Rattle.theory.proofs.Proved as theory
-use Rattle.rules.specs.declared.Finding.{Finding}
-use Rattle.rules.specs.declared.Finding.TheVariants as found
 use Rattle.plan_check.specs.Check.{scan_of, plan_check_of, check_of, Checks}
 use Rattle.plan_check.proofs.Orders.{short_part}
 use Rattle.plan_check.proofs.Answers as checker
-use Rattle.rules.specs.declared.Filling.{Filling}
-use Rattle.rules.specs.declared.Filling.TheVariants as filling
 use Rattle.plan_build.specs.Build.{unharmonic, laid_of, build_of, Builds}
 use Rattle.plan_build.proofs.Answers as builder
 use Rattle.rules.specs.Walk.{listed}
@@ -92,32 +87,32 @@ use Rattle.demands.proofs.Paging as paging
 -- ---- the numbers, whatever the tests give: one case for each answer
 
 -- what holds of each of the checker's 8 and 9, and of the builder's 10, 11 and 12
-of_plan : (P : Finding → Type 0) (rule : Rule) (q : ℕ → ℕ) (plan ps : List ℕ) → P found.Good → ((t : ℕ) → P (found.Refused (Tick t))) → ((p s h w : ℕ) → P (found.Refused (Shortfall p s h w)))
+of_plan : (P : Result (Unit {0}) Refusal → Type 0) (rule : Rule) (q : ℕ → ℕ) (plan ps : List ℕ) → P (Ok tt) → ((t : ℕ) → P (Err (Tick t))) → ((p s h w : ℕ) → P (Err (Shortfall p s h w)))
     → P (plan_check_of rule q plan ps)
 unfolding plan_check_of scan_of
 of_plan P rule q plan ps good eight nine = at (ltb (first_bad_tick (partitions ps) plan) (length plan)) (ltb (short_part rule q plan ps) (partitions ps)) _ _ _ _ _
   where
-    at : (c d : Bool) (t p s h w : ℕ) → P (unless found.Refused (pick c (found.Refused (Tick t)) found.Good) (pick d (found.Refused (Shortfall p s h w)) found.Good))
+    at : (c d : Bool) (t p s h w : ℕ) → P (unless Err (pick c (Err (Tick t)) (Ok tt)) (pick d (Err (Shortfall p s h w)) (Ok tt)))
     at true d t p s h w = eight t
     at false true t p s h w = nine p s h w
     at false false t p s h w = good
 
-of_laid : (P : Filling → Type 0) (q : ℕ → ℕ) (ps : List ℕ) (room : ℕ) → P (filling.Refused Unharmonic) → P (filling.Refused Want) → P (filling.Refused Output) → ((h : ℕ) → P (filling.Fills h))
+of_laid : (P : Result ℕ Refusal → Type 0) (q : ℕ → ℕ) (ps : List ℕ) (room : ℕ) → P (Err Unharmonic) → P (Err Want) → P (Err Output) → ((h : ℕ) → P (Ok h))
     → P (laid_of q ps room)
 unfolding laid_of
 of_laid P q ps room ten eleven twelve fills = at (unharmonic ps) (ltb (frame ps) (all_wanted q ps (frame ps))) (ltb room (frame ps))
   where
-    at : (c d e : Bool) → P (pick c (filling.Refused Unharmonic) (pick d (filling.Refused Want) (pick e (filling.Refused Output) (filling.Fills (frame ps)))))
+    at : (c d e : Bool) → P (pick c (Err Unharmonic) (pick d (Err Want) (pick e (Err Output) (Ok (frame ps)))))
     at true d e = ten
     at false true e = eleven
     at false false true = twelve
     at false false false = fills (frame ps)
 
-write-told : (e : Bool) (n : ℕ) → Numbered (2 ∷ 3 ∷ 6 ∷ 7 ∷ 8 ∷ 12 ∷ []) (told_filling (pick e (filling.Refused Output) (filling.Fills n)))
+write-told : (e : Bool) (n : ℕ) → Numbered (2 ∷ 3 ∷ 6 ∷ 7 ∷ 8 ∷ 12 ∷ []) (told_count (pick e (Err Output) (Ok n)))
 write-told true n = refl
 write-told false n = refl
 
-list-told : (a : Bool) (n : ℕ) → Numbered (12 ∷ []) (told_filling (pick a (filling.Refused Output) (filling.Fills n)))
+list-told : (a : Bool) (n : ℕ) → Numbered (12 ∷ []) (told_count (pick a (Err Output) (Ok n)))
 list-told true n = refl
 list-told false n = refl
 
@@ -154,8 +149,8 @@ module _ (P : Outcome → Type 0) (clock n : ℕ) (l : List Job) (t c d : ℕ) w
 
 -- ---- from what is told to the rule's answer, and back
 
-build_is : (g : ℕ) (ps out o : List ℕ) (t : Told) → TellsBuild g ps out o t → t ≡ told_filling (build_of (granules g) ps (length out))
-build_is g ps out o t p = tells_one told_filling (Builds (granules g) ps out o) (build_of (granules g) ps (length out)) (λ r e. e.0) t p
+build_is : (g : ℕ) (ps out o : List ℕ) (t : Told) → TellsBuild g ps out o t → t ≡ told_count (build_of (granules g) ps (length out))
+build_is g ps out o t p = tells_one told_count (Builds (granules g) ps out o) (build_of (granules g) ps (length out)) (λ r e. e.0) t p
 
 read_is : (b : List ℕ) (t : Told) → TellsRead b t → t ≡ told_reading (read_of b)
 read_is b t p = tells_one told_reading (Reads b) (read_of b) (λ r e. e) t p
@@ -163,20 +158,20 @@ read_is b t p = tells_one told_reading (Reads b) (read_of b) (λ r e. e) t p
 section_is : (b : List ℕ) (which : ℕ) (t : Told) → TellsSection b which t → t ≡ told_part which (read_of b)
 section_is b which t p = tells_one (told_part which) (Reads b) (read_of b) (λ r e. e) t p
 
-write_is : (i f : ℕ) (ps ts rs out o : List ℕ) (t : Told) → TellsWrite i f ps ts rs out o t → t ≡ told_filling (write_of i f ps ts rs (length out))
-write_is i f ps ts rs out o t p = tells_one told_filling (Writes i f ps ts rs out o) (write_of i f ps ts rs (length out)) (λ r e. e.0) t p
+write_is : (i f : ℕ) (ps ts rs out o : List ℕ) (t : Told) → TellsWrite i f ps ts rs out o t → t ≡ told_count (write_of i f ps ts rs (length out))
+write_is i f ps ts rs out o t p = tells_one told_count (Writes i f ps ts rs out o) (write_of i f ps ts rs (length out)) (λ r e. e.0) t p
 
-curve_is : (i : ℕ) (plan : List ℕ) (p n : ℕ) (list o : List ℕ) (t : Told) → TellsCurve i plan p n list o t → t ≡ told_filling (curve_of i n (length list))
-curve_is i plan p n list o t c = tells_one told_filling (DrawsCurve i plan p n list o) (curve_of i n (length list)) (λ r e. e.0) t c
+curve_is : (i : ℕ) (plan : List ℕ) (p n : ℕ) (list o : List ℕ) (t : Told) → TellsCurve i plan p n list o t → t ≡ told_count (curve_of i n (length list))
+curve_is i plan p n list o t c = tells_one told_count (DrawsCurve i plan p n list o) (curve_of i n (length list)) (λ r e. e.0) t c
 
-held_is : (i : ℕ) (plan : List ℕ) (p s n : ℕ) (t : Told) → TellsHeld i plan p s n t → t ≡ told_holding (count_in i (held (rule_of i) plan p n s))
-held_is i plan p s n t q = tells_one told_holding (HeldIs i plan p s n) _ (λ r e. e) t q
+held_is : (i : ℕ) (plan : List ℕ) (p s n : ℕ) (t : Told) → TellsHeld i plan p s n t → t ≡ told_count (count_in i (held (rule_of i) plan p n s))
+held_is i plan p s n t q = tells_one told_count (HeldIs i plan p s n) _ (λ r e. e) t q
 
-least_is : (i : ℕ) (plan : List ℕ) (p u : ℕ) (t : Told) → TellsLeast i plan p u t → t ≡ told_holding (count_in i (least (rule_of i) plan p u))
-least_is i plan p u t q = tells_one told_holding (LeastIs i plan p u) _ (λ r e. e) t q
+least_is : (i : ℕ) (plan : List ℕ) (p u : ℕ) (t : Told) → TellsLeast i plan p u t → t ≡ told_count (count_in i (least (rule_of i) plan p u))
+least_is i plan p u t q = tells_one told_count (LeastIs i plan p u) _ (λ r e. e) t q
 
-list_is : (b out o : List ℕ) (t : Told) → TellsList b out o t → t ≡ told_filling (list_of b (length out))
-list_is b out o t p = tells_one told_filling (Lists b out o) (list_of b (length out)) (λ r e. e.0) t p
+list_is : (b out o : List ℕ) (t : Told) → TellsList b out o t → t ≡ told_count (list_of b (length out))
+list_is b out o t p = tells_one told_count (Lists b out o) (list_of b (length out)) (λ r e. e.0) t p
 
 -- the desk's two entries, whose outcome is o
 module _ (o : Outcome) (k' : Desk) (l' : List Job) (t : Told) (p : Tells said (λ (a : Answer). Leaves o a k' l') t) where
@@ -209,27 +204,27 @@ module _ {A : Type 0} (i : ℕ) (number : A → ℕ) (next two : A) (z : number 
       at true e h k = after h
       at false e h k = known_good i k e
 
-count-told : (i n : ℕ) → Numbered (2 ∷ []) (told_holding (count_in i n))
+count-told : (i n : ℕ) → Numbered (2 ∷ []) (told_count (count_in i n))
 count-told i n = at (good_edition i)
   where
-    at : (b : Bool) → Numbered (2 ∷ []) (told_holding (pick b (holding.Holds n) (holding.Refused Edition)))
+    at : (b : Bool) → Numbered (2 ∷ []) (told_count (pick b (Ok n) (Err Edition)))
     at true = refl
     at false = refl
 
-curve-told : (a b : Bool) (n : ℕ) → Numbered (2 ∷ 12 ∷ []) (told_filling (pick a (pick b (filling.Refused Output) (filling.Fills n)) (filling.Refused Edition)))
+curve-told : (a b : Bool) (n : ℕ) → Numbered (2 ∷ 12 ∷ []) (told_count (pick a (pick b (Err Output) (Ok n)) (Err Edition)))
 curve-told true true n = refl
 curve-told true false n = refl
 curve-told false b n = refl
 
-filled-told : (b : Bool) (n : ℕ) → ¬ ((told_filling (pick b (filling.Refused Output) (filling.Fills n))).number ≡ 2)
+filled-told : (b : Bool) (n : ℕ) → ¬ ((told_count (pick b (Err Output) (Ok n))).number ≡ 2)
 filled-told true n z = absurd (omega arith)
 filled-told false n z = absurd (omega arith)
 
 -- ---- what a refusal leaves
 
-left-refused : (r : Filling) (new out : List ℕ) → ¬ ((told_filling r).number ≡ 0) → left_by r new out ≡ out
-left-refused (filling.Fills m) new out n = absurd (n refl)
-left-refused (filling.Refused x) new out n = refl
+left-refused : (r : Result ℕ Refusal) (new out : List ℕ) → ¬ ((told_count r).number ≡ 0) → left_by r new out ≡ out
+left-refused (Ok m) new out n = absurd (n refl)
+left-refused (Err x) new out n = refl
 
 abbrev every : (ℕ → Bool) → List ℕ → Bool
 every p [] = true
@@ -426,15 +421,15 @@ unfolding curve_of check_of build_of read_of write_of list_of open_of
 first = record {
   build_numbers = λ g ps out o t p.
       rw (build_is g ps out o t p)
-      (unless-parts_hold (granules g) longest ps (λ (r : Filling). Numbered (3 ∷ 21 ∷ 6 ∷ 10 ∷ 11 ∷ 12 ∷ []) (told_filling r)) filling.Refused (laid_of (wanted (granules g) ps) ps (length out)) not_2 refl (λ e. refl) (λ k. refl)
-      (of_laid (λ (r : Filling). Numbered (3 ∷ 21 ∷ 6 ∷ 10 ∷ 11 ∷ 12 ∷ []) (told_filling r)) (wanted (granules g) ps) ps (length out) refl refl refl (λ h. refl)));
+      (unless-parts_hold (granules g) longest ps (λ (r : Result ℕ Refusal). Numbered (3 ∷ 21 ∷ 6 ∷ 10 ∷ 11 ∷ 12 ∷ []) (told_count r)) Err (laid_of (wanted (granules g) ps) ps (length out)) not_2 refl (λ e. refl) (λ k. refl)
+      (of_laid (λ (r : Result ℕ Refusal). Numbered (3 ∷ 21 ∷ 6 ∷ 10 ∷ 11 ∷ 12 ∷ []) (told_count r)) (wanted (granules g) ps) ps (length out) refl refl refl (λ h. refl)));
   held_numbers = λ i plan p s n t q. rw (held_is i plan p s n t q) (count-told i _);
   least_numbers = λ i plan p u t q. rw (least_is i plan p u t q) (count-told i _);
   curve_numbers = λ i plan p n list o t c. rw (curve_is i plan p n list o t c) (curve-told (good_edition i) (ltb (length list) (n + 1)) _);
   check_numbers = λ i g plan ps t p.
       rw (judging.check_is i g plan ps t p)
-      (unless-parts_hold (given i g) (length plan) ps (λ (r : Finding). Numbered (2 ∷ 3 ∷ 21 ∷ 6 ∷ 8 ∷ 9 ∷ []) (told_finding r)) found.Refused (plan_check_of (rule_of i) (wanted (given i g) ps) plan ps) (λ e. refl) refl (λ e. refl) (λ k. refl)
-      (of_plan (λ (r : Finding). Numbered (2 ∷ 3 ∷ 21 ∷ 6 ∷ 8 ∷ 9 ∷ []) (told_finding r)) (rule_of i) (wanted (given i g) ps) plan ps refl (λ t. refl) (λ p s h w. refl)));
+      (unless-parts_hold (given i g) (length plan) ps (λ (r : Result (Unit {0}) Refusal). Numbered (2 ∷ 3 ∷ 21 ∷ 6 ∷ 8 ∷ 9 ∷ []) (told_done r)) Err (plan_check_of (rule_of i) (wanted (given i g) ps) plan ps) (λ e. refl) refl (λ e. refl) (λ k. refl)
+      (of_plan (λ (r : Result (Unit {0}) Refusal). Numbered (2 ∷ 3 ∷ 21 ∷ 6 ∷ 8 ∷ 9 ∷ []) (told_done r)) (rule_of i) (wanted (given i g) ps) plan ps refl (λ t. refl) (λ p s h w. refl)));
   fill_numbers = counting.fill_numbers;
   counts_held_numbers = counting.held_numbers;
   many_numbers = counting.many_numbers;
@@ -451,40 +446,40 @@ first = record {
   section_good = λ b which t u p q e. rw (section_is b which t p) (a_part b which (rw (read_is b u q) at e));
   write_numbers = λ i f ps ts rs out o t p.
       rw (write_is i f ps ts rs out o t p)
-      (file_holds i f ps ts rs (λ (w : Filling). Numbered (2 ∷ 3 ∷ 6 ∷ 7 ∷ 8 ∷ 12 ∷ []) (told_filling w)) filling.Refused _ (λ e. refl) refl (λ k. refl) (λ j. refl) (λ r. refl)
+      (file_holds i f ps ts rs (λ (w : Result ℕ Refusal). Numbered (2 ∷ 3 ∷ 6 ∷ 7 ∷ 8 ∷ 12 ∷ []) (told_count w)) Err _ (λ e. refl) refl (λ k. refl) (λ j. refl) (λ r. refl)
       (write-told (ltb (length out) (size_for ps ts rs)) _));
   list_numbers = λ b out o t p. rw (list_is b out o t p) (list-told (ltb (length out) (length (listing_of b))) _);
   open_numbers = λ k k' l l' t p. rw (desk_is _ k' l' t p) (open_told (table_ok k.count l) _ _ k.count k.clock);
   request_numbers = λ k k' l l' time c d t p.
       rw (desk_is _ k' l' t p) (request_holds (λ o. Numbered (13 ∷ 14 ∷ 15 ∷ 16 ∷ 17 ∷ 18 ∷ []) (said o.answer)) k.clock k.count l time c d refl refl refl refl refl refl (λ i s. refl));
   held_edition = λ i plan p s n t q.
-      rw (held_is i plan p s n t q) (by_edition i (λ (r : Holding). (told_holding r).number) (holding.Holds (held (rule_of i) plan p n s)) (holding.Refused Edition) refl (λ z. absurd (omega arith)));
+      rw (held_is i plan p s n t q) (by_edition i (λ (r : Result ℕ Refusal). (told_count r).number) (Ok (held (rule_of i) plan p n s)) (Err Edition) refl (λ z. absurd (omega arith)));
   least_edition = λ i plan p u t q.
-      rw (least_is i plan p u t q) (by_edition i (λ (r : Holding). (told_holding r).number) (holding.Holds (least (rule_of i) plan p u)) (holding.Refused Edition) refl (λ z. absurd (omega arith)));
+      rw (least_is i plan p u t q) (by_edition i (λ (r : Result ℕ Refusal). (told_count r).number) (Ok (least (rule_of i) plan p u)) (Err Edition) refl (λ z. absurd (omega arith)));
   curve_edition = λ i plan p n list o t c.
-      rw (curve_is i plan p n list o t c) (by_edition i (λ (r : Filling). (told_filling r).number) _ (filling.Refused Edition) refl (filled-told (ltb (length list) (n + 1)) _));
+      rw (curve_is i plan p n list o t c) (by_edition i (λ (r : Result ℕ Refusal). (told_count r).number) _ (Err Edition) refl (filled-told (ltb (length list) (n + 1)) _));
   check_edition = λ i g plan ps t p.
       rw (judging.check_is i g plan ps t p)
-      (edition_exactly i g (length plan) ps [] (λ (r : Finding). (told_finding r).number) found.Refused (plan_check_of (rule_of i) (wanted (given i g) ps) plan ps) (λ r. refl)
-      (of_plan (λ (r : Finding). ¬ ((told_finding r).number ≡ 2)) (rule_of i) (wanted (given i g) ps) plan ps (λ z. absurd (omega arith)) (λ t z. absurd (omega arith)) (λ p s h w z. absurd (omega arith))));
+      (edition_exactly i g (length plan) ps [] (λ (r : Result (Unit {0}) Refusal). (told_done r).number) Err (plan_check_of (rule_of i) (wanted (given i g) ps) plan ps) (λ r. refl)
+      (of_plan (λ (r : Result (Unit {0}) Refusal). ¬ ((told_done r).number ≡ 2)) (rule_of i) (wanted (given i g) ps) plan ps (λ z. absurd (omega arith)) (λ t z. absurd (omega arith)) (λ p s h w z. absurd (omega arith))));
   verdict_edition = judging.judged-edition task_point;
   plain_edition = judging.judged-edition task_tick;
   page_edition = paging.page_edition;
   write_edition = λ i f ps ts rs out o t p.
       rw (write_is i f ps ts rs out o t p) (
         λ h k.
-            file_holds i f ps ts rs (λ (w : Filling). ¬ ((told_filling w).number ≡ 2)) filling.Refused _ (known_good i k) (λ z. absurd (omega arith)) (λ j z. absurd (omega arith)) (λ j z. absurd (omega arith)) (λ r z. absurd (omega arith))
+            file_holds i f ps ts rs (λ (w : Result ℕ Refusal). ¬ ((told_count w).number ≡ 2)) Err _ (known_good i k) (λ z. absurd (omega arith)) (λ j z. absurd (omega arith)) (λ j z. absurd (omega arith)) (λ r z. absurd (omega arith))
             (filled-told (ltb (length out) (size_for ps ts rs)) _) h,
         λ n. rw (← file_2 i f ps ts rs (not_known i n)),
       );
   build_granule = λ g ps out o t p.
       rw (build_is g ps out o t p)
-      (granule_exactly 1 g longest ps [] (λ (r : Filling). (told_filling r).number) filling.Refused (laid_of (wanted (granules g) ps) ps (length out)) (λ r. refl)
-      (of_laid (λ (r : Filling). ¬ ((told_filling r).number ≡ 21)) (wanted (granules g) ps) ps (length out) (λ z. absurd (omega arith)) (λ z. absurd (omega arith)) (λ z. absurd (omega arith)) (λ h z. absurd (omega arith))));
+      (granule_exactly 1 g longest ps [] (λ (r : Result ℕ Refusal). (told_count r).number) Err (laid_of (wanted (granules g) ps) ps (length out)) (λ r. refl)
+      (of_laid (λ (r : Result ℕ Refusal). ¬ ((told_count r).number ≡ 21)) (wanted (granules g) ps) ps (length out) (λ z. absurd (omega arith)) (λ z. absurd (omega arith)) (λ z. absurd (omega arith)) (λ h z. absurd (omega arith))));
   check_granule = λ i g plan ps t p.
       rw (judging.check_is i g plan ps t p)
-      (granule_exactly i g (length plan) ps [] (λ (r : Finding). (told_finding r).number) found.Refused (plan_check_of (rule_of i) (wanted (given i g) ps) plan ps) (λ r. refl)
-      (of_plan (λ (r : Finding). ¬ ((told_finding r).number ≡ 21)) (rule_of i) (wanted (given i g) ps) plan ps (λ z. absurd (omega arith)) (λ t z. absurd (omega arith)) (λ p s h w z. absurd (omega arith))));
+      (granule_exactly i g (length plan) ps [] (λ (r : Result (Unit {0}) Refusal). (told_done r).number) Err (plan_check_of (rule_of i) (wanted (given i g) ps) plan ps) (λ r. refl)
+      (of_plan (λ (r : Result (Unit {0}) Refusal). ¬ ((told_done r).number ≡ 21)) (rule_of i) (wanted (given i g) ps) plan ps (λ z. absurd (omega arith)) (λ t z. absurd (omega arith)) (λ p s h w z. absurd (omega arith))));
   verdict_granule = judging.judged-granule task_point;
   plain_granule = judging.judged-granule task_tick;
   page_granule = paging.page_granule;
@@ -520,30 +515,30 @@ desk-one o k₁ k₂ l₁ l₂ t t' (r, p, e) (r', p', e') =
 
 one_outcome : OneOutcome
 one_outcome = record {
-  held_one = λ i plan p s n. same-told told_holding (HeldIs i plan p s n) ((theory.proved).held_one i plan p s n);
-  least_one = λ i plan p u. same-told told_holding (LeastIs i plan p u) ((theory.proved).least_one i plan p u);
-  curve_one = λ i plan p n list. same_left told_filling (DrawsCurve i plan p n list) ((curve.proved).curve_one i plan p n list);
-  check_one = λ i g plan ps. same-told told_finding (Checks (given i g) plan ps) ((checker.proved).check_one (given i g) plan ps);
-  build_one = λ g ps out. same_left told_filling (Builds (granules g) ps out) ((builder.proved).build_one (granules g) ps out);
-  fill_one = λ plan ps list. same_left told_filling (FillsCounts plan ps list) ((counts.proved).fill_one plan ps list);
-  counts_held_one = λ plan ps list p s n. same-told told_holding (HoldsOne plan ps list p s n) ((counts.proved).held_one plan ps list p s n);
-  many_one = λ plan ps list qs out. same_left told_filling (HoldsMany plan ps list qs out) ((counts.proved).many_one plan ps list qs out);
+  held_one = λ i plan p s n. same-told told_count (HeldIs i plan p s n) ((theory.proved).held_one i plan p s n);
+  least_one = λ i plan p u. same-told told_count (LeastIs i plan p u) ((theory.proved).least_one i plan p u);
+  curve_one = λ i plan p n list. same_left told_count (DrawsCurve i plan p n list) ((curve.proved).curve_one i plan p n list);
+  check_one = λ i g plan ps. same-told told_done (Checks (given i g) plan ps) ((checker.proved).check_one (given i g) plan ps);
+  build_one = λ g ps out. same_left told_count (Builds (granules g) ps out) ((builder.proved).build_one (granules g) ps out);
+  fill_one = λ plan ps list. same_left told_count (FillsCounts plan ps list) ((counts.proved).fill_one plan ps list);
+  counts_held_one = λ plan ps list p s n. same-told told_count (HoldsOne plan ps list p s n) ((counts.proved).held_one plan ps list p s n);
+  many_one = λ plan ps list qs out. same_left told_count (HoldsMany plan ps list qs out) ((counts.proved).many_one plan ps list qs out);
   change_one = counting.change_one;
   verdict_one = λ i g plan ps ts place. same-told told_judged (Judges (given i g) plan ps ts place) ((verdict.proved).verdict_one (given i g) plan ps ts place);
   plain_one = λ i g plan ps ts place. same-told told_judged (JudgesPlainly (given i g) plan ps ts place) ((verdict.proved).plain_one (given i g) plan ps ts place);
   page_one = λ i g plan ps ts place list. same_left told_page (Pages (given i g) plan ps ts place list) ((page.proved).page_one (given i g) plan ps ts place list);
   read_one = λ b. same-told told_reading (Reads b) ((reader.proved).one_read b);
   section_one = λ b which. same-told (told_part which) (Reads b) ((reader.proved).one_read b);
-  write_one = λ i f ps ts rs out. same_left told_filling (Writes i f ps ts rs out) ((writer.proved).one_write i f ps ts rs out);
-  list_one = λ b out. same_left told_filling (Lists b out) ((listing.proved).listing_one b out);
+  write_one = λ i f ps ts rs out. same_left told_count (Writes i f ps ts rs out) ((writer.proved).one_write i f ps ts rs out);
+  list_one = λ b out. same_left told_count (Lists b out) ((listing.proved).listing_one b out);
   open_one = λ k k₁ k₂ l l₁ l₂ t t'. desk-one (open_of k.clock k.count l) k₁ k₂ l₁ l₂ t t';
   request_one = λ k k₁ k₂ l l₁ l₂ time c d t t'. desk-one (request_of k.clock k.count l time c d) k₁ k₂ l₁ l₂ t t';
 }
 
 -- a curve that is drawn is of a known edition
-drawn : (i n room m : ℕ) → curve_of i n room ≡ filling.Fills m → good_edition i ≡ true
+drawn : (i n room m : ℕ) → curve_of i n room ≡ Ok m → good_edition i ≡ true
 unfolding curve_of
-drawn i n room m e = (pick_first (good_edition i) _ _ (filling.Fills m) (no_filling m Edition) e).0
+drawn i n room m e = (pick_first (good_edition i) _ _ (Ok m) (no_filling m Edition) e).0
 
 second : Demand2
 second = record {
@@ -568,10 +563,10 @@ second = record {
   read_write = (writer.proved).read_write;
   write_read = (writer.proved).write_read;
   curve_least = λ i plan p n list o t (r, c, e) z u l.
-      let h : r ≡ filling.Fills t.first = rw e (filling_fills r (rw e at z)) in
+      let h : r ≡ Ok t.first = rw e (filling_fills r (rw e at z)) in
       let w = ((curve.proved).curve_leaves i plan p n t.first list o (subst (DrawsCurve i plan p n list o) h c)).2 u l in
       let g = drawn i n (length list) t.first (sym c.0 ∙ h) in
-      (holding.Holds (least (rule_of i) plan p u), rw g, rw w);
+      (Ok (least (rule_of i) plan p u), rw g, rw w);
   counts_walked = counting.walked;
   counts_follow = counting.follow;
   engines_alike = judging.engines_alike;
@@ -601,7 +596,7 @@ third = record {
   runs_exist = (theory.proved).legal_exists;
   runs_unique = (theory.proved).legal_one;
   built_serves = λ g ps out o t u (r, b, e) n q.
-      let h : r ≡ filling.Fills t.first = rw e (filling_fills r (rw e at n)) in
+      let h : r ≡ Ok t.first = rw e (filling_fills r (rw e at n)) in
       rw (judging.check_is 1 g (take t.first o) ps u q, builder.built_serves (granules g) ps out o t.first (subst (Builds (granules g) ps out o) h b));
   want_exactly = λ g ps out o t p. rw (build_is g ps out o t p) (builder.want_exactly (granules g) ps (length out));
   want_none = λ g ps out o t p e. builder.want_none (granules g) ps (length out) (rw (build_is g ps out o t p) at e);

@@ -13,8 +13,7 @@ use Rattle.rules.specs.Table.{cycle, num, den}
 use Rattle.rules.specs.Terms.{good_edition, good_granule, given, usual, wanted}
 use Rattle.rules.specs.Refusals.{told}
 use Rattle.rules.specs.declared.Terms.{Terms}
-use Rattle.rules.specs.declared.Filling.{Filling}
-use Rattle.rules.specs.declared.Filling.TheVariants as filling
+use Rattle.std.specs.Prelude.{Result, Ok, Err}
 use Rattle.rules.specs.declared.Refusal.{Refusal}
 use Rattle.rules.specs.declared.Refusal.TheVariants.{Edition, Limits, Granule, Partition, Task}
 use Rattle.rules.proofs.Tests.{good-edition, good-granule}
@@ -134,9 +133,9 @@ written_whole : (ps ts : List ℕ) (room : ℕ) → write_built_of usual ps ts r
 unfolding write_built_of
 written_whole ps ts room = at (build_of usual ps longest) refl
   where
-    at : (b : Filling) → build_of usual ps longest ≡ b → written_by b usual ps ts room ≡ written01 b ps ts room
-    at (filling.Fills h) e = rw (built_accepted usual ps h e)
-    at (filling.Refused r) e = refl
+    at : (b : Result ℕ Refusal) → build_of usual ps longest ≡ b → written_by b usual ps ts room ≡ written01 b ps ts room
+    at (Ok h) e = rw (built_accepted usual ps h e)
+    at (Err r) e = refl
 
 pub granule_one : GranuleOne
 unfolding check_of build_of answerable_of verdict_by records_of write_plan_of plan_file part_line

@@ -13,7 +13,7 @@ use Rattle.rules.specs.Table.{partitions, deadline}
 use Rattle.rules.specs.Refusals.{told}
 use Rattle.rules.specs.declared.Refusal.{Refusal}
 use Rattle.rules.proofs.Tests.{pick_first}
-use Rattle.rules.specs.declared.Finding.TheVariants as found
+use Rattle.std.specs.Prelude.{Ok, Err}
 use Rattle.theory.specs.Task.{task_load, task_point, task_tick}
 use Rattle.theory.specs.Inner.{least_for}
 use Rattle.theory.proofs.Points.{tick_at_most_point}
@@ -37,7 +37,7 @@ use Rattle.file_listing.specs.Theorems.{plan_in, LineOfBoth, ListingFirst, Prove
 use Rattle.file_runs.proofs.Loaded.{fit}
 use Rattle.file_listing.proofs.Tables.{scanned}
 
-listed_verdict : (b : List ℕ) (ed frame np nt nr : ℕ) → read_of b ≡ Contents ed frame np nt nr → (j : ℕ) → check_of (filed ed) (plan_in b) (table_of b Partitions) ≡ found.Good → j < nt
+listed_verdict : (b : List ℕ) (ed frame np nt nr : ℕ) → read_of b ≡ Contents ed frame np nt nr → (j : ℕ) → check_of (filed ed) (plan_in b) (table_of b Partitions) ≡ (Ok tt) → j < nt
     → Answered (filed ed) (plan_in b) (table_of b Partitions) (table_of b Tasks) (j + 1)
 listed_verdict b ed frame np nt nr e j c h = let f = fit b ed frame np nt nr e in record {
   accepted = c;
@@ -71,10 +71,10 @@ module _ (ed : ℕ) (plan ps ts : List ℕ) (j : ℕ) (a : Answered (filed ed) p
           inr (f, ((verdicts.proved).by_ticks.fail_exactly (filed ed) plan ps ts (j + 1)).1 (((verdicts.proved).by_points.fail_exactly (filed ed) plan ps ts (j + 1)).0 f), rw e)
 
 -- the scan's only refusal
-scan_nine : (rule : Rule) (q : ℕ → ℕ) (plan ps : List ℕ) (r : Refusal) → scan_of rule q plan ps ≡ found.Refused r → (told r).number ≡ 9
+scan_nine : (rule : Rule) (q : ℕ → ℕ) (plan ps : List ℕ) (r : Refusal) → scan_of rule q plan ps ≡ Err r → (told r).number ≡ 9
 unfolding scan_of
 scan_nine rule q plan ps r e =
-    let a = pick_first (ltb (short_part rule q plan ps) (partitions ps)) (found.Refused (shortfall rule q plan ps (short_part rule q plan ps) (short_start rule q plan ps (short_part rule q plan ps)))) found.Good (found.Refused r) (λ e. let z : ◌≡◌ {A = ℕ} 0 1 = cc in absurd (omega arith)) e in
+    let a = pick_first (ltb (short_part rule q plan ps) (partitions ps)) (Err (shortfall rule q plan ps (short_part rule q plan ps) (short_start rule q plan ps (short_part rule q plan ps)))) (Ok tt) (Err r) (λ e. let z : ◌≡◌ {A = ℕ} 0 1 = cc in absurd (omega arith)) e in
     let s : shortfall rule q plan ps (short_part rule q plan ps) (short_start rule q plan ps (short_part rule q plan ps)) ≡ r = cc a.1 in
     ap (λ (x : Refusal). (told x).number) (sym s)
 

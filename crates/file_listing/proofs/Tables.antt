@@ -10,7 +10,7 @@ use Rattle.rules.specs.Table.{partitions, good_tick}
 use Rattle.tables.specs.Tables.{GoodTables}
 use Rattle.rules.specs.declared.Refusal.TheVariants.{Tick, Output}
 use Rattle.tables.proofs.Chain.{good-lowest, without_tasks, unless_good_lem}
-use Rattle.rules.specs.declared.Finding.TheVariants as found
+use Rattle.std.specs.Prelude.{Ok, Err}
 use Rattle.rules.specs.Terms.{filed, rule_of, wanted}
 use Rattle.plan_check.specs.Check.{scan_of, plan_check_of, check_of}
 use Rattle.file_read.specs.declared.Reading.{Reading}
@@ -21,7 +21,6 @@ use Rattle.output.specs.Put.{Put}
 use Rattle.output.proofs.Put.{put_front, put_taken}
 use Rattle.file_runs.specs.Ticks.{ticks_of}
 use Rattle.file_runs.proofs.Loaded.{fit, sized, framed}
-use Rattle.rules.specs.declared.Filling.TheVariants.{Fills, Refused}
 use Rattle.file_listing.specs.Listing.{tables_lines, read_lines, listing_of, list_of, listed_left}
 use Rattle.file_listing.specs.Inner.{Listable}
 
@@ -37,7 +36,7 @@ module _ (b : List ℕ) (ed frame np nt nr : ℕ) (e : read_of b ≡ Contents ed
       let ps : List ℕ = table_of b Partitions in
       let g : GoodTables (filed ed) (length plan) ps [] = rw f.ticks (without_tasks frame ps (table_of b Tasks) f.good) in
       let t : Every (good_tick (partitions ps) plan) (length plan) = rw (f.parts, f.ticks) f.owned in
-      unless_good_lem (filed ed) (length plan) ps [] found.Refused (plan_check_of (rule_of ed) (wanted (filed ed) ps) plan ps) g ∙ rw (good-lowest Tick (good_tick (partitions ps) plan) (length plan) t)
+      unless_good_lem (filed ed) (length plan) ps [] Err (plan_check_of (rule_of ed) (wanted (filed ed) ps) plan ps) g ∙ rw (good-lowest Tick (good_tick (partitions ps) plan) (length plan) t)
 
   pub listable : Listable ed frame (table_of b Partitions) (table_of b Tasks) (table_of b Runs)
   listable =
@@ -59,11 +58,11 @@ module _ (b page0 page out : List ℕ) (n : ℕ) (p : Put page0 0 (listing_of b)
   long : length (listing_of b) ≡ n
   long = omega (arith, p.place)
 
-  pub listed-short : length out < n → (Refused Output ≡ list_of b (length out)) × (out ≡ listed_left b out)
+  pub listed-short : length out < n → (Err Output ≡ list_of b (length out)) × (out ≡ listed_left b out)
   unfolding list_of
   listed-short h = rw (long, lt-ltb (length out) n h) (refl, refl)
 
-  pub listed_text : n ≤ length page0 → n ≤ length out → (o : List ℕ) (r : ℕ) → Put out 0 (take n page) r o → (Fills n ≡ list_of b (length out)) × (o ≡ listed_left b out)
+  pub listed_text : n ≤ length page0 → n ≤ length out → (o : List ℕ) (r : ℕ) → Put out 0 (take n page) r o → (Ok n ≡ list_of b (length out)) × (o ≡ listed_left b out)
   unfolding list_of
   listed_text hp ho o r q =
       let w : Put out 0 (listing_of b) r o = rw (put_taken p hp).1 at q in

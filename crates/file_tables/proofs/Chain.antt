@@ -14,8 +14,7 @@ use Rattle.rules.specs.Terms.{good_edition, filed}
 use Rattle.tables.specs.Tables.{edition_judged, in_edition, unless, GoodTables}
 use Rattle.rules.specs.declared.Refusal.{Refusal}
 use Rattle.rules.specs.declared.Refusal.TheVariants.{Edition, Limits, Partition, Task, Tick}
-use Rattle.rules.specs.declared.Finding.{Finding}
-use Rattle.rules.specs.declared.Finding.TheVariants.{Good, Refused}
+use Rattle.std.specs.Prelude.{Result, Ok, Err}
 use Rattle.rules.proofs.Sum.{sum_more}
 use Rattle.rules.proofs.Tests.{pick_first, good-edition}
 use Rattle.tables.proofs.Chain.{not_good, both_good, lowest-good, good-lowest, counted-parts, within, tables_on, good_exactly, unless_holds, usual-not_21}
@@ -69,11 +68,11 @@ run_good parts frame rs k r e h = rw (← e) h
 -- ---- 8
 
 module _ (parts frame : ℕ) (rs : List ℕ) (r : ℕ) (er : r ≡ first_bad_run parts frame rs) where
-  pub runs_8 : r < runs rs → Refused (Tick (r + 1)) ≡ runs_judged parts frame rs
+  pub runs_8 : r < runs rs → Err (Tick (r + 1)) ≡ runs_judged parts frame rs
   unfolding runs_judged
   runs_8 h = rw (← er, lt-ltb r (runs rs) h)
 
-  pub runs_good : runs rs ≤ r → Good ≡ runs_judged parts frame rs
+  pub runs_good : runs rs ≤ r → (Ok tt) ≡ runs_judged parts frame rs
   unfolding runs_judged
   runs_good h = rw (← er, le-ltb r (runs rs) h)
 
@@ -84,21 +83,21 @@ pub counted-runs : (r : ℕ) → runs_counted r ≡ true → (r ≡ run_width * 
 counted-runs r e = let a = counted-parts 1 longest run_width r e in (omega (arith, a.0), a.1, a.2)
 
 module _ (ed frame : ℕ) (ps ts rs : List ℕ) where
-  pub file_2 : good_edition ed ≡ false → Refused Edition ≡ file_tables_of ed frame ps ts rs
+  pub file_2 : good_edition ed ≡ false → Err Edition ≡ file_tables_of ed frame ps ts rs
   unfolding file_tables_of
   file_2 d = rw d
 
   module _ (d : good_edition ed ≡ true) where
-    pub file_3 : runs_counted (length rs) ≡ false → Refused Limits ≡ file_tables_of ed frame ps ts rs
+    pub file_3 : runs_counted (length rs) ≡ false → Err Limits ≡ file_tables_of ed frame ps ts rs
     unfolding file_tables_of
     file_3 e = rw (d, e)
 
     module _ (c : runs_counted (length rs) ≡ true) where
-      pub file-tables : (r : Refusal) → in_edition (filed ed) frame ps ts ≡ Refused r → Refused r ≡ file_tables_of ed frame ps ts rs
+      pub file-tables : (r : Refusal) → in_edition (filed ed) frame ps ts ≡ Err r → Err r ≡ file_tables_of ed frame ps ts rs
       unfolding file_tables_of
       file-tables r e = rw (d, c, e)
 
-      pub file-runs : in_edition (filed ed) frame ps ts ≡ Good → (t : Finding) → t ≡ runs_judged (partitions ps) frame rs → t ≡ file_tables_of ed frame ps ts rs
+      pub file-runs : in_edition (filed ed) frame ps ts ≡ (Ok tt) → (t : Result (Unit {0}) Refusal) → t ≡ runs_judged (partitions ps) frame rs → t ≡ file_tables_of ed frame ps ts rs
       unfolding file_tables_of
       file-runs e t h = rw (d, c, e) h
 
@@ -109,12 +108,12 @@ pub record GoodFile (ed frame : ℕ) (ps ts rs : List ℕ) : Type 0 where
   pub runs : Every (good_run (partitions ps) frame rs) (runs rs)
 
 module _ (ed frame : ℕ) (ps ts rs : List ℕ) where
-  pub good_of : file_tables_of ed frame ps ts rs ≡ Good → GoodFile ed frame ps ts rs
+  pub good_of : file_tables_of ed frame ps ts rs ≡ (Ok tt) → GoodFile ed frame ps ts rs
   unfolding file_tables_of runs_judged
   good_of e =
       let i = both_good (edition_judged ed) _ e in
-      let d = pick_first (good_edition ed) Good (Refused Edition) Good (not_good Edition) i.0 in
-      let a = pick_first (runs_counted (length rs)) _ _ Good (not_good Limits) i.1 in
+      let d = pick_first (good_edition ed) (Ok tt) (Err Edition) (Ok tt) (not_good Edition) i.0 in
+      let a = pick_first (runs_counted (length rs)) _ _ (Ok tt) (not_good Limits) i.1 in
       let b = both_good (in_edition (filed ed) frame ps ts) (runs_judged (partitions ps) frame rs) a.1 in
       record {
         tables = (good_exactly (filed ed) frame ps ts).0 (sym (tables_on (filed ed) frame ps ts d.0) ∙ b.0);
@@ -122,7 +121,7 @@ module _ (ed frame : ℕ) (ps ts rs : List ℕ) where
         runs = lowest-good Tick (good_run (partitions ps) frame rs) (runs rs) b.1;
       }
 
-  pub of_good : GoodFile ed frame ps ts rs → file_tables_of ed frame ps ts rs ≡ Good
+  pub of_good : GoodFile ed frame ps ts rs → file_tables_of ed frame ps ts rs ≡ (Ok tt)
   unfolding file_tables_of runs_judged
   of_good g =
       rw (g.tables.edition, g.counted, tables_on (filed ed) frame ps ts g.tables.edition ∙ (good_exactly (filed ed) frame ps ts).1 g.tables)
@@ -133,9 +132,9 @@ module _ (ed frame : ℕ) (ps ts rs : List ℕ) where
       → unless refused (file_tables_of ed frame ps ts rs) next ≡ z → GoodFile ed frame ps ts rs × (next ≡ z)
   follows refused next z g e = go (file_tables_of ed frame ps ts rs) refl e
     where
-      go : (t : Finding) → file_tables_of ed frame ps ts rs ≡ t → unless refused t next ≡ z → GoodFile ed frame ps ts rs × (next ≡ z)
-      go Good h e = (good_of h, e)
-      go (Refused r) h e = absurd (g r e)
+      go : (t : Result (Unit {0}) Refusal) → file_tables_of ed frame ps ts rs ≡ t → unless refused t next ≡ z → GoodFile ed frame ps ts rs × (next ≡ z)
+      go (Ok _) h e = (good_of h, e)
+      go (Err r) h e = absurd (g r e)
 
   -- what holds of the answers to 2 where the edition is bad, to 3, to any 6, 7 and 8 and of what follows holds of the answer
   pub file_holds : {A : Type 0} (P : A → Type 0) (refused : Refusal → A) (next : A)
@@ -145,16 +144,16 @@ module _ (ed frame : ℕ) (ps ts rs : List ℕ) where
   unfolding file_tables_of runs_judged
   file_holds P refused next two three six seven eight h = judged (good_edition ed) refl
     where
-      last : (b : Bool) (r : ℕ) → P (unless refused (pick b (Refused (Tick r)) Good) next)
+      last : (b : Bool) (r : ℕ) → P (unless refused (pick b (Err (Tick r)) (Ok tt)) next)
       last true r = eight r
       last false r = h
 
-      counted : (b : Bool) → good_edition ed ≡ true → P (unless refused (pick b (unless Refused (in_edition (filed ed) frame ps ts) (runs_judged (partitions ps) frame rs)) (Refused Limits)) next)
+      counted : (b : Bool) → good_edition ed ≡ true → P (unless refused (pick b (unless Err (in_edition (filed ed) frame ps ts) (runs_judged (partitions ps) frame rs)) (Err Limits)) next)
       counted false d = three
       counted true d = rw (tables_on (filed ed) frame ps ts d)
-          (unless_holds (filed ed) frame ps ts (λ (t : Finding). P (unless refused t next)) Refused (runs_judged (partitions ps) frame rs) two three usual-not_21 six seven (last (ltb (first_bad_run (partitions ps) frame rs) (runs rs)) (first_bad_run (partitions ps) frame rs + 1)))
+          (unless_holds (filed ed) frame ps ts (λ (t : Result (Unit {0}) Refusal). P (unless refused t next)) Err (runs_judged (partitions ps) frame rs) two three usual-not_21 six seven (last (ltb (first_bad_run (partitions ps) frame rs) (runs rs)) (first_bad_run (partitions ps) frame rs + 1)))
 
-      judged : (b : Bool) → good_edition ed ≡ b → P (unless refused (unless Refused (pick b Good (Refused Edition)) (pick (runs_counted (length rs)) (unless Refused (in_edition (filed ed) frame ps ts) (runs_judged (partitions ps) frame rs)) (Refused Limits))) next)
+      judged : (b : Bool) → good_edition ed ≡ b → P (unless refused (unless Err (pick b (Ok tt) (Err Edition)) (pick (runs_counted (length rs)) (unless Err (in_edition (filed ed) frame ps ts) (runs_judged (partitions ps) frame rs)) (Err Limits))) next)
       judged false d = two d
       judged true d = counted (runs_counted (length rs)) d
 

@@ -1,13 +1,12 @@
 -- Runs, and what tells against the three tables of a file. Places count from 0 here, and from 1 in a refusal. Assumes nothing.
-use Rattle.std.specs.Prelude.{ℕ, ◌+◌, ◌-◌, ◌/◌, List, Bool, ◌&&◌, ◌||◌, not, length, ltb, leb, eqb}
+use Rattle.std.specs.Prelude.{ℕ, ◌+◌, ◌-◌, ◌/◌, List, Bool, ◌&&◌, ◌||◌, not, length, ltb, leb, eqb, Result, Err}
 use Rattle.rules.specs.Limits.{longest, run_width}
 use Rattle.rules.specs.Walk.{pick, sum}
 use Rattle.rules.specs.Table.{field_at, partitions}
 use Rattle.rules.specs.Terms.{filed}
 use Rattle.tables.specs.Tables.{counted_in, lowest, unless, edition_judged, in_edition}
 use Rattle.rules.specs.declared.Refusal.TheVariants.{Limits, Tick}
-use Rattle.rules.specs.declared.Finding.{Finding}
-use Rattle.rules.specs.declared.Finding.TheVariants.{Refused}
+use Rattle.rules.specs.declared.Refusal.{Refusal}
 
 -- "Run: owner, length."
 unfoldable pub run_owner : List ℕ → ℕ → ℕ
@@ -35,11 +34,11 @@ good_run parts frame rs k =
     && leb (reached rs k) frame && (ltb (k + 1) (runs rs) || leb frame (reached rs k))
 
 -- 8
-unfoldable pub runs_judged : ℕ → ℕ → List ℕ → Finding
+unfoldable pub runs_judged : ℕ → ℕ → List ℕ → Result (Unit {0}) Refusal
 runs_judged parts frame rs = lowest Tick (good_run parts frame rs) (runs rs)
 
 -- "2 now means neither 1 nor 2", first of all; then 3, with "runs 1 to 4,096", 6, 7 and 8 of a frame and three tables
-unfoldable pub file_tables_of : ℕ → ℕ → List ℕ → List ℕ → List ℕ → Finding
+unfoldable pub file_tables_of : ℕ → ℕ → List ℕ → List ℕ → List ℕ → Result (Unit {0}) Refusal
 file_tables_of e frame ps ts rs =
-    unless Refused (edition_judged e)
-    (pick (counted_in 1 longest run_width (length rs)) (unless Refused (in_edition (filed e) frame ps ts) (runs_judged (partitions ps) frame rs)) (Refused Limits))
+    unless Err (edition_judged e)
+    (pick (counted_in 1 longest run_width (length rs)) (unless Err (in_edition (filed e) frame ps ts) (runs_judged (partitions ps) frame rs)) (Err Limits))

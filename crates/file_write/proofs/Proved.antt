@@ -3,8 +3,8 @@ use Prim.Native.Nat.{ℕ, ◌≤◌}
 use mathlib.Core.Path.{◌≡◌, refl, sym, ◌∙◌}
 use native.Mathlib.Omega.{arith}
 use lib.ListN.{length, length-append, length-drop}
-use Rattle.rules.specs.declared.Filling.{Filling}
-use Rattle.rules.specs.declared.Filling.TheVariants as filling
+use Rattle.std.specs.Prelude.{Result, Ok, Err}
+use Rattle.rules.specs.declared.Refusal.{Refusal}
 use Rattle.rules.specs.Filling.{left_by}
 use Rattle.file_write.specs.Writer.{file_of, write_of}
 use Rattle.file_write.specs.Theorems.{Untouched, Proved}
@@ -18,12 +18,12 @@ untouched ed frame ps ts rs out = (
   same (write_of ed frame ps ts rs (length out)) refl,
 )
   where
-    room : (n : ℕ) → write_of ed frame ps ts rs (length out) ≡ filling.Fills n → n ≤ length out
+    room : (n : ℕ) → write_of ed frame ps ts rs (length out) ≡ Ok n → n ≤ length out
     room n e = let f = fit n ed frame ps ts rs (length out) e in omega (arith, f.room_left, f.is_size)
 
-    same : (w : Filling) → write_of ed frame ps ts rs (length out) ≡ w → length (left_by w (file_of ed frame ps ts rs) out) ≡ length out
-    same (filling.Refused x) e = refl
-    same (filling.Fills n) e =
+    same : (w : Result ℕ Refusal) → write_of ed frame ps ts rs (length out) ≡ w → length (left_by w (file_of ed frame ps ts rs) out) ≡ length out
+    same (Err x) e = refl
+    same (Ok n) e =
         let f = fit n ed frame ps ts rs (length out) e in
         simp (length-append, length-drop) (omega (arith, file-length ed frame ps ts rs, f.room_left, f.is_size))
 

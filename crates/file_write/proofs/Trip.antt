@@ -17,7 +17,7 @@ use Rattle.file_read.specs.declared.Body.TheVariants.{Partitions, Tasks, Runs}
 use Rattle.file_read.specs.Reader.{head_number, table_by, contents_of, read_of, table_of}
 use Rattle.file_read.proofs.Reader.{counts-good, counts_of_lem, read-counts, right, Contained, contained, accepted, part_length, parts_are, tasks_are, runs_are, read-good}
 use Rattle.file_read.proofs.Proved.{parts_all}
-use Rattle.rules.specs.declared.Filling.TheVariants as filling
+use Rattle.std.specs.Prelude.{Ok}
 use Rattle.file_write.specs.Writer.{file_of, size_for, write_of, written_left}
 use Rattle.file_write.proofs.Writer.{fit, write-all}
 
@@ -109,13 +109,13 @@ module _ (ed frame : ℕ) (ps ts rs : List ℕ) where
     )
 
 -- the file that the writer left
-pub left-file : (ed frame : ℕ) (ps ts rs out : List ℕ) (n : ℕ) → write_of ed frame ps ts rs (length out) ≡ filling.Fills n → take n (written_left ed frame ps ts rs out) ≡ file_of ed frame ps ts rs
+pub left-file : (ed frame : ℕ) (ps ts rs out : List ℕ) (n : ℕ) → write_of ed frame ps ts rs (length out) ≡ Ok n → take n (written_left ed frame ps ts rs out) ≡ file_of ed frame ps ts rs
 left-file ed frame ps ts rs out n e = rw e (take_at (file_of ed frame ps ts rs) (drop n out) n (file-length ed frame ps ts rs ∙ sym (fit n ed frame ps ts rs (length out) e).is_size))
 
-pub left-rest : (ed frame : ℕ) (ps ts rs out : List ℕ) (n : ℕ) → write_of ed frame ps ts rs (length out) ≡ filling.Fills n → drop n (written_left ed frame ps ts rs out) ≡ drop n out
+pub left-rest : (ed frame : ℕ) (ps ts rs out : List ℕ) (n : ℕ) → write_of ed frame ps ts rs (length out) ≡ Ok n → drop n (written_left ed frame ps ts rs out) ≡ drop n out
 left-rest ed frame ps ts rs out n e = rw e (drop_at (file_of ed frame ps ts rs) (drop n out) n (file-length ed frame ps ts rs ∙ sym (fit n ed frame ps ts rs (length out) e).is_size))
 
-pub read_written : (ed frame : ℕ) (ps ts rs out : List ℕ) (n : ℕ) → write_of ed frame ps ts rs (length out) ≡ filling.Fills n
+pub read_written : (ed frame : ℕ) (ps ts rs out : List ℕ) (n : ℕ) → write_of ed frame ps ts rs (length out) ≡ Ok n
     → (read_of (take n (written_left ed frame ps ts rs out)) ≡ Contents ed frame (partitions ps) (tasks ts) (runs rs))
     × (table_of (take n (written_left ed frame ps ts rs out)) Partitions ≡ ps)
     × (table_of (take n (written_left ed frame ps ts rs out)) Tasks ≡ ts)
@@ -206,7 +206,7 @@ module _ (b : List ℕ) (ed f np nt nr : ℕ) (e : read_of b ≡ Contents ed f n
       let er = part-back b (runs_at (3 * np) (4 * nt)) (2 * nr) (size_of (3 * np) (4 * nt) (2 * nr)) (omega arith) (omega arith) small in
       rw (lp, lt, lr, ← head_numbers b ed f np nt nr a, eh, ep, et, er) (parts_all b (3 * np) (4 * nt) (2 * nr) l)
 
-  written_back : (room : ℕ) → length b ≤ room → write_of ed f ps ts rs room ≡ filling.Fills (length b)
+  written_back : (room : ℕ) → length b ≤ room → write_of ed f ps ts rs room ≡ Ok (length b)
   unfolding ps ts rs
   written_back room l =
       let n = a.long in
@@ -214,9 +214,9 @@ module _ (b : List ℕ) (ed f np nt nr : ℕ) (e : read_of b ≡ Contents ed f n
       sym (write-all ed f ps ts rs room (of_good ed f ps ts rs (accepted b ed f np nt nr e).good) (length b) z l)
 
 pub write-back : (b : List ℕ) (ed f np nt nr : ℕ) (out : List ℕ) → Bytes b → read_of b ≡ Contents ed f np nt nr → length b ≤ length out
-    → (write_of ed f (table_of b Partitions) (table_of b Tasks) (table_of b Runs) (length out) ≡ filling.Fills (length b))
+    → (write_of ed f (table_of b Partitions) (table_of b Tasks) (table_of b Runs) (length out) ≡ Ok (length b))
     × (written_left ed f (table_of b Partitions) (table_of b Tasks) (table_of b Runs) out ≡ b ++ drop (length b) out)
 unfolding ps ts rs
 write-back b ed f np nt nr out small e l =
-    let w : write_of ed f (table_of b Partitions) (table_of b Tasks) (table_of b Runs) (length out) ≡ filling.Fills (length b) = rw e (written_back b ed f np nt nr e (length out) l) in
+    let w : write_of ed f (table_of b Partitions) (table_of b Tasks) (table_of b Runs) (length out) ≡ Ok (length b) = rw e (written_back b ed f np nt nr e (length out) l) in
     (w, rw (w, e, whole-file b ed f np nt nr e small))

@@ -11,8 +11,7 @@ use Rattle.rules.specs.Walk.{pick}
 use Rattle.tables.specs.Tables.{unless}
 use Rattle.rules.specs.declared.Refusal.{Refusal}
 use Rattle.rules.specs.declared.Refusal.TheVariants.{Output}
-use Rattle.rules.specs.declared.Finding.{Finding}
-use Rattle.rules.specs.declared.Finding.TheVariants as found
+use Rattle.std.specs.Prelude.{Result, Ok, Err}
 use Rattle.rules.proofs.Tests.{pick_second}
 use Rattle.rules.proofs.Answers.{no_filling}
 use Rattle.file_codec.specs.Bytes.{bytes_of}
@@ -20,7 +19,6 @@ use Rattle.file_tables.specs.Runs.{file_tables_of}
 use Rattle.file_codec.specs.Contents.{tasks_at, runs_at, contents}
 use Rattle.file_codec.proofs.Bytes.{bytes_of-length, next}
 use Rattle.file_tables.proofs.Chain.{GoodFile, good_of, follows, sizes}
-use Rattle.rules.specs.declared.Filling.TheVariants.{Fills, Refused}
 use Rattle.file_write.specs.Writer.{file_of, size_for, write_of, written_left}
 use Rattle.file_write.specs.Inner.{Small}
 
@@ -28,7 +26,7 @@ module _ (ed frame : ℕ) (ps ts rs : List ℕ) where
   pub small : GoodFile ed frame ps ts rs → Small ed frame (length ps) (length ts) (length rs)
   small g = let s = sizes ed frame ps ts rs g in (s.edition_high, s.frame_high, omega (arith, s.parts_whole, s.parts_high), omega (arith, s.tasks_whole, s.tasks_high), omega (arith, s.runs_whole, s.runs_high))
 
-  pub good-small : file_tables_of ed frame ps ts rs ≡ found.Good → Small ed frame (length ps) (length ts) (length rs)
+  pub good-small : file_tables_of ed frame ps ts rs ≡ (Ok tt) → Small ed frame (length ps) (length ts) (length rs)
   good-small e = small (good_of ed frame ps ts rs e)
 
   -- an output of the longest file's bytes is long enough for any
@@ -39,22 +37,22 @@ module _ (ed frame : ℕ) (ps ts rs : List ℕ) where
       size : ℕ
       size = size_for ps ts rs
 
-      step : (t : Finding) → file_tables_of ed frame ps ts rs ≡ t
-          → unless Refused t (pick (ltb room size) (Refused Output) (Fills size)) ≡ unless Refused t (pick (ltb longest_file size) (Refused Output) (Fills size))
-      step (found.Refused r) e = refl
-      step found.Good e = let s = good-small e in rw (le-ltb room size (omega arith), le-ltb longest_file size (omega arith))
+      step : (t : Result (Unit {0}) Refusal) → file_tables_of ed frame ps ts rs ≡ t
+          → unless Err t (pick (ltb room size) (Err Output) (Ok size)) ≡ unless Err t (pick (ltb longest_file size) (Err Output) (Ok size))
+      step (Err r) e = refl
+      step (Ok _) e = let s = good-small e in rw (le-ltb room size (omega arith), le-ltb longest_file size (omega arith))
 
   module _ (room : ℕ) where
-    pub write-tables : (r : Refusal) → file_tables_of ed frame ps ts rs ≡ found.Refused r → Refused r ≡ write_of ed frame ps ts rs room
+    pub write-tables : (r : Refusal) → file_tables_of ed frame ps ts rs ≡ Err r → Err r ≡ write_of ed frame ps ts rs room
     unfolding write_of
     write-tables r e = rw e
 
-    module _ (g : file_tables_of ed frame ps ts rs ≡ found.Good) (size : ℕ) (e : size ≡ size_for ps ts rs) where
-      pub write_12 : room < size → Refused Output ≡ write_of ed frame ps ts rs room
+    module _ (g : file_tables_of ed frame ps ts rs ≡ (Ok tt)) (size : ℕ) (e : size ≡ size_for ps ts rs) where
+      pub write_12 : room < size → Err Output ≡ write_of ed frame ps ts rs room
       unfolding write_of
       write_12 h = rw (g, ← e, lt-ltb room size h)
 
-      pub write-all : size ≤ room → Fills size ≡ write_of ed frame ps ts rs room
+      pub write-all : size ≤ room → Ok size ≡ write_of ed frame ps ts rs room
       unfolding write_of
       write-all h = rw (g, ← e, le-ltb room size h)
 
@@ -84,23 +82,23 @@ pub record Fit (ed frame : ℕ) (ps ts rs : List ℕ) (room n : ℕ) : Type 0 wh
   pub room_left : size_for ps ts rs ≤ room
   pub is_size : n ≡ size_for ps ts rs
 
-pub fit : (n ed frame : ℕ) (ps ts rs : List ℕ) (room : ℕ) → write_of ed frame ps ts rs room ≡ Fills n → Fit ed frame ps ts rs room n
+pub fit : (n ed frame : ℕ) (ps ts rs : List ℕ) (room : ℕ) → write_of ed frame ps ts rs room ≡ Ok n → Fit ed frame ps ts rs room n
 unfolding write_of
 fit n ed frame ps ts rs room e =
-    let a = follows ed frame ps ts rs Refused (pick (ltb room (size_for ps ts rs)) (Refused Output) (Fills (size_for ps ts rs))) (Fills n) (no_filling n) e in
-    let b = pick_second (ltb room (size_for ps ts rs)) (Refused Output) (Fills (size_for ps ts rs)) (Fills n) (no_filling n Output) a.1 in
-    let q : Fills (size_for ps ts rs) ≡ Fills n = b.1 in
+    let a = follows ed frame ps ts rs Err (pick (ltb room (size_for ps ts rs)) (Err Output) (Ok (size_for ps ts rs))) (Ok n) (no_filling n) e in
+    let b = pick_second (ltb room (size_for ps ts rs)) (Err Output) (Ok (size_for ps ts rs)) (Ok n) (no_filling n Output) a.1 in
+    let q : Ok (size_for ps ts rs) ≡ Ok n = b.1 in
     record { good = a.0; room_left = ltb-false _ _ b.0; is_size = cc }
 
 -- what the writer leaves, from what it answers
 module _ (ed frame : ℕ) (ps ts rs out : List ℕ) where
-  pub left-none : (x : Refusal) → write_of ed frame ps ts rs (length out) ≡ Refused x → out ≡ written_left ed frame ps ts rs out
+  pub left-none : (x : Refusal) → write_of ed frame ps ts rs (length out) ≡ Err x → out ≡ written_left ed frame ps ts rs out
   left-none x e = rw e
 
-  pub left-all : (n : ℕ) → write_of ed frame ps ts rs (length out) ≡ Fills n → (o : List ℕ)
+  pub left-all : (n : ℕ) → write_of ed frame ps ts rs (length out) ≡ Ok n → (o : List ℕ)
       → o ≡ file_of ed frame ps ts rs ++ drop (size_for ps ts rs) out → o ≡ written_left ed frame ps ts rs out
   left-all n e o h = rw (e, (fit n ed frame ps ts rs (length out) e).is_size) h
 
   -- what the writing of a file asks
-  pub ready : (n : ℕ) → write_of ed frame ps ts rs (length out) ≡ Fills n → Small ed frame (length ps) (length ts) (length rs) × (size_for ps ts rs ≤ length out)
+  pub ready : (n : ℕ) → write_of ed frame ps ts rs (length out) ≡ Ok n → Small ed frame (length ps) (length ts) (length rs) × (size_for ps ts rs ≤ length out)
   ready n e = let f = fit n ed frame ps ts rs (length out) e in (small ed frame ps ts rs f.good, f.room_left)

@@ -1,6 +1,6 @@
 -- What is promised of the writer, and of reader and writer together. `read_of`, `write_of` and `written_left` are what the contracts say that the entries
 -- answer and leave. Each statement's proof is a field of `Proved`. Assumes nothing.
-use Rattle.std.specs.Prelude.{ℕ, ◌≤◌, ◌≡◌, List, ◌++◌, length, take, drop}
+use Rattle.std.specs.Prelude.{ℕ, ◌≤◌, ◌≡◌, List, ◌++◌, length, take, drop, Result, Ok, Err}
 use Rattle.rules.specs.Table.{partitions, tasks}
 use Rattle.rules.specs.declared.Refusal.{Refusal}
 use Rattle.file_codec.specs.Bytes.{Bytes}
@@ -8,14 +8,12 @@ use Rattle.file_tables.specs.Runs.{runs}
 use Rattle.file_read.specs.declared.Reading.TheVariants.{Contents}
 use Rattle.file_read.specs.declared.Body.TheVariants.{Partitions, Tasks, Runs}
 use Rattle.file_read.specs.Reader.{read_of, table_of}
-use Rattle.rules.specs.declared.Filling.{Filling}
-use Rattle.rules.specs.declared.Filling.TheVariants as filling
 use Rattle.file_write.specs.Writer.{write_of, written_left, Writes}
 
 -- "The writer puts each body into its own stretch of the lent output": reading what was written gives back edition, frame, counts and tables
 abbrev pub ReadWrite : Type 0
 ReadWrite =
-    (e frame : ℕ) (ps ts rs out : List ℕ) (n : ℕ) → write_of e frame ps ts rs (length out) ≡ filling.Fills n
+    (e frame : ℕ) (ps ts rs out : List ℕ) (n : ℕ) → write_of e frame ps ts rs (length out) ≡ Ok n
     → (read_of (take n (written_left e frame ps ts rs out)) ≡ Contents e frame (partitions ps) (tasks ts) (runs rs))
     × (table_of (take n (written_left e frame ps ts rs out)) Partitions ≡ ps)
     × (table_of (take n (written_left e frame ps ts rs out)) Tasks ≡ ts)
@@ -25,21 +23,21 @@ ReadWrite =
 abbrev pub WriteRead : Type 0
 WriteRead =
     (b : List ℕ) (e frame np nt nr : ℕ) (out : List ℕ) → Bytes b → read_of b ≡ Contents e frame np nt nr → length b ≤ length out
-    → (write_of e frame (table_of b Partitions) (table_of b Tasks) (table_of b Runs) (length out) ≡ filling.Fills (length b))
+    → (write_of e frame (table_of b Partitions) (table_of b Tasks) (table_of b Runs) (length out) ≡ Ok (length b))
     × (written_left e frame (table_of b Partitions) (table_of b Tasks) (table_of b Runs) out ≡ b ++ drop (length b) out)
 
 -- "Success changes only the bytes it needs; refusals 1 to 12 change no output byte."
 abbrev pub Untouched : Type 0
 Untouched =
     (e frame : ℕ) (ps ts rs out : List ℕ)
-    → ((n : ℕ) → write_of e frame ps ts rs (length out) ≡ filling.Fills n → (n ≤ length out) × (drop n (written_left e frame ps ts rs out) ≡ drop n out))
-    × ((x : Refusal) → write_of e frame ps ts rs (length out) ≡ filling.Refused x → written_left e frame ps ts rs out ≡ out)
+    → ((n : ℕ) → write_of e frame ps ts rs (length out) ≡ Ok n → (n ≤ length out) × (drop n (written_left e frame ps ts rs out) ≡ drop n out))
+    × ((x : Refusal) → write_of e frame ps ts rs (length out) ≡ Err x → written_left e frame ps ts rs out ≡ out)
     × (length (written_left e frame ps ts rs out) ≡ length out)
 
 -- "any two outcomes it permits are equal"
 abbrev pub OneWrite : Type 0
 OneWrite =
-    (e frame : ℕ) (ps ts rs out o o' : List ℕ) (r r' : Filling) → Writes e frame ps ts rs out o r → Writes e frame ps ts rs out o' r'
+    (e frame : ℕ) (ps ts rs out o o' : List ℕ) (r r' : Result ℕ Refusal) → Writes e frame ps ts rs out o r → Writes e frame ps ts rs out o' r'
     → (r ≡ r') × (o ≡ o')
 
 pub record Proved : Type 0 where

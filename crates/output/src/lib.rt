@@ -9,40 +9,15 @@ ghost use Rattle.output.specs.Decimal.{decimal};
 ghost use Rattle.output.specs.Refused.{refused_line};
 ghost use Rattle.rules.specs.Limits.{longest_line};
 
-use rules::Refusal;
+use rules::{Refusal, Told};
 
-// One number, where there is room for it; and the next place.
-pub fn put_number(out: &mut [u16], at: usize, x: u16) -> usize
+// One number or byte, where there is room for it; and the next place.
+pub fn put_one<T: Copy>(out: &mut [T], at: usize, x: T) -> usize
     requires { at < 2 ^ 62 }
     ensures { (result ≡ at + 1) × (out.new ≡ set out.old at x) }
 {
     if at < out.len() {
         out[at] = x;
-        return at + 1;
-    }
-    at + 1
-}
-
-// The same of a number of 32 bits.
-pub fn put_wide(out: &mut [u32], at: usize, x: u32) -> usize
-    requires { at < 2 ^ 62 }
-    ensures { (result ≡ at + 1) × (out.new ≡ set out.old at x) }
-{
-    if at < out.len() {
-        out[at] = x;
-        return at + 1;
-    }
-    at + 1
-}
-
-// One byte, where there is room for it; and the next place.
-fn put_byte(out: &mut [u8], at: usize, b: u8) -> usize
-    requires { at < 2 ^ 62 }
-    ensures { (result ≡ at + 1) × (out.new ≡ set out.old at b) }
-{
-    if at < out.len() {
-        out[at] = b;
-        return at + 1;
     }
     at + 1
 }
@@ -60,23 +35,20 @@ fn put_decimal(out: &mut [u8], at: usize, n: usize) -> usize
     ensures { Put out.old at (decimal n) result out.new }
 {
     if n < 10 {
-        return put_byte(out, at, digit(n));
+        return put_one(out, at, digit(n));
     }
     let next = put_decimal(out, at, n / 10);
-    put_byte(out, next, digit(n % 10))
+    put_one(out, next, digit(n % 10))
 }
 
 pub fn put_text(out: &mut [u8], at: usize, text: &[u8]) -> usize
     requires { (at < 2 ^ 60) × (length text.now < 2 ^ 32) }
     ensures { Put out.old at text.now result out.new }
 {
-    let n = text.len();
-    let mut k = 0;
-    while k < n {
-        put_byte(out, at + k, text[k]);
-        k += 1;
+    for (k, b) in text.iter().enumerate() {
+        put_one(out, at + k, *b);
     }
-    at + n
+    at + text.len()
 }
 
 // A text, and a number behind it.
@@ -104,6 +76,6 @@ pub fn put_refusal(out: &mut [u8], refusal: Refusal) -> usize
     ensures { Put out.old 0 (refused_line refusal) result out.new
         × (result ≤ longest_line) }
 {
-    let told = rules::tell(refusal);
+    let told = Told::from(refusal);
     put_refused(out, 0, told.number)
 }

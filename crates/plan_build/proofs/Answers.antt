@@ -16,7 +16,7 @@ use Rattle.rules.specs.Table.{cycle, partitions}
 use Rattle.rules.specs.Terms.{given, granules, rule_of, wanted}
 use Rattle.rules.specs.declared.Terms.{Terms}
 use Rattle.tables.specs.Tables.{GoodTables}
-use Rattle.rules.specs.Refusals.{told, told_filling}
+use Rattle.rules.specs.Refusals.{told, told_count}
 use Rattle.rules.specs.declared.Refusal.{Refusal}
 use Rattle.rules.specs.declared.Refusal.TheVariants.{Unharmonic, Want, Output}
 use Rattle.rules.proofs.First.{first-none, some-none}
@@ -28,8 +28,7 @@ use Rattle.rules.proofs.Known.{named, by_number, filling_refused, filling_as}
 use Rattle.theory.specs.Harmonic.{pairs, Harmonic, frame, all_wanted, planned, harmonic_plan}
 use Rattle.theory.proofs.Built.{harmonic_serves, harmonic_refused, past_cycle_refused, harmonic_plan_good}
 use Rattle.plan_check.proofs.Answers.{check_serves}
-use Rattle.rules.specs.declared.Filling.{Filling}
-use Rattle.rules.specs.declared.Filling.TheVariants.{Fills, Refused}
+use Rattle.std.specs.Prelude.{Result, Ok, Err}
 use Rattle.plan_build.specs.Build.{unharmonic, laid_of, build_of}
 use Rattle.plan_build.specs.Inner.{clashes}
 use Rattle.rules.specs.Filling.{left_by}
@@ -75,11 +74,11 @@ module _ (terms : Terms) (ps : List ℕ) (room : ℕ) where
   harmonic_from : (unharmonic ps ≡ true) → ¬ Harmonic ps
   harmonic_from e h = absurd (true≢false (sym e ∙ is_harmonic ps h))
 
-  tens : build_of terms ps room ≡ Refused Unharmonic → GoodTables terms longest ps [] × ¬ Harmonic ps
+  tens : build_of terms ps room ≡ Err Unharmonic → GoodTables terms longest ps [] × ¬ Harmonic ps
   unfolding build_of laid_of
   tens e =
-      let ten : Filling = Refused Unharmonic in
-      let a = unless_given terms longest ps [] Refused (laid_of q ps room) ten
+      let ten : Result ℕ Refusal = Err Unharmonic in
+      let a = unless_given terms longest ps [] Err (laid_of q ps room) ten
       (λ i e. let z : ◌≡◌ {A = ℕ} 0 1 = cc in absurd (omega arith))
       (λ e. let z : ◌≡◌ {A = ℕ} 0 1 = cc in absurd (omega arith))
       (λ g e. let z : ◌≡◌ {A = ℕ} 0 1 = cc in absurd (omega arith))
@@ -89,18 +88,18 @@ module _ (terms : Terms) (ps : List ℕ) (room : ℕ) where
       (a.0, at (unharmonic ps) refl a.1)
     where
       at : (u : Bool) → unharmonic ps ≡ u
-          → pick u (Refused Unharmonic) (pick (ltb (frame ps) (all_wanted q ps (frame ps))) (Refused Want) (pick (ltb room (frame ps)) (Refused Output) (Fills (frame ps)))) ≡ Refused Unharmonic → ¬ Harmonic ps
+          → pick u (Err Unharmonic) (pick (ltb (frame ps) (all_wanted q ps (frame ps))) (Err Want) (pick (ltb room (frame ps)) (Err Output) (Ok (frame ps)))) ≡ Err Unharmonic → ¬ Harmonic ps
       at true u e = harmonic_from u
       at false u e =
-          let d = pick_second (ltb (frame ps) (all_wanted q ps (frame ps))) _ _ (Refused Unharmonic) (λ e. let z : ◌≡◌ {A = ℕ} 0 1 = cc in absurd (omega arith)) e in
-          let o = pick_second (ltb room (frame ps)) _ _ (Refused Unharmonic) (λ e. let z : ◌≡◌ {A = ℕ} 0 1 = cc in absurd (omega arith)) d.1 in
+          let d = pick_second (ltb (frame ps) (all_wanted q ps (frame ps))) _ _ (Err Unharmonic) (λ e. let z : ◌≡◌ {A = ℕ} 0 1 = cc in absurd (omega arith)) e in
+          let o = pick_second (ltb room (frame ps)) _ _ (Err Unharmonic) (λ e. let z : ◌≡◌ {A = ℕ} 0 1 = cc in absurd (omega arith)) d.1 in
           let z : ◌≡◌ {A = ℕ} 0 1 = cc o.1 in absurd (omega arith)
 
-  elevens : build_of terms ps room ≡ Refused Want → GoodTables terms longest ps [] × Harmonic ps × (frame ps < all_wanted q ps (frame ps))
+  elevens : build_of terms ps room ≡ Err Want → GoodTables terms longest ps [] × Harmonic ps × (frame ps < all_wanted q ps (frame ps))
   unfolding build_of laid_of
   elevens e =
-      let eleven : Filling = Refused Want in
-      let a = unless_given terms longest ps [] Refused (laid_of q ps room) eleven
+      let eleven : Result ℕ Refusal = Err Want in
+      let a = unless_given terms longest ps [] Err (laid_of q ps room) eleven
       (λ i e. let z : ◌≡◌ {A = ℕ} 0 1 = cc in absurd (omega arith))
       (λ e. let z : ◌≡◌ {A = ℕ} 0 1 = cc in absurd (omega arith))
       (λ g e. let z : ◌≡◌ {A = ℕ} 0 1 = cc in absurd (omega arith))
@@ -111,30 +110,30 @@ module _ (terms : Terms) (ps : List ℕ) (room : ℕ) where
       (a.0, harmonic_is ps d.0, at (ltb (frame ps) (all_wanted q ps (frame ps))) refl d.1)
     where
       at : (u : Bool) → ltb (frame ps) (all_wanted q ps (frame ps)) ≡ u
-          → pick u (Refused Want) (pick (ltb room (frame ps)) (Refused Output) (Fills (frame ps))) ≡ Refused Want → frame ps < all_wanted q ps (frame ps)
+          → pick u (Err Want) (pick (ltb room (frame ps)) (Err Output) (Ok (frame ps))) ≡ Err Want → frame ps < all_wanted q ps (frame ps)
       at true u e = ltb-true _ _ u
       at false u e =
-          let o = pick_second (ltb room (frame ps)) _ _ (Refused Want) (λ e. let z : ◌≡◌ {A = ℕ} 0 1 = cc in absurd (omega arith)) e in
+          let o = pick_second (ltb room (frame ps)) _ _ (Err Want) (λ e. let z : ◌≡◌ {A = ℕ} 0 1 = cc in absurd (omega arith)) e in
           let z : ◌≡◌ {A = ℕ} 0 1 = cc o.1 in absurd (omega arith)
 
   -- the answer of a good table
-  good_laid : GoodTables terms longest ps [] → (r : Filling) → r ≡ laid_of q ps room → build_of terms ps room ≡ r
+  good_laid : GoodTables terms longest ps [] → (r : Result ℕ Refusal) → r ≡ laid_of q ps room → build_of terms ps room ≡ r
   good_laid g r e = sym (build_laid terms ps room ((good_exactly terms longest ps []).1 g) r e)
 
-  is_ten : GoodTables terms longest ps [] × ¬ Harmonic ps → build_of terms ps room ≡ Refused Unharmonic
+  is_ten : GoodTables terms longest ps [] × ¬ Harmonic ps → build_of terms ps room ≡ Err Unharmonic
   is_ten (g, h) = good_laid g _ (laid_10 q ps room (at (unharmonic ps) refl))
     where
       at : (u : Bool) → unharmonic ps ≡ u → unharmonic ps ≡ true
       at true e = e
       at false e = absurd (h (harmonic_is ps e))
 
-  is_eleven : GoodTables terms longest ps [] × Harmonic ps × (frame ps < all_wanted q ps (frame ps)) → build_of terms ps room ≡ Refused Want
+  is_eleven : GoodTables terms longest ps [] × Harmonic ps × (frame ps < all_wanted q ps (frame ps)) → build_of terms ps room ≡ Err Want
   is_eleven (g, h, l) = good_laid g _ (laid_11 q ps room (is_harmonic ps h) _ _ refl refl l)
 
-  is_frame : (h : ℕ) → GoodTables terms longest ps [] × Harmonic ps × (all_wanted q ps (frame ps) ≤ frame ps) × (h ≡ frame ps) × (h ≤ room) → build_of terms ps room ≡ Fills h
+  is_frame : (h : ℕ) → GoodTables terms longest ps [] × Harmonic ps × (all_wanted q ps (frame ps) ≤ frame ps) × (h ≡ frame ps) × (h ≤ room) → build_of terms ps room ≡ Ok h
   is_frame h (g, a, l, e, m) = good_laid g _ (laid_frame q ps room (is_harmonic ps a) _ _ e refl (rw e l) m)
 
-  frames : (h : ℕ) → build_of terms ps room ≡ Fills h → GoodTables terms longest ps [] × Harmonic ps × (all_wanted q ps (frame ps) ≤ frame ps) × (h ≡ frame ps) × (h ≤ room)
+  frames : (h : ℕ) → build_of terms ps room ≡ Ok h → GoodTables terms longest ps [] × Harmonic ps × (all_wanted q ps (frame ps) ≤ frame ps) × (h ≡ frame ps) × (h ≤ room)
   frames h e = let a = laid terms ps room h e in (a.good, harmonic_is ps a.harmonic, a.enough, a.is_frame, a.fits)
 
 -- ---- what is written is accepted
@@ -154,8 +153,8 @@ built_serves terms ps out o h (e, left) =
 
 module _ (terms : Terms) (ps : List ℕ) (room n : ℕ) where
   -- refused with a number from 1 on: by the refusal of that number
-  by : 1 ≤ n → ¬ (n ≡ 8) → (told_filling (build_of terms ps room)).number ≡ n → (r : Refusal) × (build_of terms ps room ≡ Refused (named n (told r).first (told r).second (told r).third (told r).fourth))
-  by l g e = let a = filling_refused (build_of terms ps room) n l e in (a.0, a.1 ∙ ap Refused (by_number a.0 n g a.2))
+  by : 1 ≤ n → ¬ (n ≡ 8) → (told_count (build_of terms ps room)).number ≡ n → (r : Refusal) × (build_of terms ps room ≡ Err (named n (told r).first (told r).second (told r).third (told r).fourth))
+  by l g e = let a = filling_refused (build_of terms ps room) n l e in (a.0, a.1 ∙ ap Err (by_number a.0 n g a.2))
 
 pub want_exactly : WantExactly
 want_exactly terms ps room = (λ e. elevens terms ps room (by terms ps room 11 (omega arith) (λ q. absurd (omega arith)) e).1, λ h. rw (is_eleven terms ps room h))
@@ -181,7 +180,7 @@ frame_exactly terms ps room h = (λ e. frames terms ps room h (filling_as (build
 pub build_one : BuildOne
 build_one terms ps out o o' r r' a b =
     let e : r ≡ r' = a.0 ∙ sym b.0 in
-    (e, a.1 ∙ ap (λ (x : Filling). left_by x (harmonic_plan (wanted terms ps) ps) out) e ∙ sym b.1)
+    (e, a.1 ∙ ap (λ (x : Result ℕ Refusal). left_by x (harmonic_plan (wanted terms ps) ps) out) e ∙ sym b.1)
 
 pub proved : Proved
 proved = record {

@@ -13,11 +13,11 @@ use Rattle.rules.specs.Table.{partitions, cycle, num, den, good_tick}
 use Rattle.rules.specs.Terms.{granules, filed, rule_in, wanted}
 use Rattle.rules.specs.declared.Terms.{Terms}
 use Rattle.tables.specs.Tables.{GoodTables, unless, ticks_judged}
-use Rattle.rules.specs.declared.Finding.{Finding}
-use Rattle.rules.specs.declared.Finding.TheVariants.{Good, Refused}
+use Rattle.std.specs.Prelude.{Result, Ok, Err}
+use Rattle.rules.specs.declared.Refusal.{Refusal}
 use Rattle.rules.specs.declared.Refusal.TheVariants.{Edition, Limits, Granule, Partition, Task, Tick, Shortfall}
 use Rattle.rules.proofs.First.{first-none, first_past, first-before, first_at, first-upto, some_at}
-use Rattle.rules.specs.Refusals.{telling, told_finding}
+use Rattle.rules.specs.Refusals.{telling, told_done}
 use Rattle.rules.proofs.Known.{found-refused}
 use Rattle.rules.proofs.Tests.{pick_first, pick_second, good-granule}
 use Rattle.tables.proofs.Chain.{not_good, lowest-none, good-lowest, within, unless_given, unless_good_lem, with_granule_1, in_edition_1}
@@ -46,13 +46,13 @@ module _ (rule : Rule) (q : ℕ → ℕ) (plan ps : List ℕ) where
     fed_all : (k : ℕ) → short_in rule q plan ps k ≡ false → (s : ℕ) → q k ≤ held rule plan (k + 1) (cycle ps k) s
     fed_all k e = serves_in_frame rule plan (k + 1) (q k) (cycle ps k) full (λ s l. fed k s (first_past _ (length plan) (ltb-false _ _ e) s l))
 
-    scan_serves : scan_of rule q plan ps ≡ Good → Serves rule q plan ps
+    scan_serves : scan_of rule q plan ps ≡ (Ok tt) → Serves rule q plan ps
     unfolding scan_of
     scan_serves e k s l =
-        let w = pick_second (ltb (short_part rule q plan ps) (partitions ps)) _ _ Good (not_good _) e in
+        let w = pick_second (ltb (short_part rule q plan ps) (partitions ps)) _ _ (Ok tt) (not_good _) e in
         fed_all k (first_past _ (partitions ps) (ltb-false _ _ w.0) k l) s
 
-  serves_scan : Serves rule q plan ps → scan_of rule q plan ps ≡ Good
+  serves_scan : Serves rule q plan ps → scan_of rule q plan ps ≡ (Ok tt)
   unfolding scan_of short_at
   serves_scan h =
       let none : (k : ℕ) → k < partitions ps → short_in rule q plan ps k ≡ false =
@@ -61,10 +61,10 @@ module _ (rule : Rule) (q : ℕ → ℕ) (plan ps : List ℕ) where
 
   -- what stops the scan
   module _ (p s h w : ℕ) where
-    abbrev nine : Finding
-    nine = Refused (Shortfall p s h w)
+    abbrev nine : Result (Unit {0}) Refusal
+    nine = Err (Shortfall p s h w)
 
-    stopped : (k : ℕ) → k ≡ short_part rule q plan ps → 0 < length plan → k < partitions ps → Refused (shortfall rule q plan ps k (short_start rule q plan ps k)) ≡ nine → FallsShort rule q plan ps p s h w
+    stopped : (k : ℕ) → k ≡ short_part rule q plan ps → 0 < length plan → k < partitions ps → Err (shortfall rule q plan ps k (short_start rule q plan ps k)) ≡ nine → FallsShort rule q plan ps p s h w
     unfolding short_at
     stopped k ek full inside e =
         let here : short_in rule q plan ps k ≡ true = rw ek (first_at (short_in rule q plan ps) (partitions ps) (rw (← ek) inside)) in
@@ -103,7 +103,7 @@ module _ (rule : Rule) (q : ℕ → ℕ) (plan ps : List ℕ) where
     none_above : short_part rule q plan ps ≤ k
     none_above = first-upto (short_in rule q plan ps) (partitions ps) k (some_at (short_at rule q plan ps k) (length plan) 0 full start_0)
 
-    pub past_cycle : (p s h w : ℕ) × (scan_of rule q plan ps ≡ Refused (Shortfall p s h w)) × ((p < k + 1) ⊎ ((p ≡ k + 1) × (s ≡ 0)))
+    pub past_cycle : (p s h w : ℕ) × (scan_of rule q plan ps ≡ Err (Shortfall p s h w)) × ((p < k + 1) ⊎ ((p ≡ k + 1) × (s ≡ 0)))
     unfolding scan_of
     past_cycle =
         let j = short_part rule q plan ps in
@@ -126,36 +126,36 @@ module _ (terms : Terms) (plan ps : List ℕ) where
   abbrev Owned : Type 0
   Owned = Every (good_tick (partitions ps) plan) (length plan)
 
-  accepted : check_of terms plan ps ≡ Good → GoodTables terms (length plan) ps [] × Owned × Serves rule q plan ps
+  accepted : check_of terms plan ps ≡ (Ok tt) → GoodTables terms (length plan) ps [] × Owned × Serves rule q plan ps
   unfolding check_of plan_check_of
   accepted e =
-      let a = unless_given terms (length plan) ps [] Refused (plan_check_of rule q plan ps) Good (λ i. not_good Edition) (not_good Limits) (λ g. not_good Granule) (λ k. not_good (Partition k)) (λ j. not_good (Task (j + 1))) e in
-      let b = lowest-none Tick (good_tick (partitions ps) plan) (length plan) Refused (scan_of rule q plan ps) Good (not_good _) a.1 in
+      let a = unless_given terms (length plan) ps [] Err (plan_check_of rule q plan ps) (Ok tt) (λ i. not_good Edition) (not_good Limits) (λ g. not_good Granule) (λ k. not_good (Partition k)) (λ j. not_good (Task (j + 1))) e in
+      let b = lowest-none Tick (good_tick (partitions ps) plan) (length plan) Err (scan_of rule q plan ps) (Ok tt) (not_good _) a.1 in
       (a.0, b.0, scan_serves rule q plan ps (frame-some ps [] a.0) b.1)
 
-  accepts : GoodTables terms (length plan) ps [] × Owned × Serves rule q plan ps → check_of terms plan ps ≡ Good
+  accepts : GoodTables terms (length plan) ps [] × Owned × Serves rule q plan ps → check_of terms plan ps ≡ (Ok tt)
   unfolding check_of plan_check_of
   accepts (g, t, s) =
       let f = length plan in
-      unless_good_lem terms f ps [] Refused (plan_check_of rule q plan ps) g ∙ rw (good-lowest Tick (good_tick (partitions ps) plan) f t) (serves_scan rule q plan ps s)
+      unless_good_lem terms f ps [] Err (plan_check_of rule q plan ps) g ∙ rw (good-lowest Tick (good_tick (partitions ps) plan) f t) (serves_scan rule q plan ps s)
 
   -- ---- refusal 9
 
-  scanned : (p s h w : ℕ) → check_of terms plan ps ≡ Refused (Shortfall p s h w) → (0 < length plan) × (scan_of rule q plan ps ≡ Refused (Shortfall p s h w))
+  scanned : (p s h w : ℕ) → check_of terms plan ps ≡ Err (Shortfall p s h w) → (0 < length plan) × (scan_of rule q plan ps ≡ Err (Shortfall p s h w))
   unfolding check_of plan_check_of
   scanned p s h w e =
-      let nine : Finding = Refused (Shortfall p s h w) in
-      let a = unless_given terms (length plan) ps [] Refused (plan_check_of rule q plan ps) nine
+      let nine : Result (Unit {0}) Refusal = Err (Shortfall p s h w) in
+      let a = unless_given terms (length plan) ps [] Err (plan_check_of rule q plan ps) nine
       (λ i q. let z : ◌≡◌ {A = ℕ} 0 1 = cc in absurd (omega arith))
       (λ q. let z : ◌≡◌ {A = ℕ} 0 1 = cc in absurd (omega arith))
       (λ g q. let z : ◌≡◌ {A = ℕ} 0 1 = cc in absurd (omega arith))
       (λ k q. let z : ◌≡◌ {A = ℕ} 0 1 = cc in absurd (omega arith))
       (λ j q. let z : ◌≡◌ {A = ℕ} 0 1 = cc in absurd (omega arith))
       e in
-      let d = lowest-none Tick (good_tick (partitions ps) plan) (length plan) Refused (scan_of rule q plan ps) nine (λ q. let z : ◌≡◌ {A = ℕ} 0 1 = cc in absurd (omega arith)) a.1 in
+      let d = lowest-none Tick (good_tick (partitions ps) plan) (length plan) Err (scan_of rule q plan ps) nine (λ q. let z : ◌≡◌ {A = ℕ} 0 1 = cc in absurd (omega arith)) a.1 in
       (frame-some ps [] a.0, d.1)
 
-  short : (p s h w : ℕ) → check_of terms plan ps ≡ Refused (Shortfall p s h w) → FallsShort rule q plan ps p s h w
+  short : (p s h w : ℕ) → check_of terms plan ps ≡ Err (Shortfall p s h w) → FallsShort rule q plan ps p s h w
   short p s h w e = let a = scanned p s h w e in short_scan rule q plan ps p s h w a.0 a.1
 
 pub check_serves : CheckServes
@@ -177,19 +177,19 @@ pub check_short : CheckShort
 check_short terms plan ps p s h w e = short terms plan ps p s h w (found-refused (check_of terms plan ps) (telling 9 p s h w) (omega arith) (λ q. absurd (omega arith)) e)
 
 -- of good records and ticks, 9 as the scan says
-pub short-from_0 : (rule : Rule) (q : ℕ → ℕ) (plan ps : List ℕ) → 0 < length plan → Every (good_tick (partitions ps) plan) (length plan) → ShortFrom0 rule q plan ps (told_finding (plan_check_of rule q plan ps))
+pub short-from_0 : (rule : Rule) (q : ℕ → ℕ) (plan ps : List ℕ) → 0 < length plan → Every (good_tick (partitions ps) plan) (length plan) → ShortFrom0 rule q plan ps (told_done (plan_check_of rule q plan ps))
 unfolding plan_check_of
 short-from_0 rule q plan ps full owned k inside past =
     let a = past_cycle rule q plan ps k inside past full in
-    let e : unless Refused (ticks_judged plan ps) (scan_of rule q plan ps) ≡ Refused (Shortfall a.0 a.1 a.2 a.3) =
+    let e : unless Err (ticks_judged plan ps) (scan_of rule q plan ps) ≡ Err (Shortfall a.0 a.1 a.2 a.3) =
     rw (good-lowest Tick (good_tick (partitions ps) plan) (length plan) owned) a.4 in
-    (a.0, a.1, a.2, a.3, ap told_finding e, short_scan rule q plan ps a.0 a.1 a.2 a.3 full a.4, a.5)
+    (a.0, a.1, a.2, a.3, ap told_done e, short_scan rule q plan ps a.0 a.1 a.2 a.3 full a.4, a.5)
 
 pub check_past_cycle : CheckPastCycle
 unfolding check_of
 check_past_cycle terms plan ps good owned =
-    let e : check_of terms plan ps ≡ plan_check_of (rule_in terms) (wanted terms ps) plan ps = unless_good_lem terms (length plan) ps [] Refused (plan_check_of (rule_in terms) (wanted terms ps) plan ps) good in
-    subst (λ (f : Finding). ShortFrom0 (rule_in terms) (wanted terms ps) plan ps (told_finding f)) (sym e) (short-from_0 (rule_in terms) (wanted terms ps) plan ps (frame-some ps [] good) owned)
+    let e : check_of terms plan ps ≡ plan_check_of (rule_in terms) (wanted terms ps) plan ps = unless_good_lem terms (length plan) ps [] Err (plan_check_of (rule_in terms) (wanted terms ps) plan ps) good in
+    subst (λ (f : Result (Unit {0}) Refusal). ShortFrom0 (rule_in terms) (wanted terms ps) plan ps (told_done f)) (sym e) (short-from_0 (rule_in terms) (wanted terms ps) plan ps (frame-some ps [] good) owned)
 
 pub check_one : CheckOne
 check_one terms plan ps r r' e f = e ∙ sym f

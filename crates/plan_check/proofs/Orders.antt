@@ -11,8 +11,7 @@ use Rattle.rules.specs.Table.{partitions, cycle}
 use Rattle.rules.specs.Terms.{rule_in, wanted}
 use Rattle.rules.specs.declared.Terms.{Terms}
 use Rattle.tables.specs.Tables.{tables_of, ticks_judged}
-use Rattle.rules.specs.declared.Finding.{Finding}
-use Rattle.rules.specs.declared.Finding.TheVariants.{Good, Refused}
+use Rattle.std.specs.Prelude.{Result, Ok, Err}
 use Rattle.rules.specs.declared.Refusal.{Refusal}
 use Rattle.rules.specs.declared.Refusal.TheVariants.{Shortfall}
 use Rattle.rules.proofs.First.{first_found, first_done}
@@ -49,7 +48,7 @@ module _ (rule : Rule) (q : ℕ → ℕ) (plan ps : List ℕ) (k : ℕ) where
   pub stopped :
       (s h m w : ℕ) → k < partitions ps → first (short_in rule q plan ps) k ≡ k → s < length plan → first (short_at rule q plan ps k) s ≡ s
       → m ≡ cycle ps k → w ≡ q k → h ≡ held rule plan (k + 1) m s → h < w
-      → Refused (Shortfall (k + 1) s h w) ≡ scan_of rule q plan ps
+      → Err (Shortfall (k + 1) s h w) ≡ scan_of rule q plan ps
   unfolding scan_of short_at
   stopped s h m w lk ek ls es em ew eh l =
       let short : short_at rule q plan ps k s ≡ true = rw (← ew, ← em, ← eh) (lt-ltb h w l) in
@@ -60,27 +59,27 @@ module _ (rule : Rule) (q : ℕ → ℕ) (plan ps : List ℕ) (k : ℕ) where
 
 module _ (rule : Rule) (q : ℕ → ℕ) (plan ps : List ℕ) where
   -- the scan ran to its end
-  pub served : (k : ℕ) → k ≤ partitions ps → partitions ps ≤ k → first (short_in rule q plan ps) k ≡ k → Good ≡ scan_of rule q plan ps
+  pub served : (k : ℕ) → k ≤ partitions ps → partitions ps ≤ k → first (short_in rule q plan ps) k ≡ k → (Ok tt) ≡ scan_of rule q plan ps
   unfolding scan_of
   served k h l e = rw (first_done _ (partitions ps) k h l e, le-ltb (partitions ps) (partitions ps) (omega arith))
 
   -- ---- 8, then 9
 
-  pub plan_8 : (r : Refusal) → ticks_judged plan ps ≡ Refused r → Refused r ≡ plan_check_of rule q plan ps
+  pub plan_8 : (r : Refusal) → ticks_judged plan ps ≡ Err r → Err r ≡ plan_check_of rule q plan ps
   unfolding plan_check_of
   plan_8 r e = rw e
 
-  pub plan_9 : ticks_judged plan ps ≡ Good → (r : Finding) → r ≡ scan_of rule q plan ps → r ≡ plan_check_of rule q plan ps
+  pub plan_9 : ticks_judged plan ps ≡ (Ok tt) → (r : Result (Unit {0}) Refusal) → r ≡ scan_of rule q plan ps → r ≡ plan_check_of rule q plan ps
   unfolding plan_check_of
   plan_9 e r h = rw e h
 
 -- ---- 2, 3, 21 and 6, then the plan
 
 module _ (terms : Terms) (plan ps : List ℕ) where
-  pub check-tables : (r : Refusal) → tables_of terms (length plan) ps [] ≡ Refused r → Refused r ≡ check_of terms plan ps
+  pub check-tables : (r : Refusal) → tables_of terms (length plan) ps [] ≡ Err r → Err r ≡ check_of terms plan ps
   unfolding check_of
   check-tables r e = rw e
 
-  pub check_plan : tables_of terms (length plan) ps [] ≡ Good → (r : Finding) → r ≡ plan_check_of (rule_in terms) (wanted terms ps) plan ps → r ≡ check_of terms plan ps
+  pub check_plan : tables_of terms (length plan) ps [] ≡ (Ok tt) → (r : Result (Unit {0}) Refusal) → r ≡ plan_check_of (rule_in terms) (wanted terms ps) plan ps → r ≡ check_of terms plan ps
   unfolding check_of
   check_plan e r h = rw e h

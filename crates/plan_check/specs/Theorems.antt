@@ -1,14 +1,13 @@
 -- What the checker's answers mean. Assumes nothing.
-use Rattle.std.specs.Prelude.{ℕ, ◌+◌, ◌≤◌, ◌<◌, ◌≡◌, ◌⊎◌, ◌↔◌, List, [], length}
+use Rattle.std.specs.Prelude.{ℕ, ◌+◌, ◌≤◌, ◌<◌, ◌≡◌, ◌⊎◌, ◌↔◌, List, [], length, Result, Ok}
 use Rattle.rules.specs.Walk.{Every}
 use Rattle.rules.specs.Table.{partitions, cycle, good_tick}
 use Rattle.rules.specs.Terms.{granules, filed, rule_in, wanted}
 use Rattle.rules.specs.declared.Terms.{Terms}
 use Rattle.tables.specs.Tables.{GoodTables}
-use Rattle.rules.specs.Refusals.{telling, told_finding}
+use Rattle.rules.specs.Refusals.{telling, told_done}
 use Rattle.rules.specs.declared.Told.{Told}
-use Rattle.rules.specs.declared.Finding.{Finding}
-use Rattle.rules.specs.declared.Finding.TheVariants.{Good}
+use Rattle.rules.specs.declared.Refusal.{Refusal}
 use Rattle.rules.specs.declared.Rule.{Rule}
 use Rattle.theory.specs.Plan.{held, Serves}
 use Rattle.plan_check.specs.Check.{check_of, Checks}
@@ -17,16 +16,16 @@ use Rattle.plan_check.specs.Check.{check_of, Checks}
 abbrev pub CheckServes : Type 0
 CheckServes =
     (terms : Terms) (plan ps : List ℕ)
-    → (check_of terms plan ps ≡ Good)
+    → (check_of terms plan ps ≡ (Ok tt))
     ↔ (GoodTables terms (length plan) ps [] × Every (good_tick (partitions ps) plan) (length plan) × Serves (rule_in terms) (wanted terms ps) plan ps)
 
 -- a plan that is accepted with a granule is accepted without
 abbrev pub AcceptedWithout : Type 0
-AcceptedWithout = (terms : Terms) (plan ps : List ℕ) → check_of terms plan ps ≡ Good → check_of (filed terms.edition) plan ps ≡ Good
+AcceptedWithout = (terms : Terms) (plan ps : List ℕ) → check_of terms plan ps ≡ (Ok tt) → check_of (filed terms.edition) plan ps ≡ (Ok tt)
 
 -- document 02, ask 6: and one that is accepted in edition 2 is accepted in edition 1
 abbrev pub AcceptedBefore : Type 0
-AcceptedBefore = (terms : Terms) (plan ps : List ℕ) → check_of terms plan ps ≡ Good → check_of (granules terms.granule) plan ps ≡ Good
+AcceptedBefore = (terms : Terms) (plan ps : List ℕ) → check_of terms plan ps ≡ (Ok tt) → check_of (granules terms.granule) plan ps ≡ (Ok tt)
 
 -- "partition, start, held, wanted": the stretch falls short, and is the lowest partition's lowest start that does
 pub record FallsShort (rule : Rule) (q : ℕ → ℕ) (plan ps : List ℕ) (p s h w : ℕ) : Type 0 where
@@ -43,7 +42,7 @@ pub record FallsShort (rule : Rule) (q : ℕ → ℕ) (plan ps : List ℕ) (p s 
 -- 9 and its four values say what stands in the plan
 abbrev pub CheckShort : Type 0
 CheckShort =
-    (terms : Terms) (plan ps : List ℕ) (p s h w : ℕ) → told_finding (check_of terms plan ps) ≡ telling 9 p s h w
+    (terms : Terms) (plan ps : List ℕ) (p s h w : ℕ) → told_done (check_of terms plan ps) ≡ telling 9 p s h w
     → FallsShort (rule_in terms) (wanted terms ps) plan ps p s h w
 
 -- where place k wants more than its cycle has: 9, at start 0 of that partition unless a lower one falls short
@@ -55,11 +54,11 @@ ShortFrom0 rule q plan ps t =
 abbrev pub CheckPastCycle : Type 0
 CheckPastCycle =
     (terms : Terms) (plan ps : List ℕ) → GoodTables terms (length plan) ps [] → Every (good_tick (partitions ps) plan) (length plan)
-    → ShortFrom0 (rule_in terms) (wanted terms ps) plan ps (told_finding (check_of terms plan ps))
+    → ShortFrom0 (rule_in terms) (wanted terms ps) plan ps (told_done (check_of terms plan ps))
 
 -- "any two outcomes it permits are equal"
 abbrev pub CheckOne : Type 0
-CheckOne = (terms : Terms) (plan ps : List ℕ) (r r' : Finding) → Checks terms plan ps r → Checks terms plan ps r' → r ≡ r'
+CheckOne = (terms : Terms) (plan ps : List ℕ) (r r' : Result (Unit {0}) Refusal) → Checks terms plan ps r → Checks terms plan ps r' → r ≡ r'
 
 pub record Proved : Type 0 where
   pub check_serves : CheckServes

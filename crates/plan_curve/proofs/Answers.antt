@@ -11,8 +11,8 @@ use Rattle.rules.specs.Filling.{left_by}
 use Rattle.rules.specs.Terms.{good_edition, rule_of}
 use Rattle.rules.specs.declared.Rule.{Rule}
 use Rattle.rules.specs.declared.Refusal.TheVariants.{Edition, Output}
-use Rattle.rules.specs.declared.Filling.{Filling}
-use Rattle.rules.specs.declared.Filling.TheVariants.{Fills, Refused}
+use Rattle.std.specs.Prelude.{Result, Ok, Err}
+use Rattle.rules.specs.declared.Refusal.{Refusal}
 use Rattle.rules.proofs.Named.{listed-length, listed_at, new_tail}
 use Rattle.rules.proofs.Sum.{le-or-lt}
 use Rattle.theory.specs.Plan.{least}
@@ -20,15 +20,15 @@ use Rattle.plan_curve.specs.Curve.{least_curve, curve_of}
 use Rattle.plan_curve.specs.Theorems.{CurveIs, CurveBy, curve_edition, curve-length, curve-done, CurveAnswers, CurveLeaves, CurveOne, Proved}
 use Rattle.plan_curve.proofs.Worst.{worst_behind_run, worst_start_lem}
 
-pub other_edition : (e n room : ℕ) → good_edition e ≡ false → Refused Edition ≡ curve_of e n room
+pub other_edition : (e n room : ℕ) → good_edition e ≡ false → Err Edition ≡ curve_of e n room
 unfolding curve_of
 other_edition e n room g = rw g
 
-pub short : (e n room : ℕ) → good_edition e ≡ true → room < n + 1 → Refused Output ≡ curve_of e n room
+pub short : (e n room : ℕ) → good_edition e ≡ true → room < n + 1 → Err Output ≡ curve_of e n room
 unfolding curve_of
 short e n room g l = rw (g, lt-ltb room (n + 1) l)
 
-pub enough : (e n room : ℕ) → good_edition e ≡ true → n + 1 ≤ room → Fills (n + 1) ≡ curve_of e n room
+pub enough : (e n room : ℕ) → good_edition e ≡ true → n + 1 ≤ room → Ok (n + 1) ≡ curve_of e n room
 unfolding curve_of
 enough e n room g l = rw (g, le-ltb room (n + 1) l)
 
@@ -46,12 +46,12 @@ curve_answers e n room = go (good_edition e) refl (le-or-lt (n + 1) room)
 pub curve_one : CurveOne
 curve_one e plan p n list o o' r r' a b =
     let q : r ≡ r' = a.0 ∙ sym b.0 in
-    (q, a.1 ∙ ap (λ (x : Filling). left_by x (least_curve (rule_of e) plan p n) list) q ∙ sym b.1)
+    (q, a.1 ∙ ap (λ (x : Result ℕ Refusal). left_by x (least_curve (rule_of e) plan p n) list) q ∙ sym b.1)
 
 pub curve_leaves : CurveLeaves
 curve_leaves e plan p n m list o (a, b) = go (rule_of e) b (curve_of e n (length list)) (curve_answers e n (length list)) a
   where
-    go : (rule : Rule) → o ≡ least_curve rule plan p n ++ drop m list → (f : Filling) → CurveBy e n (length list) f → Fills m ≡ f
+    go : (rule : Rule) → o ≡ least_curve rule plan p n ++ drop m list → (f : Result ℕ Refusal) → CurveBy e n (length list) f → Ok m ≡ f
         → (m ≡ n + 1) × (length o ≡ length list) × ((t : ℕ) → t ≤ n → get_or o t 0 ≡ least rule plan p t) × ((t : ℕ) → n < t → get_or o t 0 ≡ get_or list t 0)
     go rule b f (curve_edition g) q = let z : ◌≡◌ {A = ℕ} 0 1 = cc in absurd (omega arith)
     go rule b f (curve-length g l) q = let z : ◌≡◌ {A = ℕ} 0 1 = cc in absurd (omega arith)

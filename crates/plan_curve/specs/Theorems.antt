@@ -1,10 +1,9 @@
 -- What is proved of the curve beyond its contract. Assumes nothing.
-use Rattle.std.specs.Prelude.{ℕ, suc, ◌+◌, ◌≤◌, ◌<◌, ◌≡◌, true, false, List, length, get_or}
+use Rattle.std.specs.Prelude.{ℕ, suc, ◌+◌, ◌≤◌, ◌<◌, ◌≡◌, true, false, List, length, get_or, Result, Ok, Err}
 use Rattle.rules.specs.Terms.{good_edition, rule_of}
 use Rattle.rules.specs.declared.Rule.{Rule}
 use Rattle.rules.specs.declared.Refusal.TheVariants.{Edition, Output}
-use Rattle.rules.specs.declared.Filling.{Filling}
-use Rattle.rules.specs.declared.Filling.TheVariants.{Fills, Refused}
+use Rattle.rules.specs.declared.Refusal.{Refusal}
 use Rattle.theory.specs.Plan.{service, held, least}
 use Rattle.plan_curve.specs.Curve.{least_curve, curve_of, DrawsCurve, start_tried}
 
@@ -29,10 +28,10 @@ CurveIs =
     → (length (least_curve rule plan p n) ≡ n + 1) × ((t : ℕ) → t ≤ n → get_or (least_curve rule plan p n) t 0 ≡ least rule plan p t)
 
 -- 2 exactly for another edition, else 12 exactly for a list with fewer numbers; nothing else is refused
-pub data CurveBy (e n room : ℕ) : Filling → Type 0 where
-  curve_edition : good_edition e ≡ false → CurveBy e n room (Refused Edition)
-  curve-length : good_edition e ≡ true → room < n + 1 → CurveBy e n room (Refused Output)
-  curve-done : good_edition e ≡ true → n + 1 ≤ room → CurveBy e n room (Fills (n + 1))
+pub data CurveBy (e n room : ℕ) : Result ℕ Refusal → Type 0 where
+  curve_edition : good_edition e ≡ false → CurveBy e n room (Err Edition)
+  curve-length : good_edition e ≡ true → room < n + 1 → CurveBy e n room (Err Output)
+  curve-done : good_edition e ≡ true → n + 1 ≤ room → CurveBy e n room (Ok (n + 1))
 
 abbrev pub CurveAnswers : Type 0
 CurveAnswers = (e n room : ℕ) → CurveBy e n room (curve_of e n room)
@@ -40,7 +39,7 @@ CurveAnswers = (e n room : ℕ) → CurveBy e n room (curve_of e n room)
 -- each number that the call leaves is least service, and the list's tail stays as it was
 abbrev pub CurveLeaves : Type 0
 CurveLeaves =
-    (e : ℕ) (plan : List ℕ) (p n m : ℕ) (list o : List ℕ) → DrawsCurve e plan p n list o (Fills m)
+    (e : ℕ) (plan : List ℕ) (p n m : ℕ) (list o : List ℕ) → DrawsCurve e plan p n list o (Ok m)
     → (m ≡ n + 1) × (length o ≡ length list)
     × ((t : ℕ) → t ≤ n → get_or o t 0 ≡ least (rule_of e) plan p t)
     × ((t : ℕ) → n < t → get_or o t 0 ≡ get_or list t 0)
@@ -48,7 +47,7 @@ CurveLeaves =
 -- "any two outcomes it permits are equal"
 abbrev pub CurveOne : Type 0
 CurveOne =
-    (e : ℕ) (plan : List ℕ) (p n : ℕ) (list o o' : List ℕ) (r r' : Filling) → DrawsCurve e plan p n list o r → DrawsCurve e plan p n list o' r'
+    (e : ℕ) (plan : List ℕ) (p n : ℕ) (list o o' : List ℕ) (r r' : Result ℕ Refusal) → DrawsCurve e plan p n list o r → DrawsCurve e plan p n list o' r'
     → (r ≡ r') × (o ≡ o')
 
 pub record Proved : Type 0 where

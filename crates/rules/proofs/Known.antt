@@ -4,17 +4,14 @@ use mathlib.Core.Path.{◌≡◌, refl, sym, ap, ◌∙◌}
 use native.Mathlib.Omega.{arith}
 use lib.Dec.{eqb}
 use Rattle.rules.specs.Walk.{pick}
-use Rattle.rules.specs.Refusals.{placed, told, told_finding, told_filling, Tells}
+use Rattle.rules.specs.Refusals.{placed, told, told_done, told_count, Tells}
 use Rattle.rules.specs.declared.Told.{Told}
 use Rattle.rules.specs.declared.Refusal.{Refusal}
 use Rattle.rules.specs.declared.Refusal.TheVariants.{Short, Edition, Limits, Offset, Length, Partition, Task, Tick, Asked, Shortfall, Unharmonic, Want, Output, Rules, Numbers, Past, Busy, Full, NoPlace, Counts, Granule, Beyond}
 use Rattle.rules.specs.declared.Explanation.{Explanation}
 use Rattle.rules.specs.declared.Explanation.TheVariants.{Nowhere, Roomiest}
 use Rattle.rules.specs.declared.Binding.TheVariants.{Own, Listed}
-use Rattle.rules.specs.declared.Finding.{Finding}
-use Rattle.rules.specs.declared.Finding.TheVariants as found
-use Rattle.rules.specs.declared.Filling.{Filling}
-use Rattle.rules.specs.declared.Filling.TheVariants as filling
+use Rattle.std.specs.Prelude.{Result, Ok, Err}
 
 -- the explanation of its values
 abbrev explaining : ℕ → ℕ → ℕ → ℕ → Explanation
@@ -68,25 +65,25 @@ not_0 r e = let z : (told r).number ≡ 26 = ap (λ (x : Refusal). (told x).numb
 
 -- ---- what is told of findings and fillings
 
-pub found-good : (f : Finding) → (told_finding f).number ≡ 0 → f ≡ found.Good
-found-good found.Good e = refl
-found-good (found.Refused r) e = absurd (not_0 r e)
+pub found-good : (f : Result (Unit {0}) Refusal) → (told_done f).number ≡ 0 → f ≡ (Ok tt)
+found-good (Ok _) e = refl
+found-good (Err r) e = absurd (not_0 r e)
 
-pub found-refused : (f : Finding) (t : Told) → 1 ≤ t.number → ¬ (t.number ≡ 8) → told_finding f ≡ t
-    → f ≡ found.Refused (named t.number t.first t.second t.third t.fourth)
-found-refused found.Good t h g e = let z : 0 ≡ t.number = ap (λ (u : Told). u.number) e in absurd (omega arith)
-found-refused (found.Refused r) t h g e = ap found.Refused (by_told r t g e)
+pub found-refused : (f : Result (Unit {0}) Refusal) (t : Told) → 1 ≤ t.number → ¬ (t.number ≡ 8) → told_done f ≡ t
+    → f ≡ Err (named t.number t.first t.second t.third t.fourth)
+found-refused (Ok _) t h g e = let z : 0 ≡ t.number = ap (λ (u : Told). u.number) e in absurd (omega arith)
+found-refused (Err r) t h g e = ap Err (by_told r t g e)
 
-pub filling_fills : (f : Filling) → (told_filling f).number ≡ 0 → f ≡ filling.Fills (told_filling f).first
-filling_fills (filling.Fills n) e = refl
-filling_fills (filling.Refused r) e = absurd (not_0 r e)
+pub filling_fills : (f : Result ℕ Refusal) → (told_count f).number ≡ 0 → f ≡ Ok (told_count f).first
+filling_fills (Ok n) e = refl
+filling_fills (Err r) e = absurd (not_0 r e)
 
-pub filling_as : (f : Filling) (n : ℕ) → told_filling f ≡ placed 0 n → f ≡ filling.Fills n
-filling_as f n e = filling_fills f (ap (λ (u : Told). u.number) e) ∙ ap (λ (u : Told). filling.Fills u.first) e
+pub filling_as : (f : Result ℕ Refusal) (n : ℕ) → told_count f ≡ placed 0 n → f ≡ Ok n
+filling_as f n e = filling_fills f (ap (λ (u : Told). u.number) e) ∙ ap (λ (u : Told). Ok u.first) e
 
-pub filling_refused : (f : Filling) (n : ℕ) → 1 ≤ n → (told_filling f).number ≡ n → (r : Refusal) × (f ≡ filling.Refused r) × ((told r).number ≡ n)
-filling_refused (filling.Fills m) n h e = absurd (omega arith)
-filling_refused (filling.Refused r) n h e = (r, refl, e)
+pub filling_refused : (f : Result ℕ Refusal) (n : ℕ) → 1 ≤ n → (told_count f).number ≡ n → (r : Refusal) × (f ≡ Err r) × ((told r).number ≡ n)
+filling_refused (Ok m) n h e = absurd (omega arith)
+filling_refused (Err r) n h e = (r, refl, e)
 
 -- ---- a call's answer
 

@@ -1,5 +1,5 @@
 -- Document 01's table of refusals: "No.", and "Also returned", with those of document 02; and what a caller is told. Assumes nothing.
-use Rattle.std.specs.Prelude.{ℕ, ◌≡◌}
+use Rattle.std.specs.Prelude.{ℕ, ◌≡◌, Result, Ok, Err}
 use Rattle.rules.specs.declared.Refusal.{Refusal}
 use Rattle.rules.specs.declared.Refusal.TheVariants.{Short, Edition, Limits, Offset, Length, Partition, Task, Tick, Asked, Shortfall, Unharmonic, Want, Output, Rules, Numbers, Past, Busy, Full, NoPlace, Counts, Granule, Beyond}
 use Rattle.rules.specs.declared.Binding.{Binding}
@@ -7,12 +7,6 @@ use Rattle.rules.specs.declared.Binding.TheVariants.{Own, Listed}
 use Rattle.rules.specs.declared.Explanation.{Explanation}
 use Rattle.rules.specs.declared.Explanation.TheVariants.{Nowhere, Roomiest}
 use Rattle.rules.specs.declared.Told.{Told}
-use Rattle.rules.specs.declared.Finding.{Finding}
-use Rattle.rules.specs.declared.Finding.TheVariants as found
-use Rattle.rules.specs.declared.Filling.{Filling}
-use Rattle.rules.specs.declared.Filling.TheVariants as filling
-use Rattle.rules.specs.declared.Holding.{Holding}
-use Rattle.rules.specs.declared.Holding.TheVariants as holding
 
 -- a number, and up to four values beside it; a fifth is the reader's alone
 abbrev pub telling : ℕ → ℕ → ℕ → ℕ → ℕ → Told
@@ -80,20 +74,18 @@ told Granule = placed 21 0
 -- "a tick outside the plan or a stretch longer than the frame is 26"
 told (Beyond question) = questioned 26 question
 
+-- a call's answer, told as f says, or why it refuses
+abbrev pub told_by : {A : Type 0} → (A → Told) → Result A Refusal → Told
+told_by f (Ok a) = f a
+told_by f (Err r) = told r
+
 -- 0 where nothing tells against the call
-abbrev pub told_finding : Finding → Told
-told_finding found.Good = placed 0 0
-told_finding (found.Refused r) = told r
+abbrev pub told_done : Result (Unit {0}) Refusal → Told
+told_done = told_by (λ _. placed 0 0)
 
--- 0 and the frame, the length of the file or text, or how many counts or answers
-abbrev pub told_filling : Filling → Told
-told_filling (filling.Fills n) = placed 0 n
-told_filling (filling.Refused r) = told r
-
--- 0 and the count
-abbrev pub told_holding : Holding → Told
-told_holding (holding.Holds n) = placed 0 n
-told_holding (holding.Refused r) = told r
+-- 0 and the frame, the length of the file or text, how many counts or answers, or the count asked for
+abbrev pub told_count : Result ℕ Refusal → Told
+told_count = told_by (placed 0)
 
 -- a call tells t: what its rule permits as the answer, told so
 abbrev pub Tells : {A : Type 0} → (A → Told) → (A → Type 0) → Told → Type 0

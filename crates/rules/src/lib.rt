@@ -88,27 +88,6 @@ pub struct Terms {
     pub granule: usize,
 }
 
-// What is found of a call's tables or its plan: nothing tells against them, or a refusal.
-#[derive(Clone, Copy)]
-pub enum Finding {
-    Good,
-    Refused(Refusal),
-}
-
-// How many of a lent output's elements a call fills from its start on, or why it refuses.
-#[derive(Clone, Copy)]
-pub enum Filling {
-    Fills(usize),
-    Refused(Refusal),
-}
-
-// How many ticks a stretch holds, or why a call refuses.
-#[derive(Clone, Copy)]
-pub enum Holding {
-    Holds(usize),
-    Refused(Refusal),
-}
-
 pub fn good_edition(edition: usize) -> bool
     ensures { result ≡ good_edition edition }
 {
@@ -138,37 +117,39 @@ pub fn filed(edition: usize) -> Terms
     }
 }
 
-pub fn tell(r: Refusal) -> Told
-    ensures { result ≡ told r }
-{
-    match r {
-        Refusal::Short => numbered(1, 0),
-        Refusal::Edition => numbered(2, 0),
-        Refusal::Limits => numbered(3, 0),
-        Refusal::Offset => numbered(4, 0),
-        Refusal::Length => numbered(5, 0),
-        Refusal::Partition(place) => numbered(6, place),
-        Refusal::Task(place) => numbered(7, place),
-        Refusal::Tick(place) => numbered(8, place),
-        Refusal::Asked(question) => questioned(8, question),
-        Refusal::Shortfall {
-            partition,
-            start,
-            held,
-            wanted,
-        } => telling(9, partition, start, held, wanted),
-        Refusal::Unharmonic => numbered(10, 0),
-        Refusal::Want => numbered(11, 0),
-        Refusal::Output => numbered(12, 0),
-        Refusal::Rules => numbered(13, 0),
-        Refusal::Numbers => numbered(14, 0),
-        Refusal::Past => numbered(15, 0),
-        Refusal::Busy => numbered(16, 0),
-        Refusal::Full => numbered(17, 0),
-        Refusal::NoPlace(why) => explained(why),
-        Refusal::Counts => numbered(20, 0),
-        Refusal::Granule => numbered(21, 0),
-        Refusal::Beyond(question) => questioned(26, question),
+impl From<Refusal> for Told {
+    ghost from_gives = { λ r t. t ≡ told r };
+
+    fn from(r: Refusal) -> Told {
+        match r {
+            Refusal::Short => numbered(1, 0),
+            Refusal::Edition => numbered(2, 0),
+            Refusal::Limits => numbered(3, 0),
+            Refusal::Offset => numbered(4, 0),
+            Refusal::Length => numbered(5, 0),
+            Refusal::Partition(place) => numbered(6, place),
+            Refusal::Task(place) => numbered(7, place),
+            Refusal::Tick(place) => numbered(8, place),
+            Refusal::Asked(question) => questioned(8, question),
+            Refusal::Shortfall {
+                partition,
+                start,
+                held,
+                wanted,
+            } => telling(9, partition, start, held, wanted),
+            Refusal::Unharmonic => numbered(10, 0),
+            Refusal::Want => numbered(11, 0),
+            Refusal::Output => numbered(12, 0),
+            Refusal::Rules => numbered(13, 0),
+            Refusal::Numbers => numbered(14, 0),
+            Refusal::Past => numbered(15, 0),
+            Refusal::Busy => numbered(16, 0),
+            Refusal::Full => numbered(17, 0),
+            Refusal::NoPlace(why) => explained(why),
+            Refusal::Counts => numbered(20, 0),
+            Refusal::Granule => numbered(21, 0),
+            Refusal::Beyond(question) => questioned(26, question),
+        }
     }
 }
 

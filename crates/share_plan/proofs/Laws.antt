@@ -11,8 +11,7 @@ use Rattle.rules.specs.Walk.{pick}
 use Rattle.rules.specs.Limits.{most_partitions, most_tasks, longest, part_width, task_width, run_width}
 use Rattle.rules.specs.Terms.{good_edition, given, wanted}
 use Rattle.rules.specs.declared.Terms.{Terms}
-use Rattle.rules.specs.declared.Finding.{Finding}
-use Rattle.rules.specs.declared.Finding.TheVariants as found
+use Rattle.std.specs.Prelude.{Result, Ok, Err}
 use Rattle.tables.specs.Tables.{unless, GoodTables}
 use Rattle.rules.specs.declared.Refusal.{Refusal}
 use Rattle.rules.specs.declared.Refusal.TheVariants.{Edition, Limits, Granule, Partition, Task}
@@ -20,11 +19,9 @@ use Rattle.rules.proofs.Answers.{no_filling}
 use Rattle.tables.proofs.Chain.{unless_given}
 use Rattle.theory.specs.Harmonic.{frame, harmonic_plan}
 use Rattle.rules.proofs.Named.{listed-length}
-use Rattle.rules.specs.declared.Filling.{Filling}
 use Rattle.plan_check.specs.Check.{check_of}
 use Rattle.plan_build.specs.Build.{build_of}
 use Rattle.plan_build.proofs.Orders.{laid}
-use Rattle.rules.specs.declared.Filling.TheVariants.{Fills, Refused}
 use Rattle.rules.specs.Filling.{left_by}
 use Rattle.file_write.specs.Writer.{file_of, write_of}
 use Rattle.file_write.proofs.Writer.{fit}
@@ -77,15 +74,15 @@ runs_put_lem plan l o n h e p =
 
 -- a plan's ticks in the front of a table
 pub record Front (terms : Terms) (ps o : List ℕ) (h : ℕ) : Type 0 where
-  pub is_built : build_of terms ps longest ≡ Fills h
+  pub is_built : build_of terms ps longest ≡ Ok h
   pub is_frame : h ≡ frame ps
   pub low : h ≤ longest
   pub inside : h ≤ length o
   pub is_plan : take h o ≡ harmonic_plan (wanted terms ps) ps
 
-pub built_front : (terms : Terms) (ps l o : List ℕ) (r : Filling) (h : ℕ) → length l ≡ longest → r ≡ build_of terms ps (length l) → o ≡ left_by r (harmonic_plan (wanted terms ps) ps) l → r ≡ Fills h → Front terms ps o h
+pub built_front : (terms : Terms) (ps l o : List ℕ) (r : Result ℕ Refusal) (h : ℕ) → length l ≡ longest → r ≡ build_of terms ps (length l) → o ≡ left_by r (harmonic_plan (wanted terms ps) ps) l → r ≡ Ok h → Front terms ps o h
 built_front terms ps l o r h el er eo e =
-    let b : build_of terms ps longest ≡ Fills h = rw el at (sym er ∙ e) in
+    let b : build_of terms ps longest ≡ Ok h = rw el at (sym er ∙ e) in
     let a = laid terms ps longest h b in
     let n : length (harmonic_plan (wanted terms ps) ps) ≡ h = listed-length _ _ ∙ sym a.is_frame in
     let f : o ≡ harmonic_plan (wanted terms ps) ps ++ drop h l = rw e at eo in
@@ -98,12 +95,12 @@ built_front terms ps l o r h el er eo e =
     }
 
 -- what the writer of a built plan answers and leaves
-pub laid_out : {terms : Terms} {ps o : List ℕ} {h : ℕ} (ts out out' : List ℕ) (w : Filling) → Front terms ps o h → w ≡ checked_write terms h ps ts (take h o) (length out) → out' ≡ left_by w (file_of terms.edition h ps ts (runs_of (take h o))) out
+pub laid_out : {terms : Terms} {ps o : List ℕ} {h : ℕ} (ts out out' : List ℕ) (w : Result ℕ Refusal) → Front terms ps o h → w ≡ checked_write terms h ps ts (take h o) (length out) → out' ≡ left_by w (file_of terms.edition h ps ts (runs_of (take h o))) out
     → (w ≡ write_built_of terms ps ts (length out)) × (out' ≡ left_by w (plan_file terms ps ts) out)
 unfolding write_built_of plan_file
 laid_out {terms} {ps} {o} {h} ts out out' w f ew eo = (rw (f.is_built, ← f.is_plan) ew, rw (← f.is_plan, ← f.is_frame) eo)
 
-pub not_laid : (terms : Terms) (ps ts : List ℕ) (room : ℕ) (x : Refusal) → build_of terms ps longest ≡ Refused x → Refused x ≡ write_built_of terms ps ts room
+pub not_laid : (terms : Terms) (ps ts : List ℕ) (room : ℕ) (x : Refusal) → build_of terms ps longest ≡ Err x → Err x ≡ write_built_of terms ps ts room
 unfolding write_built_of
 not_laid terms ps ts room x e = rw e
 
@@ -112,50 +109,50 @@ not_laid terms ps ts room x e = rw e
 -- the tables are good, the plan is built and serves, the writer wrote it
 pub record Planned (terms : Terms) (ps ts : List ℕ) (room n : ℕ) : Type 0 where
   pub good : GoodTables terms longest ps ts
-  pub built : build_of terms ps longest ≡ Fills (frame ps)
-  pub serves : check_of terms (harmonic_plan (wanted terms ps) ps) ps ≡ found.Good
-  pub written : write_of terms.edition (frame ps) ps ts (plan_runs terms ps) room ≡ Fills n
+  pub built : build_of terms ps longest ≡ Ok (frame ps)
+  pub serves : check_of terms (harmonic_plan (wanted terms ps) ps) ps ≡ (Ok tt)
+  pub written : write_of terms.edition (frame ps) ps ts (plan_runs terms ps) room ≡ Ok n
 
-accepted : (c : Finding) (w : Filling) (n : ℕ) → unless Refused c w ≡ Fills n → (c ≡ found.Good) × (w ≡ Fills n)
-accepted found.Good w n e = (refl, e)
-accepted (found.Refused x) w n e = absurd (no_filling n x e)
+accepted : (c : Result (Unit {0}) Refusal) (w : Result ℕ Refusal) (n : ℕ) → unless Err c w ≡ Ok n → (c ≡ (Ok tt)) × (w ≡ Ok n)
+accepted (Ok _) w n e = (refl, e)
+accepted (Err x) w n e = absurd (no_filling n x e)
 
-pub planned_so : (terms : Terms) (ps ts : List ℕ) (room n : ℕ) → write_plan_of terms ps ts room ≡ Fills n → Planned terms ps ts room n
+pub planned_so : (terms : Terms) (ps ts : List ℕ) (room n : ℕ) → write_plan_of terms ps ts room ≡ Ok n → Planned terms ps ts room n
 unfolding write_plan_of write_built_of
 planned_so terms ps ts room n e =
-    let g = unless_given terms longest ps ts Refused (written_by (build_of terms ps longest) terms ps ts room) (Fills n) (λ i. no_filling n Edition) (no_filling n Limits) (λ g. no_filling n Granule) (λ k. no_filling n (Partition k)) (λ j. no_filling n (Task (j + 1))) e in
+    let g = unless_given terms longest ps ts Err (written_by (build_of terms ps longest) terms ps ts room) (Ok n) (λ i. no_filling n Edition) (no_filling n Limits) (λ g. no_filling n Granule) (λ k. no_filling n (Partition k)) (λ j. no_filling n (Task (j + 1))) e in
     building g.0 (build_of terms ps longest) refl g.1
   where
-    building : GoodTables terms longest ps ts → (b : Filling) → build_of terms ps longest ≡ b → written_by b terms ps ts room ≡ Fills n → Planned terms ps ts room n
-    building g (Fills h) f w =
+    building : GoodTables terms longest ps ts → (b : Result ℕ Refusal) → build_of terms ps longest ≡ b → written_by b terms ps ts room ≡ Ok n → Planned terms ps ts room n
+    building g (Ok h) f w =
         let a = laid terms ps longest h f in
         let c = accepted (check_of terms (harmonic_plan (wanted terms ps) ps) ps) (write_of terms.edition h ps ts (plan_runs terms ps) room) n w in
         record { good = g; built = rw a.is_frame at f; serves = c.0; written = rw a.is_frame at c.1 }
-    building g (Refused x) f w = absurd (no_filling n x w)
+    building g (Err x) f w = absurd (no_filling n x w)
 
 -- how long the file is
-pub file_fits : (terms : Terms) (ps ts : List ℕ) (room n : ℕ) → write_plan_of terms ps ts room ≡ Fills n → (n ≡ length (plan_file terms ps ts)) × (n ≤ room)
+pub file_fits : (terms : Terms) (ps ts : List ℕ) (room n : ℕ) → write_plan_of terms ps ts room ≡ Ok n → (n ≡ length (plan_file terms ps ts)) × (n ≤ room)
 unfolding plan_file
 file_fits terms ps ts room n e =
     let w = fit n terms.edition (frame ps) ps ts (plan_runs terms ps) room (planned_so terms ps ts room n e).written in
     (w.is_size ∙ sym (file-length terms.edition (frame ps) ps ts (plan_runs terms ps)), rw w.is_size w.room_left)
 
 -- the file put into the output, and the line of a refusal
-pub file_put : (terms : Terms) (ps ts out o : List ℕ) (w : Filling) (n : ℕ) → w ≡ write_plan_of terms ps ts (length out) → o ≡ left_by w (plan_file terms ps ts) out → w ≡ Fills n → Put out 0 (file_or_line terms ps ts (length out)) n o × (n ≤ max longest_line (length out))
+pub file_put : (terms : Terms) (ps ts out o : List ℕ) (w : Result ℕ Refusal) (n : ℕ) → w ≡ write_plan_of terms ps ts (length out) → o ≡ left_by w (plan_file terms ps ts) out → w ≡ Ok n → Put out 0 (file_or_line terms ps ts (length out)) n o × (n ≤ max longest_line (length out))
 unfolding file_or_line
 file_put terms ps ts out o w n ew eo e =
-    let q : write_plan_of terms ps ts (length out) ≡ Fills n = sym ew ∙ e in
+    let q : write_plan_of terms ps ts (length out) ≡ Ok n = sym ew ∙ e in
     let f = file_fits terms ps ts (length out) n q in
     let s = plan_file terms ps ts in
     let z : 0 + length s ≡ length s = omega arith in
     let g : o ≡ s ++ drop n out = rw e at eo in
     (rw q (record { place = omega (arith, f.0); bytes = g ∙ rw f.0 (sym (sets-eq s out 0 (omega arith) ∙ rw z)) }), omega arith)
 
-pub line_put : (terms : Terms) (ps ts out o : List ℕ) {m : List ℕ} {r : ℕ} (w : Filling) (x : Refusal) → w ≡ write_plan_of terms ps ts (length out) → o ≡ left_by w (plan_file terms ps ts) out → w ≡ Refused x
+pub line_put : (terms : Terms) (ps ts out o : List ℕ) {m : List ℕ} {r : ℕ} (w : Result ℕ Refusal) (x : Refusal) → w ≡ write_plan_of terms ps ts (length out) → o ≡ left_by w (plan_file terms ps ts) out → w ≡ Err x
     → Put o 0 (why_line x) r m → Put out 0 (file_or_line terms ps ts (length out)) r m
 unfolding file_or_line
 line_put terms ps ts out o w x ew eo e p =
-    let q : write_plan_of terms ps ts (length out) ≡ Refused x = sym ew ∙ e in
+    let q : write_plan_of terms ps ts (length out) ≡ Err x = sym ew ∙ e in
     let z : o ≡ out = rw e at eo in
     rw (q, ← z) p
 

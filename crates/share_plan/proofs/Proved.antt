@@ -12,7 +12,7 @@ use borrow.Author.Tests.{lt-ltb}
 use Rattle.rules.specs.Walk.{pick}
 use Rattle.rules.specs.Limits.{longest, longest_file}
 use Rattle.rules.specs.Table.{partitions}
-use Rattle.rules.specs.declared.Filling.{Filling}
+use Rattle.std.specs.Prelude.{Result, Ok, Err}
 use Rattle.rules.proofs.Sum.{le-or-lt}
 use Rattle.rules.specs.Terms.{given, granules, rule_in, wanted}
 use Rattle.rules.specs.declared.Terms.{Terms}
@@ -25,16 +25,13 @@ use Rattle.file_tables.proofs.Chain.{GoodFile, of_good, file_holds}
 use Rattle.theory.specs.Harmonic.{frame, all_wanted, planned, harmonic_plan}
 use Rattle.rules.proofs.Named.{listed-length}
 use Rattle.theory.proofs.Built.{harmonic_plan_good}
-use Rattle.rules.specs.declared.Finding.{Finding}
-use Rattle.rules.specs.declared.Finding.TheVariants as found
 use Rattle.plan_check.specs.Check.{check_of}
 use Rattle.plan_check.specs.Theorems.{FallsShort}
 use Rattle.plan_check.proofs.Answers.{check_serves, check_short, accepted_without}
 use Rattle.plan_build.specs.Build.{unharmonic, laid_of, build_of}
 use Rattle.plan_build.proofs.Answers.{built_serves, frame_exactly}
 use Rattle.plan_build.proofs.Orders.{counted-few, laid}
-use Rattle.rules.specs.declared.Filling.TheVariants.{Fills, Refused}
-use Rattle.rules.specs.Refusals.{told, told_finding, told_filling}
+use Rattle.rules.specs.Refusals.{told, told_done, told_count}
 use Rattle.rules.proofs.Known.{by_number, filling_as}
 use Rattle.share_text.specs.declared.Kind.TheVariants.{Partitions, Tasks}
 use Rattle.share_text.specs.declared.TableReading.{TableReading}
@@ -54,14 +51,14 @@ use Rattle.share_plan.specs.Theorems.{FileServes, Writable, FileExactly, FileInE
 use Rattle.share_plan.proofs.Laws.{planned_so, file_fits}
 
 -- a built plan is accepted by the checker, in edition 1
-serves : (terms : Terms) (ps : List ℕ) → build_of terms ps longest ≡ Fills (frame ps) → check_of (granules terms.granule) (harmonic_plan (wanted terms ps) ps) ps ≡ found.Good
+serves : (terms : Terms) (ps : List ℕ) → build_of terms ps longest ≡ Ok (frame ps) → check_of (granules terms.granule) (harmonic_plan (wanted terms ps) ps) ps ≡ (Ok tt)
 serves terms ps e =
     let out : List ℕ = replicate longest 0 in
     let s = built_serves terms ps out _ (frame ps) (rw (length-replicate {A = ℕ} longest 0) (sym e), refl) in
     rw (take_at (harmonic_plan (wanted terms ps) ps) (drop (frame ps) out) (frame ps) (listed-length (planned (wanted terms ps) ps (partitions ps)) (frame ps))) at s
 
 -- the same of any frame that is answered
-pub built_accepted : (terms : Terms) (ps : List ℕ) (h : ℕ) → build_of terms ps longest ≡ Fills h → check_of (granules terms.granule) (harmonic_plan (wanted terms ps) ps) ps ≡ found.Good
+pub built_accepted : (terms : Terms) (ps : List ℕ) (h : ℕ) → build_of terms ps longest ≡ Ok h → check_of (granules terms.granule) (harmonic_plan (wanted terms ps) ps) ps ≡ (Ok tt)
 built_accepted terms ps h e = serves terms ps (rw (laid terms ps longest h e).is_frame at e)
 
 file_serves : FileServes
@@ -69,7 +66,7 @@ unfolding plan_file
 file_serves terms ps ts room n e =
     let k = planned_so terms ps ts room n e in
     let out : List ℕ = replicate room 0 in
-    let w : write_of terms.edition (frame ps) ps ts (plan_runs terms ps) (length out) ≡ Fills n = rw (length-replicate {A = ℕ} room 0) k.written in
+    let w : write_of terms.edition (frame ps) ps ts (plan_runs terms ps) (length out) ≡ Ok n = rw (length-replicate {A = ℕ} room 0) k.written in
     let r = rw (left-file terms.edition (frame ps) ps ts (plan_runs terms ps) out n w) at (read_written terms.edition (frame ps) ps ts (plan_runs terms ps) out n w) in
     let back : ticks_of (file.table_of (file_of terms.edition (frame ps) ps ts (plan_runs terms ps)) body.Runs) ≡ harmonic_plan (wanted terms ps) ps = rw r.3 (ticks_back (harmonic_plan (wanted terms ps) ps)) in
     let s = k.serves in
@@ -78,7 +75,7 @@ file_serves terms ps ts room n e =
 -- ---- when a file comes out
 
 -- the writer takes every plan of the builder
-good-file : (terms : Terms) (ps ts : List ℕ) → GoodTables terms longest ps ts → build_of terms ps longest ≡ Fills (frame ps) → GoodFile terms.edition (frame ps) ps ts (plan_runs terms ps)
+good-file : (terms : Terms) (ps ts : List ℕ) → GoodTables terms longest ps ts → build_of terms ps longest ≡ Ok (frame ps) → GoodFile terms.edition (frame ps) ps ts (plan_runs terms ps)
 good-file terms ps ts g b =
     let w = harmonic_plan_good (wanted terms ps) ps (counted-few ps ts g).0 g.parts in
     let s = (check_serves (granules terms.granule) (harmonic_plan (wanted terms ps) ps) ps).0 (serves terms ps b) in
@@ -91,24 +88,24 @@ good-file terms ps ts g b =
     }
 
 -- the tables are good, and the ticks enough: then a plan is built
-built_so : (terms : Terms) (ps ts : List ℕ) (room n : ℕ) → Writable terms ps ts room n → build_of terms ps longest ≡ Fills (frame ps)
+built_so : (terms : Terms) (ps ts : List ℕ) (room n : ℕ) → Writable terms ps ts room n → build_of terms ps longest ≡ Ok (frame ps)
 built_so terms ps ts room n (g, h, l, e, m) =
     let f = harmonic_plan_good (wanted terms ps) ps (counted-few ps ts g).0 g.parts in
     filling_as _ _ ((frame_exactly terms ps longest (frame ps)).1 (without_tasks longest ps ts g, h, l, refl, f.2))
 
-only_then : (terms : Terms) (ps ts : List ℕ) (room n : ℕ) → write_plan_of terms ps ts room ≡ Fills n → Writable terms ps ts room n × (check_of terms (harmonic_plan (wanted terms ps) ps) ps ≡ found.Good)
+only_then : (terms : Terms) (ps ts : List ℕ) (room n : ℕ) → write_plan_of terms ps ts room ≡ Ok n → Writable terms ps ts room n × (check_of terms (harmonic_plan (wanted terms ps) ps) ps ≡ (Ok tt))
 only_then terms ps ts room n e =
     let k = planned_so terms ps ts room n e in
-    let b = (frame_exactly terms ps longest (frame ps)).0 (ap told_filling k.built) in
+    let b = (frame_exactly terms ps longest (frame ps)).0 (ap told_count k.built) in
     let w = fit n terms.edition (frame ps) ps ts (plan_runs terms ps) room k.written in
     ((k.good, b.1, b.2, w.is_size, rw w.is_size w.room_left), k.serves)
 
-then_so : (terms : Terms) (ps ts : List ℕ) (room n : ℕ) → Writable terms ps ts room n → check_of terms (harmonic_plan (wanted terms ps) ps) ps ≡ found.Good → write_plan_of terms ps ts room ≡ Fills n
+then_so : (terms : Terms) (ps ts : List ℕ) (room n : ℕ) → Writable terms ps ts room n → check_of terms (harmonic_plan (wanted terms ps) ps) ps ≡ (Ok tt) → write_plan_of terms ps ts room ≡ Ok n
 unfolding write_plan_of write_built_of
 then_so terms ps ts room n q c =
     let b = built_so terms ps ts room n q in
     let w = write-all terms.edition (frame ps) ps ts (plan_runs terms ps) room (of_good terms.edition (frame ps) ps ts (plan_runs terms ps) (good-file terms ps ts q.0 b)) n q.3 q.4 in
-    unless_good_lem terms longest ps ts Refused _ q.0 ∙ rw (b, c) (sym w)
+    unless_good_lem terms longest ps ts Err _ q.0 ∙ rw (b, c) (sym w)
 
 file_exactly : FileExactly
 file_exactly terms ps ts room n = (
@@ -129,16 +126,16 @@ file_in_edition_1 g ps ts room n = (
 -- ---- 9 says what is short
 
 -- of all refusals of a planner only the checker's is 9
-abbrev NotNine : Filling → Type 0
-NotNine a = ¬ ((told_filling a).number ≡ 9)
+abbrev NotNine : Result ℕ Refusal → Type 0
+NotNine a = ¬ ((told_count a).number ≡ 9)
 
 build_not_9 : (terms : Terms) (ps : List ℕ) → NotNine (build_of terms ps longest)
 unfolding build_of laid_of
 build_not_9 terms ps =
-    unless-parts_hold terms longest ps NotNine Refused _ (λ i q. absurd (omega arith)) (λ q. absurd (omega arith)) (λ g q. absurd (omega arith)) (λ k q. absurd (omega arith))
+    unless-parts_hold terms longest ps NotNine Err _ (λ i q. absurd (omega arith)) (λ q. absurd (omega arith)) (λ g q. absurd (omega arith)) (λ k q. absurd (omega arith))
     (in_order (unharmonic ps) (ltb (frame ps) (all_wanted (wanted terms ps) ps (frame ps))) (ltb longest (frame ps)))
   where
-    in_order : (a b c : Bool) → NotNine (pick a (Refused Unharmonic) (pick b (Refused Want) (pick c (Refused Output) (Fills (frame ps)))))
+    in_order : (a b c : Bool) → NotNine (pick a (Err Unharmonic) (pick b (Err Want) (pick c (Err Output) (Ok (frame ps)))))
     in_order true b c q = absurd (omega arith)
     in_order false true c q = absurd (omega arith)
     in_order false false true q = absurd (omega arith)
@@ -147,10 +144,10 @@ build_not_9 terms ps =
 write-not_9 : (i frame : ℕ) (ps ts rs : List ℕ) (room : ℕ) → NotNine (write_of i frame ps ts rs room)
 unfolding write_of
 write-not_9 i frame ps ts rs room =
-    file_holds i frame ps ts rs NotNine Refused _ (λ e q. absurd (omega arith)) (λ q. absurd (omega arith)) (λ k q. absurd (omega arith)) (λ j q. absurd (omega arith)) (λ r q. absurd (omega arith))
+    file_holds i frame ps ts rs NotNine Err _ (λ e q. absurd (omega arith)) (λ q. absurd (omega arith)) (λ k q. absurd (omega arith)) (λ j q. absurd (omega arith)) (λ r q. absurd (omega arith))
     (last (ltb room (size_for ps ts rs)))
   where
-    last : (b : Bool) → NotNine (pick b (Refused Output) (Fills (size_for ps ts rs)))
+    last : (b : Bool) → NotNine (pick b (Err Output) (Ok (size_for ps ts rs)))
     last true q = absurd (omega arith)
     last false q = absurd (omega arith)
 
@@ -159,23 +156,23 @@ ShortBy terms ps r = FallsShort (rule_in terms) (wanted terms ps) (harmonic_plan
 
 short_in_edition : ShortInEdition
 unfolding write_plan_of write_built_of
-short_in_edition terms ps ts room r e nine = by_tables (unless_cases terms longest ps ts Refused (written_by (build_of terms ps longest) terms ps ts room) (Refused r) e)
+short_in_edition terms ps ts room r e nine = by_tables (unless_cases terms longest ps ts Err (written_by (build_of terms ps longest) terms ps ts room) (Err r) e)
   where
-    same : (x : Refusal) → ◌≡◌ {A = Filling} (Refused x) (Refused r) → x ≡ r
+    same : (x : Refusal) → ◌≡◌ {A = Result ℕ Refusal} (Err x) (Err r) → x ≡ r
     same x e = cc
 
-    by_check : (c : Finding) → check_of terms (harmonic_plan (wanted terms ps) ps) ps ≡ c → (w : Filling) → NotNine w → unless Refused c w ≡ Refused r → ShortBy terms ps r
-    by_check found.Good f w h e = absurd (h (ap (λ (a : Filling). (told_filling a).number) e ∙ nine))
-    by_check (found.Refused x) f w h e =
-        let z : check_of terms (harmonic_plan (wanted terms ps) ps) ps ≡ found.Refused r = f ∙ ap found.Refused (same x e) in
+    by_check : (c : Result (Unit {0}) Refusal) → check_of terms (harmonic_plan (wanted terms ps) ps) ps ≡ c → (w : Result ℕ Refusal) → NotNine w → unless Err c w ≡ Err r → ShortBy terms ps r
+    by_check (Ok _) f w h e = absurd (h (ap (λ (a : Result ℕ Refusal). (told_count a).number) e ∙ nine))
+    by_check (Err x) f w h e =
+        let z : check_of terms (harmonic_plan (wanted terms ps) ps) ps ≡ Err r = f ∙ ap Err (same x e) in
         let n = by_number r 9 (λ q. absurd (omega arith)) nine in
-        check_short terms (harmonic_plan (wanted terms ps) ps) ps (told r).first (told r).second (told r).third (told r).fourth (ap told_finding (z ∙ ap found.Refused n))
+        check_short terms (harmonic_plan (wanted terms ps) ps) ps (told r).first (told r).second (told r).third (told r).fourth (ap told_done (z ∙ ap Err n))
 
-    by_build : (b : Filling) → NotNine b → written_by b terms ps ts room ≡ Refused r → ShortBy terms ps r
-    by_build (Fills h) m e = by_check (check_of terms (harmonic_plan (wanted terms ps) ps) ps) refl (write_of terms.edition h ps ts (plan_runs terms ps) room) (write-not_9 terms.edition h ps ts (plan_runs terms ps) room) e
-    by_build (Refused x) m e = absurd (m (ap (λ (y : Refusal). (told y).number) (same x e) ∙ nine))
+    by_build : (b : Result ℕ Refusal) → NotNine b → written_by b terms ps ts room ≡ Err r → ShortBy terms ps r
+    by_build (Ok h) m e = by_check (check_of terms (harmonic_plan (wanted terms ps) ps) ps) refl (write_of terms.edition h ps ts (plan_runs terms ps) room) (write-not_9 terms.edition h ps ts (plan_runs terms ps) room) e
+    by_build (Err x) m e = absurd (m (ap (λ (y : Refusal). (told y).number) (same x e) ∙ nine))
 
-    by_tables : (GoodTables terms longest ps ts × (written_by (build_of terms ps longest) terms ps ts room ≡ Refused r)) ⊎ ((x : Refusal) × (tables_of terms longest ps ts ≡ found.Refused x) × (Refused x ≡ Refused r)) → ShortBy terms ps r
+    by_tables : (GoodTables terms longest ps ts × (written_by (build_of terms ps longest) terms ps ts room ≡ Err r)) ⊎ ((x : Refusal) × (tables_of terms longest ps ts ≡ Err x) × (Err x ≡ Err r)) → ShortBy terms ps r
     by_tables (inl (g, f)) = by_build (build_of terms ps longest) (build_not_9 terms ps) f
     by_tables (inr (x, f, g)) =
         absurd (refusals terms longest ps ts (λ y. ¬ ((told y).number ≡ 9)) (λ i q. absurd (omega arith)) (λ q. absurd (omega arith)) (λ g q. absurd (omega arith)) (λ k q. absurd (omega arith)) (λ j q. absurd (omega arith)) x f
@@ -198,9 +195,9 @@ answer_room i t room h = rw (built terms (records_of Partitions t) (records_of T
     terms : Terms
     terms = given i (granule_of t)
 
-    built : (terms : Terms) (ps ts : List ℕ) (b : Filling) → written_by b terms ps ts room ≡ written_by b terms ps ts longest_file
-    built terms ps ts (Fills n) = ap (λ (w : Filling). unless Refused (check_of terms (harmonic_plan (wanted terms ps) ps) ps) w) (write-room terms.edition n ps ts (plan_runs terms ps) room h)
-    built terms ps ts (Refused x) = refl
+    built : (terms : Terms) (ps ts : List ℕ) (b : Result ℕ Refusal) → written_by b terms ps ts room ≡ written_by b terms ps ts longest_file
+    built terms ps ts (Ok n) = ap (λ (w : Result ℕ Refusal). unless Err (check_of terms (harmonic_plan (wanted terms ps) ps) ps) w) (write-room terms.edition n ps ts (plan_runs terms ps) room h)
+    built terms ps ts (Err x) = refl
 
 -- ---- one outcome
 

@@ -1,5 +1,5 @@
 -- What the program writes for a share table: the plan file, or one line. Assumes nothing.
-use Rattle.std.specs.Prelude.{ℕ, ◌*◌, List, ◌++◌, eqb, length}
+use Rattle.std.specs.Prelude.{ℕ, ◌*◌, List, ◌++◌, eqb, length, Result, Ok, Err}
 use Rattle.rules.specs.Walk.{pick}
 use Rattle.output.specs.Put.{Put}
 use Rattle.rules.specs.Limits.{most_partitions, most_tasks, longest, part_width, task_width}
@@ -9,10 +9,8 @@ use Rattle.rules.specs.Refusals.{told}
 use Rattle.rules.specs.declared.Refusal.{Refusal}
 use Rattle.tables.specs.Tables.{edition_judged, tables_of, unless}
 use Rattle.theory.specs.Harmonic.{frame, harmonic_plan}
-use Rattle.rules.specs.declared.Filling.{Filling}
 use Rattle.plan_check.specs.Check.{check_of}
 use Rattle.plan_build.specs.Build.{build_of}
-use Rattle.rules.specs.declared.Filling.TheVariants.{Fills, Refused}
 use Rattle.file_write.specs.Writer.{file_of, write_of}
 use Rattle.file_runs.specs.Ticks.{runs_of}
 use Rattle.output.specs.Text.{bytes}
@@ -33,20 +31,20 @@ unfoldable pub plan_file : Terms → List ℕ → List ℕ → List ℕ
 plan_file terms ps ts = file_of terms.edition (frame ps) ps ts (plan_runs terms ps)
 
 -- a plan of h ticks is checked by the edition's rule, then written: document 02, ask 6, 9 where it falls short, else what the writer answers
-abbrev pub checked_write : Terms → ℕ → List ℕ → List ℕ → List ℕ → ℕ → Filling
-checked_write terms h ps ts plan room = unless Refused (check_of terms plan ps) (write_of terms.edition h ps ts (runs_of plan) room)
+abbrev pub checked_write : Terms → ℕ → List ℕ → List ℕ → List ℕ → ℕ → Result ℕ Refusal
+checked_write terms h ps ts plan room = unless Err (check_of terms plan ps) (write_of terms.edition h ps ts (runs_of plan) room)
 
 -- that of a built plan, and the builder's refusal
-abbrev pub written_by : Filling → Terms → List ℕ → List ℕ → ℕ → Filling
-written_by (Fills h) terms ps ts room = checked_write terms h ps ts (harmonic_plan (wanted terms ps) ps) room
-written_by (Refused r) terms ps ts room = Refused r
+abbrev pub written_by : Result ℕ Refusal → Terms → List ℕ → List ℕ → ℕ → Result ℕ Refusal
+written_by (Ok h) terms ps ts room = checked_write terms h ps ts (harmonic_plan (wanted terms ps) ps) room
+written_by (Err r) terms ps ts room = Err r
 
-unfoldable pub write_built_of : Terms → List ℕ → List ℕ → ℕ → Filling
+unfoldable pub write_built_of : Terms → List ℕ → List ℕ → ℕ → Result ℕ Refusal
 write_built_of terms ps ts room = written_by (build_of terms ps longest) terms ps ts room
 
 -- the file's length or its refusal, for an output of room bytes: 2, 3, 21, 6, 7, then 10 and 11, then 9, then 12
-unfoldable pub write_plan_of : Terms → List ℕ → List ℕ → ℕ → Filling
-write_plan_of terms ps ts room = unless Refused (tables_of terms longest ps ts) (write_built_of terms ps ts room)
+unfoldable pub write_plan_of : Terms → List ℕ → List ℕ → ℕ → Result ℕ Refusal
+write_plan_of terms ps ts room = unless Err (tables_of terms longest ps ts) (write_built_of terms ps ts room)
 
 -- 9's line says what is short: "partition, start, held, wanted"
 unfoldable pub short_line : ℕ → ℕ → ℕ → ℕ → List ℕ
@@ -59,9 +57,9 @@ unfoldable pub why_line : Refusal → List ℕ
 why_line r = pick (eqb (told r).number 9) (short_line (told r).first (told r).second (told r).third (told r).fourth) (refused_line r)
 
 -- the file, or the refusal's line
-abbrev pub file_or : Filling → List ℕ → List ℕ
-file_or (Fills n) file = file
-file_or (Refused r) file = why_line r
+abbrev pub file_or : Result ℕ Refusal → List ℕ → List ℕ
+file_or (Ok n) file = file
+file_or (Err r) file = why_line r
 
 unfoldable pub file_or_line : Terms → List ℕ → List ℕ → ℕ → List ℕ
 file_or_line terms ps ts room = file_or (write_plan_of terms ps ts room) (plan_file terms ps ts)

@@ -1,5 +1,5 @@
 -- What is promised of the planner beyond its contract. Each statement's proof is a field of `Proved`. Assumes nothing.
-use Rattle.std.specs.Prelude.{ℕ, ◌≤◌, ◌<◌, ◌≡◌, ◌↔◌, List, length, take}
+use Rattle.std.specs.Prelude.{ℕ, ◌≤◌, ◌<◌, ◌≡◌, ◌↔◌, List, length, take, Ok, Err}
 use Rattle.rules.specs.Limits.{longest, longest_file}
 use Rattle.rules.specs.Table.{partitions, tasks}
 use Rattle.rules.specs.Terms.{granules, filed, rule_in, wanted}
@@ -9,10 +9,8 @@ use Rattle.theory.specs.Plan.{Serves}
 use Rattle.theory.specs.Harmonic.{Harmonic, frame, all_wanted, harmonic_plan}
 use Rattle.rules.specs.Refusals.{told}
 use Rattle.rules.specs.declared.Refusal.{Refusal}
-use Rattle.rules.specs.declared.Finding.TheVariants.{Good}
 use Rattle.plan_check.specs.Check.{check_of}
 use Rattle.plan_check.specs.Theorems.{FallsShort}
-use Rattle.rules.specs.declared.Filling.TheVariants.{Fills, Refused}
 use Rattle.file_read.specs.declared.Reading.TheVariants.{Contents}
 use Rattle.file_read.specs.declared.Body.TheVariants as body
 use Rattle.file_read.specs.Reader as file
@@ -27,14 +25,14 @@ use Rattle.share_plan.specs.Answer.{plan_runs, plan_file, write_plan_of, answer_
 -- and with 1: so a listing, which keeps g = 1, never refuses it
 abbrev pub FileServes : Type 0
 FileServes =
-    (terms : Terms) (ps ts : List ℕ) (room n : ℕ) → write_plan_of terms ps ts room ≡ Fills n
+    (terms : Terms) (ps ts : List ℕ) (room n : ℕ) → write_plan_of terms ps ts room ≡ Ok n
     → (length (plan_file terms ps ts) ≡ n)
     × (file.read_of (plan_file terms ps ts) ≡ Contents terms.edition (frame ps) (partitions ps) (tasks ts) (runs (plan_runs terms ps)))
     × (file.table_of (plan_file terms ps ts) body.Partitions ≡ ps)
     × (file.table_of (plan_file terms ps ts) body.Tasks ≡ ts)
     × (ticks_of (file.table_of (plan_file terms ps ts) body.Runs) ≡ harmonic_plan (wanted terms ps) ps)
-    × (check_of terms (ticks_of (file.table_of (plan_file terms ps ts) body.Runs)) (file.table_of (plan_file terms ps ts) body.Partitions) ≡ Good)
-    × (check_of (filed terms.edition) (ticks_of (file.table_of (plan_file terms ps ts) body.Runs)) (file.table_of (plan_file terms ps ts) body.Partitions) ≡ Good)
+    × (check_of terms (ticks_of (file.table_of (plan_file terms ps ts) body.Runs)) (file.table_of (plan_file terms ps ts) body.Partitions) ≡ (Ok tt))
+    × (check_of (filed terms.edition) (ticks_of (file.table_of (plan_file terms ps ts) body.Runs)) (file.table_of (plan_file terms ps ts) body.Partitions) ≡ (Ok tt))
 
 -- the records are good, the cycles harmonic, the ticks enough, and the output of room bytes is long enough for the file's n
 abbrev pub Writable : Terms → List ℕ → List ℕ → ℕ → ℕ → Type 0
@@ -45,16 +43,16 @@ Writable terms ps ts room n =
 abbrev pub FileExactly : Type 0
 FileExactly =
     (terms : Terms) (ps ts : List ℕ) (room n : ℕ)
-    → (write_plan_of terms ps ts room ≡ Fills n) ↔ (Writable terms ps ts room n × Serves (rule_in terms) (wanted terms ps) (harmonic_plan (wanted terms ps) ps) ps)
+    → (write_plan_of terms ps ts room ≡ Ok n) ↔ (Writable terms ps ts room n × Serves (rule_in terms) (wanted terms ps) (harmonic_plan (wanted terms ps) ps) ps)
 
 -- in edition 1 it always does: "What the harmonic rule writes is always accepted"
 abbrev pub FileInEdition1 : Type 0
-FileInEdition1 = (g : ℕ) (ps ts : List ℕ) (room n : ℕ) → (write_plan_of (granules g) ps ts room ≡ Fills n) ↔ Writable (granules g) ps ts room n
+FileInEdition1 = (g : ℕ) (ps ts : List ℕ) (room n : ℕ) → (write_plan_of (granules g) ps ts room ≡ Ok n) ↔ Writable (granules g) ps ts room n
 
 -- document 02, ask 6: 9 where the built plan falls short by the edition's rule, with what is short
 abbrev pub ShortInEdition : Type 0
 ShortInEdition =
-    (terms : Terms) (ps ts : List ℕ) (room : ℕ) (r : Refusal) → write_plan_of terms ps ts room ≡ Refused r → (told r).number ≡ 9
+    (terms : Terms) (ps ts : List ℕ) (room : ℕ) (r : Refusal) → write_plan_of terms ps ts room ≡ Err r → (told r).number ≡ 9
     → FallsShort (rule_in terms) (wanted terms ps) (harmonic_plan (wanted terms ps) ps) ps (told r).first (told r).second (told r).third (told r).fourth
 
 -- the answer to a text is that to its first bytes, where these are more than a text may have: a program that reads one byte more than the longest text

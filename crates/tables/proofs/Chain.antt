@@ -1,6 +1,6 @@
 -- The chain of table refusals: its order at the numbers that the code holds, and that nothing is refused exactly where the tables are good. Assumes nothing.
 use Prim.Native.Nat.{ℕ, ◌+◌, ◌/◌, ◌%◌, ◌≤◌, ◌<◌}
-use mathlib.Core.Path.{◌≡◌, refl, sym, subst, ◌∙◌}
+use mathlib.Core.Path.{◌≡◌, refl, sym, subst, ap, ◌∙◌}
 use mathlib.Core.Logic.{◌↔◌, ◌⊎◌, inl, inr, ⊎_elim}
 use mathlib.Core.Bool.{Bool, true, false, not, true≢false, ◌&&◌}
 use mathlib.Core.List.{List, []}
@@ -14,13 +14,12 @@ use Rattle.rules.specs.Walk.{pick, first, fails, Every}
 use Rattle.rules.specs.Terms.{good_edition, good_granule, granules, filed}
 use Rattle.rules.specs.declared.Terms.{Terms}
 use Rattle.rules.specs.Table.{partitions, cycle, num, den, tasks, good_share, good_part, good_task}
-use Rattle.tables.specs.Inner.{first_bad_part, first_bad_task, first_bad_tick}
+use Rattle.tables.specs.Inner.{first_bad_part, first_bad_task, first_bad_tick, Lowest}
 use Rattle.tables.specs.Tables.{counted_in, within_limits, lowest, unless, edition_judged, granule_judged, records_judged, in_edition, tables_of, ticks_judged, GoodTables}
 use Rattle.rules.specs.declared.Refusal.{Refusal}
 use Rattle.rules.specs.declared.Refusal.TheVariants.{Edition, Limits, Granule, Partition, Task, Tick}
-use Rattle.rules.specs.declared.Finding.{Finding}
-use Rattle.rules.specs.declared.Finding.TheVariants.{Good, Refused}
-use Rattle.rules.proofs.First.{first_found, first_done, first_at, first-before, every_first, first_every}
+use Rattle.std.specs.Prelude.{Result, Ok, Err, MatchResult, IsErrAnd}
+use Rattle.rules.proofs.First.{first_found, first_done, first_at, first-before, first-none, every_first, first_every}
 use Rattle.rules.proofs.Tests.{pick_first, pick_second, and_parts, good_share_lem}
 
 -- ---- the limits
@@ -123,24 +122,31 @@ without_tasks f ps ts a = record {
 
 -- ---- the order
 
-pub not_good : (r : Refusal) → ¬ (◌≡◌ {A = Finding} (Refused r) Good)
+pub not_good : (r : Refusal) → ¬ (◌≡◌ {A = Result (Unit {0}) Refusal} (Err r) (Ok tt))
 not_good r e = let z : ◌≡◌ {A = ℕ} 0 1 = cc in absurd (omega arith)
 
 -- a find and what follows it, as one choice
 pub found_then : {A : Type 0} (b : Bool) (refused : Refusal → A) (r : Refusal) (next : A)
-    → unless refused (pick b (Refused r) Good) next ≡ pick b (refused r) next
+    → unless refused (pick b (Err r) (Ok tt)) next ≡ pick b (refused r) next
 found_then true refused r next = refl
 found_then false refused r next = refl
 
 -- both are good, where nothing tells against the call
-pub both_good : (f next : Finding) → unless Refused f next ≡ Good → (f ≡ Good) × (next ≡ Good)
-both_good Good next e = (refl, e)
-both_good (Refused r) next e = absurd (not_good r e)
+pub both_good : (f next : Result (Unit {0}) Refusal) → unless Err f next ≡ (Ok tt) → (f ≡ (Ok tt)) × (next ≡ (Ok tt))
+both_good (Ok _) next e = (refl, e)
+both_good (Err r) next e = absurd (not_good r e)
+
+-- a `?`: the call ends with what was found, or goes on
+pub found_err : {A : Type 0} (f : Result (Unit {0}) Refusal) (r : Refusal) (next : Result A Refusal) → f ≡ Err r → Err r ≡ unless Err f next
+found_err f r next e = rw e
+
+pub found_ok : {A : Type 0} (f : Result (Unit {0}) Refusal) (next : Result A Refusal) → f ≡ (Ok tt) → next ≡ unless Err f next
+found_ok f next e = rw e
 
 -- one behind the other: what follows both follows the second
-pub in_turn : {A : Type 0} (refused : Refusal → A) (f g : Finding) (next : A) → unless refused (unless Refused f g) next ≡ unless refused f (unless refused g next)
-in_turn refused Good g next = refl
-in_turn refused (Refused r) g next = refl
+pub in_turn : {A : Type 0} (refused : Refusal → A) (f g : Result (Unit {0}) Refusal) (next : A) → unless refused (unless Err f g) next ≡ unless refused f (unless refused g next)
+in_turn refused (Ok _) g next = refl
+in_turn refused (Err r) g next = refl
 
 -- what is no refusal of the lowest place comes behind good records
 module _ (refusal : ℕ → Refusal) (good : ℕ → Bool) (n : ℕ) where
@@ -155,35 +161,47 @@ module _ (refusal : ℕ → Refusal) (good : ℕ → Bool) (n : ℕ) where
       (first_every good n (ltb-false _ _ w.0), w.1)
 
   -- a loop's find and its end
-  pub lowest-found : (k : ℕ) → k < n → first (fails good) k ≡ k → fails good k ≡ true → Refused (refusal (k + 1)) ≡ lowest refusal good n
+  pub lowest-found : (k : ℕ) → k < n → first (fails good) k ≡ k → fails good k ≡ true → Err (refusal (k + 1)) ≡ lowest refusal good n
   lowest-found k l e h = rw (first_found (fails good) n k l e h, lt-ltb k n l)
 
-  pub lowest_end : (k : ℕ) → k ≤ n → n ≤ k → first (fails good) k ≡ k → Good ≡ lowest refusal good n
+  pub lowest_end : (k : ℕ) → k ≤ n → n ≤ k → first (fails good) k ≡ k → (Ok tt) ≡ lowest refusal good n
   lowest_end k h l e = rw (first_done (fails good) n k h l e, le-ltb n n (omega arith))
 
   -- a refusal is that of the first which isn't good: it fails, and each one before it passes
-  pub lowest_at : (r : Refusal) → lowest refusal good n ≡ Refused r
+  pub lowest_at : (r : Refusal) → lowest refusal good n ≡ Err r
       → (k : ℕ) × (r ≡ refusal (k + 1)) × (k < n) × (good k ≡ false) × ((j : ℕ) → j < k → good j ≡ true)
   unfolding fails
   lowest_at r e =
       let k = first (fails good) n in
-      let a = pick_first (ltb k n) (Refused at_first) Good (Refused r) (λ q. not_good r (sym q)) e in
+      let a = pick_first (ltb k n) (Err at_first) (Ok tt) (Err r) (λ q. not_good r (sym q)) e in
       let z : at_first ≡ r = cc a.1 in
       let l : k < n = ltb-true k n a.0 in
       (k, sym z, l, not-true (good k) (first_at (fails good) n l), λ j h. not-false (good j) (first-before (fails good) n j h))
 
-  pub lowest-good : lowest refusal good n ≡ Good → Every good n
-  lowest-good e = first_every good n (ltb-false _ _ (pick_second (ltb (first (fails good) n) n) (Refused at_first) Good Good (not_good at_first) e).0)
+  pub lowest-good : lowest refusal good n ≡ (Ok tt) → Every good n
+  lowest-good e = first_every good n (ltb-false _ _ (pick_second (ltb (first (fails good) n) n) (Err at_first) (Ok tt) (Ok tt) (not_good at_first) e).0)
 
-  pub good-lowest : Every good n → lowest refusal good n ≡ Good
+  pub good-lowest : Every good n → lowest refusal good n ≡ (Ok tt)
   good-lowest h = rw (every_first good n h, le-ltb n n (omega arith))
+
+-- the walk over n records, each of which answers whether it is good, told as the refusal of the lowest that isn't
+pub lowest-told :
+    (refusal : ℕ → Refusal) (good : ℕ → Bool) (n : ℕ) {Answers : ℕ → Bool → Type 0} {Tells : ℕ → Refusal → Type 0} (walked : Result (Unit {0}) ℕ) {z : Result (Unit {0}) Refusal}
+    → Lowest Answers n walked → MatchResult walked (λ x. z ≡ Ok x) (λ place. IsErrAnd z (Tells place))
+    → ((k : ℕ) (b : Bool) → Answers k b → b ≡ good k) → ((place : ℕ) (r : Refusal) → Tells place r → r ≡ refusal place) → z ≡ lowest refusal good n
+unfolding fails Lowest
+lowest-told refusal good n (Ok u) h e answers tells = e ∙ sym (good-lowest refusal good n (λ k l. sym (answers k true (h k l))))
+lowest-told refusal good n (Err place) {z = Ok u} (k, p, l, f, h) e answers tells = absurd e
+lowest-told refusal good n (Err place) {z = Err r} (k, p, l, f, h) e answers tells =
+    let w : first (fails good) k ≡ k = first-none (fails good) k (λ j m. ap not (sym (answers j true (h j m)))) in
+    let q : r ≡ refusal (k + 1) = tells place r e ∙ ap refusal p in ap Err q ∙ lowest-found refusal good n k l w (ap not (sym (answers k false f)))
 
 -- 8 of a plan's ticks
 module _ (plan ps : List ℕ) (t : ℕ) (et : t ≡ first_bad_tick (partitions ps) plan) where
-  pub ticks_8 : t < length plan → Refused (Tick (t + 1)) ≡ ticks_judged plan ps
+  pub ticks_8 : t < length plan → Err (Tick (t + 1)) ≡ ticks_judged plan ps
   ticks_8 h = rw (← et, lt-ltb t (length plan) h)
 
-  pub ticks-good : length plan ≤ t → Good ≡ ticks_judged plan ps
+  pub ticks-good : length plan ≤ t → (Ok tt) ≡ ticks_judged plan ps
   ticks-good h = rw (← et, le-ltb t (length plan) h)
 
 module _ (terms : Terms) (frame : ℕ) (ps ts : List ℕ) where
@@ -196,7 +214,7 @@ module _ (terms : Terms) (frame : ℕ) (ps ts : List ℕ) where
   abbrev good-edition : Bool
   good-edition = good_edition terms.edition
 
-  pub tables_2 : good-edition ≡ false → Refused Edition ≡ tables_of terms frame ps ts
+  pub tables_2 : good-edition ≡ false → Err Edition ≡ tables_of terms frame ps ts
   unfolding tables_of
   tables_2 e = rw e
 
@@ -204,42 +222,32 @@ module _ (terms : Terms) (frame : ℕ) (ps ts : List ℕ) where
   unfolding tables_of
   tables_on e = rw e
 
-  pub tables_3 : within_all ≡ false → Refused Limits ≡ in_edition terms frame ps ts
+  pub tables_3 : within_all ≡ false → Err Limits ≡ in_edition terms frame ps ts
   unfolding in_edition
   tables_3 e = rw e
 
-  pub tables_21 : within_all ≡ true → good_terms ≡ false → Refused Granule ≡ in_edition terms frame ps ts
+  pub tables_21 : within_all ≡ true → good_terms ≡ false → Err Granule ≡ in_edition terms frame ps ts
   unfolding in_edition
   tables_21 w e = rw (w, e)
 
-  module _ (w : within_all ≡ true) (g : good_terms ≡ true) (k : ℕ) (ek : k ≡ first_bad_part frame ps) where
-    pub tables_6 : k < partitions ps → Refused (Partition (k + 1)) ≡ in_edition terms frame ps ts
-    unfolding in_edition
-    tables_6 h = rw (w, g, ← ek, lt-ltb k (partitions ps) h)
-
-    module _ (hk : partitions ps ≤ k) (j : ℕ) (ej : j ≡ first_bad_task (partitions ps) ts) where
-      pub tables_7 : j < tasks ts → Refused (Task (j + 1)) ≡ in_edition terms frame ps ts
-      unfolding in_edition
-      tables_7 h = rw (w, g, ← ek, le-ltb k (partitions ps) hk, ← ej, lt-ltb j (tasks ts) h)
-
-      pub tables-good : tasks ts ≤ j → Good ≡ in_edition terms frame ps ts
-      unfolding in_edition
-      tables-good h = rw (w, g, ← ek, le-ltb k (partitions ps) hk, ← ej, le-ltb j (tasks ts) h)
+  pub tables_records : within_all ≡ true → good_terms ≡ true → records_judged frame ps ts ≡ in_edition terms frame ps ts
+  unfolding in_edition
+  tables_records w g = rw (w, g)
 
   -- ---- what it means
 
-  good_of : tables_of terms frame ps ts ≡ Good → GoodTables terms frame ps ts
+  good_of : tables_of terms frame ps ts ≡ (Ok tt) → GoodTables terms frame ps ts
   unfolding tables_of in_edition
   good_of e =
       let i = both_good (edition_judged terms.edition) (in_edition terms frame ps ts) e in
-      let d = pick_first good-edition Good (Refused Edition) Good (not_good Edition) i.0 in
-      let a = pick_first within_all _ _ Good (not_good Limits) i.1 in
+      let d = pick_first good-edition (Ok tt) (Err Edition) (Ok tt) (not_good Edition) i.0 in
+      let a = pick_first within_all _ _ (Ok tt) (not_good Limits) i.1 in
       let t = both_good (granule_judged terms.granule) (records_judged frame ps ts) a.1 in
-      let g = pick_first good_terms Good (Refused Granule) Good (not_good Granule) t.0 in
-      let b = lowest-none Partition (good_part frame ps) (partitions ps) Refused (lowest Task (good_task (partitions ps) ts) (tasks ts)) Good (not_good _) t.1 in
+      let g = pick_first good_terms (Ok tt) (Err Granule) (Ok tt) (not_good Granule) t.0 in
+      let b = lowest-none Partition (good_part frame ps) (partitions ps) Err (lowest Task (good_task (partitions ps) ts) (tasks ts)) (Ok tt) (not_good _) t.1 in
       record { edition = d.0; limits = a.0; granule = g.0; parts = b.0; tasks = lowest-good Task (good_task (partitions ps) ts) (tasks ts) b.1 }
 
-  of_good : GoodTables terms frame ps ts → tables_of terms frame ps ts ≡ Good
+  of_good : GoodTables terms frame ps ts → tables_of terms frame ps ts ≡ (Ok tt)
   unfolding tables_of in_edition
   of_good g =
       let p : first_bad_part frame ps ≡ partitions ps = every_first (good_part frame ps) (partitions ps) g.parts in
@@ -247,21 +255,21 @@ module _ (terms : Terms) (frame : ℕ) (ps ts : List ℕ) where
       rw (g.edition, g.limits, g.granule, p, le-ltb (partitions ps) (partitions ps) (omega arith), t, le-ltb (tasks ts) (tasks ts) (omega arith))
 
   -- nothing is refused exactly where terms and tables are good
-  pub good_exactly : (tables_of terms frame ps ts ≡ Good) ↔ GoodTables terms frame ps ts
+  pub good_exactly : (tables_of terms frame ps ts ≡ (Ok tt)) ↔ GoodTables terms frame ps ts
   good_exactly = (good_of, of_good)
 
   -- what holds of 2 where the edition is bad, of 3, of 21 where the granule is bad, of any 6 and of any 7 with a place from 1 on holds of the chain's refusal
   pub refusals : (P : Refusal → Type 0) → (good-edition ≡ false → P Edition) → P Limits → (good_terms ≡ false → P Granule) → ((k : ℕ) → P (Partition k)) → ((j : ℕ) → P (Task (j + 1)))
-      → (r : Refusal) → tables_of terms frame ps ts ≡ Refused r → P r
+      → (r : Refusal) → tables_of terms frame ps ts ≡ Err r → P r
   unfolding tables_of in_edition
   refusals P two three twenty-one six seven r e =
       at good-edition within_all good_terms (ltb (first_bad_part frame ps) (partitions ps)) (ltb (first_bad_task (partitions ps) ts) (tasks ts)) refl refl e
     where
-      same : (q : Refusal) → P q → ◌≡◌ {A = Finding} (Refused q) (Refused r) → P r
+      same : (q : Refusal) → P q → ◌≡◌ {A = Result (Unit {0}) Refusal} (Err q) (Err r) → P r
       same q h e = let z : q ≡ r = cc in subst P z h
 
       at : (d a g b c : Bool) → good-edition ≡ d → good_terms ≡ g
-          → unless Refused (pick d Good (Refused Edition)) (pick a (unless Refused (pick g Good (Refused Granule)) (unless Refused (pick b (Refused (Partition (first_bad_part frame ps + 1))) Good) (pick c (Refused (Task (first_bad_task (partitions ps) ts + 1))) Good))) (Refused Limits)) ≡ Refused r
+          → unless Err (pick d (Ok (tt {0})) (Err Edition)) (pick a (unless Err (pick g (Ok (tt {0})) (Err Granule)) (unless Err (pick b (Err (Partition (first_bad_part frame ps + 1))) (Ok (tt {0}))) (pick c (Err (Task (first_bad_task (partitions ps) ts + 1))) (Ok (tt {0}))))) (Err Limits)) ≡ Err r
           → P r
       at false a g b c i h e = same Edition (two i) e
       at true false g b c i h e = same Limits three e
@@ -272,13 +280,13 @@ module _ (terms : Terms) (frame : ℕ) (ps ts : List ℕ) where
 
   -- a call's answer is what follows good tables, or the chain's refusal
   pub unless_cases : {A : Type 0} (refused : Refusal → A) (next z : A) → unless refused (tables_of terms frame ps ts) next ≡ z
-      → (GoodTables terms frame ps ts × (next ≡ z)) ⊎ ((r : Refusal) × (tables_of terms frame ps ts ≡ Refused r) × (refused r ≡ z))
+      → (GoodTables terms frame ps ts × (next ≡ z)) ⊎ ((r : Refusal) × (tables_of terms frame ps ts ≡ Err r) × (refused r ≡ z))
   unless_cases refused next z e = go (tables_of terms frame ps ts) refl e
     where
-      go : (t : Finding) → tables_of terms frame ps ts ≡ t → unless refused t next ≡ z
-          → (GoodTables terms frame ps ts × (next ≡ z)) ⊎ ((r : Refusal) × (tables_of terms frame ps ts ≡ Refused r) × (refused r ≡ z))
-      go Good h e = inl (good_of h, e)
-      go (Refused r) h e = inr (r, h, e)
+      go : (t : Result (Unit {0}) Refusal) → tables_of terms frame ps ts ≡ t → unless refused t next ≡ z
+          → (GoodTables terms frame ps ts × (next ≡ z)) ⊎ ((r : Refusal) × (tables_of terms frame ps ts ≡ Err r) × (refused r ≡ z))
+      go (Ok _) h e = inl (good_of h, e)
+      go (Err r) h e = inr (r, h, e)
 
   -- one that is no refusal of the chain is what follows
   pub unless_given : {A : Type 0} (refused : Refusal → A) (next z : A)
@@ -293,9 +301,9 @@ module _ (terms : Terms) (frame : ℕ) (ps ts : List ℕ) where
       → P (unless refused (tables_of terms frame ps ts) next)
   unless_holds P refused next two three twenty-one six seven h = go (tables_of terms frame ps ts) refl
     where
-      go : (t : Finding) → tables_of terms frame ps ts ≡ t → P (unless refused t next)
-      go Good e = h
-      go (Refused r) e = refusals (λ r. P (refused r)) two three twenty-one six seven r e
+      go : (t : Result (Unit {0}) Refusal) → tables_of terms frame ps ts ≡ t → P (unless refused t next)
+      go (Ok _) e = h
+      go (Err r) e = refusals (λ r. P (refused r)) two three twenty-one six seven r e
 
   -- and of good tables it is what follows
   pub unless_good_lem : {A : Type 0} (refused : Refusal → A) (next : A) → GoodTables terms frame ps ts → unless refused (tables_of terms frame ps ts) next ≡ next
@@ -311,7 +319,7 @@ unless-parts_hold terms frame ps P refused next two three twenty-one six h =
     at (good_edition terms.edition) (within_limits frame (length ps) 0) (good_granule terms.granule) (ltb (first_bad_part frame ps) (partitions ps)) refl refl
   where
     at : (d a g b : Bool) → good_edition terms.edition ≡ d → good_granule terms.granule ≡ g
-        → P (unless refused (unless Refused (pick d Good (Refused Edition)) (pick a (unless Refused (pick g Good (Refused Granule)) (unless Refused (pick b (Refused (Partition (first_bad_part frame ps + 1))) Good) Good)) (Refused Limits))) next)
+        → P (unless refused (unless Err (pick d (Ok (tt {0})) (Err Edition)) (pick a (unless Err (pick g (Ok (tt {0})) (Err Granule)) (unless Err (pick b (Err (Partition (first_bad_part frame ps + 1))) (Ok (tt {0}))) (Ok (tt {0})))) (Err Limits))) next)
     at false a g b i e = two i
     at true false g b i e = three
     at true true false b i e = twenty-one e

@@ -3,22 +3,19 @@
 #![tactic(auto)]
 
 ghost use Rattle.std.specs.Prelude.{◌≡◌, [], ◌<◌};
-ghost use Rattle.rules.specs.Walk.{fails};
 ghost use Rattle.rules.specs.Terms.{good_granule};
 ghost use Rattle.rules.specs.Table.{good_share, good_times, good_part, good_task, good_tick};
-ghost use Rattle.tables.specs.Inner.{first_bad_part, first_bad_task, first_bad_tick};
-ghost use Rattle.tables.specs.Tables.{counted_in, within_limits, unless, in_edition, tables_of, ticks_judged};
-ghost use Rattle.rules.specs.declared.Finding.TheVariants.{Refused};
+ghost use Rattle.tables.specs.Inner.{Lowest};
+ghost use Rattle.tables.specs.Tables.{counted_in, within_limits, in_edition, tables_of, ticks_judged};
 
 use rules::limits::{
     FINEST_SHARE, LONGEST, LONGEST_PERIOD, MOST_GRANULE, MOST_PARTITIONS, MOST_TASKS, PART_WIDTH,
     TASK_WIDTH,
 };
-use rules::numbers::wide;
 use rules::records::{
     budget, cycle, deadline, den, entry, num, partition, partitions, period, tasks,
 };
-use rules::{Finding, Refusal, Terms};
+use rules::{Refusal, Terms};
 
 pub fn counted_in(low: usize, high: usize, width: usize, numbers: usize) -> bool
     requires { 0 < width }
@@ -94,16 +91,16 @@ pub fn good_times(parts: usize, p: u16, c: u16, d: u16, t: u16) -> bool
     t <= LONGEST_PERIOD
 }
 
-fn bad_part(parts: &[u16], limit: usize, k: usize) -> bool
-    ensures { result ≡ fails (good_part limit parts.now) k }
+fn good_part(parts: &[u16], limit: usize, k: usize) -> bool
+    ensures { result ≡ good_part limit parts.now k }
 {
-    !good_share(limit, cycle(parts, k), num(parts, k), den(parts, k))
+    good_share(limit, cycle(parts, k), num(parts, k), den(parts, k))
 }
 
-fn bad_task(table: &[u16], parts: usize, j: usize) -> bool
-    ensures { result ≡ fails (good_task parts table.now) j }
+fn good_task(table: &[u16], parts: usize, j: usize) -> bool
+    ensures { result ≡ good_task parts table.now j }
 {
-    !good_times(
+    good_times(
         parts,
         partition(table, j),
         budget(table, j),
@@ -112,110 +109,61 @@ fn bad_task(table: &[u16], parts: usize, j: usize) -> bool
     )
 }
 
-fn bad_tick(plan: &[u16], parts: usize, t: usize) -> bool
-    ensures { result ≡ fails (good_tick parts plan.now) t }
+fn good_tick(plan: &[u16], parts: usize, t: usize) -> bool
+    ensures { result ≡ good_tick parts plan.now t }
 {
-    !(wide(entry(plan, t)) <= parts)
+    usize::from(entry(plan, t)) <= parts
 }
 
-// The first bad record, counted from 0, or how many there are.
-pub fn first_bad_part(parts: &[u16], limit: usize) -> usize
-    ensures { result ≡ first_bad_part limit parts.now }
+// Whether each of n records is good, or the place of the lowest that isn't, from 1.
+#[tactic(auto, unfolding(crate::specs::Inner::Lowest))]
+pub fn lowest<G: Fn(usize) -> bool>(n: usize, good: G) -> Result<(), usize>
+    requires { G.IsAlwaysCallable good }
+    ensures { Lowest (G.post good) n result }
 {
-    let n = partitions(parts);
-    let mut k = 0;
-    while k < n {
-        if bad_part(parts, limit, k) {
-            return k;
+    for k in 0..n {
+        if !good(k) {
+            return Err(k + 1);
         }
-        k += 1;
     }
-    n
-}
-
-pub fn first_bad_task(table: &[u16], parts: usize) -> usize
-    ensures { result ≡ first_bad_task parts table.now }
-{
-    let n = tasks(table);
-    let mut j = 0;
-    while j < n {
-        if bad_task(table, parts, j) {
-            return j;
-        }
-        j += 1;
-    }
-    n
-}
-
-pub fn first_bad_tick(plan: &[u16], parts: usize) -> usize
-    ensures { result ≡ first_bad_tick parts plan.now }
-{
-    let n = plan.len();
-    let mut t = 0;
-    while t < n {
-        if bad_tick(plan, parts, t) {
-            return t;
-        }
-        t += 1;
-    }
-    n
+    Ok(())
 }
 
 // What tells against the granule and the tables, for cycles no longer than the frame: 3, 21, 6 and 7.
-pub fn judge_in_edition(terms: Terms, frame: usize, parts: &[u16], table: &[u16]) -> Finding
+pub fn judge_in_edition(terms: Terms, frame: usize, parts: &[u16], table: &[u16]) -> Result<(), Refusal>
     ensures { result ≡ in_edition terms frame parts.now table.now }
 {
     if !within_limits(frame, parts.len(), table.len()) {
-        return Finding::Refused(Refusal::Limits);
+        return Err(Refusal::Limits);
     }
     if !good_granule(terms.granule) {
-        return Finding::Refused(Refusal::Granule);
+        return Err(Refusal::Granule);
     }
-    let k = first_bad_part(parts, frame);
-    if k < partitions(parts) {
-        return Finding::Refused(Refusal::Partition(k + 1));
-    }
-    let j = first_bad_task(table, partitions(parts));
-    if j < tasks(table) {
-        return Finding::Refused(Refusal::Task(j + 1));
-    }
-    Finding::Good
+    lowest(partitions(parts), |k| good_part(parts, frame, k)).map_err(Refusal::Partition)?;
+    lowest(tasks(table), |j| good_task(table, partitions(parts), j)).map_err(Refusal::Task)
 }
 
 // The same with the edition's 2 first of all.
-pub fn judge_tables(terms: Terms, frame: usize, parts: &[u16], table: &[u16]) -> Finding
+pub fn judge_tables(terms: Terms, frame: usize, parts: &[u16], table: &[u16]) -> Result<(), Refusal>
     ensures { result ≡ tables_of terms frame parts.now table.now }
 {
     if !rules::good_edition(terms.edition) {
-        return Finding::Refused(Refusal::Edition);
+        return Err(Refusal::Edition);
     }
     judge_in_edition(terms, frame, parts, table)
 }
 
 // The same where no tasks are asked about.
-pub fn judge_partitions(terms: Terms, frame: usize, parts: &[u16]) -> Finding
+pub fn judge_partitions(terms: Terms, frame: usize, parts: &[u16]) -> Result<(), Refusal>
     ensures { result ≡ tables_of terms frame parts.now [] }
 {
     judge_tables(terms, frame, parts, &parts[..0])
 }
 
 // What tells against a plan's ticks: 8.
-pub fn judge_ticks(plan: &[u16], parts: &[u16]) -> Finding
+pub fn judge_ticks(plan: &[u16], parts: &[u16]) -> Result<(), Refusal>
     ensures { result ≡ ticks_judged plan.now parts.now }
 {
-    let t = first_bad_tick(plan, partitions(parts));
-    if t < plan.len() {
-        return Finding::Refused(Refusal::Tick(t + 1));
-    }
-    Finding::Good
+    lowest(plan.len(), |t| good_tick(plan, partitions(parts), t)).map_err(Refusal::Tick)
 }
 
-// Of two findings the one that tells against the call, the first of both.
-pub fn first_found(found: Finding, next: Finding) -> Finding
-    ensures { result ≡ unless Refused found next }
-{
-    match found {
-        Finding::Refused(r) => Finding::Refused(r),
-        Finding::Good => next,
-    }
-}

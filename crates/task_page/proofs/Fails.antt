@@ -14,7 +14,7 @@ use Rattle.rules.specs.Terms.{rule_in}
 use Rattle.rules.specs.declared.Terms.{Terms}
 use Rattle.rules.specs.declared.Refusal.{Refusal}
 use Rattle.rules.specs.declared.Refusal.TheVariants.{Output}
-use Rattle.rules.specs.declared.Finding.TheVariants as found
+use Rattle.std.specs.Prelude.{Ok, Err}
 use Rattle.tables.proofs.Chain.{within}
 use Rattle.rules.proofs.Sum.{count_ext}
 use Rattle.rules.proofs.FirstLeast.{first-least_ext}
@@ -78,11 +78,11 @@ module _ (rule : Rule) (plan ts : List ℕ) (i t d : ℕ) (failing : Paged) (et 
   paged_fail r l e = rw (← et, ← ed, is_fail d t l) e
 
 module _ (terms : Terms) (plan ps ts : List ℕ) (place room : ℕ) where
-  pub paged_refused : (r : Refusal) → answerable_of terms plan ps ts place ≡ found.Refused r → Refused r ≡ page_of terms plan ps ts place room
+  pub paged_refused : (r : Refusal) → answerable_of terms plan ps ts place ≡ Err r → Refused r ≡ page_of terms plan ps ts place room
   unfolding page_of
   paged_refused r e = rw (← judged_refused terms plan ps ts place task_point r e)
 
-  module _ (e : answerable_of terms plan ps ts place ≡ found.Good) where
+  module _ (e : answerable_of terms plan ps ts place ≡ (Ok tt)) where
     pub paged-task :
         (r : Paged)
         → r ≡ paged_by (pass_at (deadline ts (place - 1)) (task_point (rule_in terms) plan ts (place - 1))) (fail_of (rule_in terms) plan ts (place - 1) room)
@@ -90,5 +90,5 @@ module _ (terms : Terms) (plan ps ts : List ℕ) (place room : ℕ) where
     unfolding page_of
     paged-task r h = rw (answer terms plan ps ts place task_point (answerable terms plan ps ts place e)) h
 
-pub few_ticks : (terms : Terms) (plan ps ts : List ℕ) (place : ℕ) → answerable_of terms plan ps ts place ≡ found.Good → length plan ≤ longest
+pub few_ticks : (terms : Terms) (plan ps ts : List ℕ) (place : ℕ) → answerable_of terms plan ps ts place ≡ (Ok tt) → length plan ≤ longest
 few_ticks terms plan ps ts place e = (within (length plan) (length ps) (length ts) (answerable terms plan ps ts place e).good.limits).longest_frame

@@ -21,8 +21,8 @@ use Rattle.theory.specs.Theorems.{TightestPoint}
 use Rattle.theory.proofs.Tasks.{task_last}
 use Rattle.theory.proofs.Tightest.{worst_start_lowest, point-within, tightest_so}
 use Rattle.task_demand.proofs.Lists.{in_order}
-use Rattle.task_verdict.specs.declared.Judged.{Judged}
-use Rattle.task_verdict.specs.declared.Judged.TheVariants as judged
+use Rattle.std.specs.Prelude.{Option, None, Some, Result, Ok, Err}
+use Rattle.rules.specs.declared.Refusal.{Refusal}
 use Rattle.task_verdict.specs.Verdict.{verdict_of}
 use Rattle.task_verdict.specs.Theorems.{Answered}
 use Rattle.task_verdict.proofs.Engines as verdicts
@@ -43,14 +43,14 @@ page_answers : PageAnswers
 unfolding page_of
 page_answers terms plan ps ts place room = by (verdict_of terms plan ps ts place)
   where
-    failing : (row_width * points_of ts (place - 1) ≤ room) ⊎ (room < row_width * points_of ts (place - 1)) → PageBy (rule_in terms) plan ts (place - 1) room judged.Fail (fail_of (rule_in terms) plan ts (place - 1) room)
+    failing : (row_width * points_of ts (place - 1) ≤ room) ⊎ (room < row_width * points_of ts (place - 1)) → PageBy (rule_in terms) plan ts (place - 1) room (Ok None) (fail_of (rule_in terms) plan ts (place - 1) room)
     failing (inl l) = rw (← fails_so (rule_in terms) plan ts (place - 1) room (points_of ts (place - 1)) refl _ _ l refl refl) (page_fail l)
     failing (inr l) = rw (← too_short (rule_in terms) plan ts (place - 1) room (points_of ts (place - 1)) refl l) (page-short l)
 
-    by : (j : Judged) → PageBy (rule_in terms) plan ts (place - 1) room j (paged_by j (fail_of (rule_in terms) plan ts (place - 1) room))
-    by (judged.Pass t) = page_pass t
-    by judged.Fail = failing (le-or-lt (row_width * points_of ts (place - 1)) room)
-    by (judged.Refused r) = page_refused r
+    by : (j : Result (Option ℕ) Refusal) → PageBy (rule_in terms) plan ts (place - 1) room j (paged_by j (fail_of (rule_in terms) plan ts (place - 1) room))
+    by (Ok (Some t)) = page_pass t
+    by (Ok None) = failing (le-or-lt (row_width * points_of ts (place - 1)) room)
+    by (Err r) = page_refused r
 
 -- what an answer with rows says
 record Failing (terms : Terms) (plan ps ts : List ℕ) (place room n t h : ℕ) : Type 0 where
@@ -64,7 +64,7 @@ record Failing (terms : Terms) (plan ps ts : List ℕ) (place room n t h : ℕ) 
 failing : (terms : Terms) (plan ps ts : List ℕ) (place room n t h : ℕ) → Fail n t h ≡ page_of terms plan ps ts place room → Failing terms plan ps ts place room n t h
 failing terms plan ps ts place room n t h e = by (verdict_of terms plan ps ts place) refl (page_of terms plan ps ts place room) (page_answers terms plan ps ts place room) e
   where
-    by : (j : Judged) → verdict_of terms plan ps ts place ≡ j → (r : Paged) → PageBy (rule_in terms) plan ts (place - 1) room j r → Fail n t h ≡ r → Failing terms plan ps ts place room n t h
+    by : (j : Result (Option ℕ) Refusal) → verdict_of terms plan ps ts place ≡ j → (r : Paged) → PageBy (rule_in terms) plan ts (place - 1) room j r → Fail n t h ≡ r → Failing terms plan ps ts place room n t h
     by j v r (page_refused x) q = absurd (let z : ◌≡◌ {A = ℕ} 0 1 = cc in omega arith)
     by j v r (page_pass x) q = absurd (let z : ◌≡◌ {A = ℕ} 0 1 = cc in omega arith)
     by j v r (page-short l) q = absurd (let z : ◌≡◌ {A = ℕ} 0 1 = cc in omega arith)

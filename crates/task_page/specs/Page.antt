@@ -1,5 +1,5 @@
 -- The supplier's page: document 02, ask 7. Tasks count from 0 here, the place that is asked for from 1. Assumes nothing.
-use Rattle.std.specs.Prelude.{ℕ, suc, ◌-◌, ◌*◌, ◌≡◌, List, [], ◌∷◌, ◌++◌, length, drop, ltb}
+use Rattle.std.specs.Prelude.{ℕ, suc, ◌-◌, ◌*◌, ◌≡◌, List, [], ◌∷◌, ◌++◌, length, drop, ltb, Option, None, Some, Result, Ok, Err}
 use Rattle.rules.specs.Limits.{row_width}
 use Rattle.rules.specs.Walk.{pick, count, gathered}
 use Rattle.rules.specs.Table.{partition, deadline}
@@ -12,8 +12,7 @@ use Rattle.rules.specs.declared.Refusal.TheVariants.{Output}
 use Rattle.theory.specs.Plan.{least, worst_start}
 use Rattle.theory.specs.Load.{demand, point, shortage, tightest}
 use Rattle.theory.specs.Task.{task_load}
-use Rattle.task_verdict.specs.declared.Judged.{Judged}
-use Rattle.task_verdict.specs.declared.Judged.TheVariants as judged
+use Rattle.rules.specs.declared.Refusal.{Refusal}
 use Rattle.task_verdict.specs.Verdict.{verdict_of}
 use Rattle.task_page.specs.declared.Paged.{Paged}
 use Rattle.task_page.specs.declared.Paged.TheVariants.{Pass, Fail, Refused}
@@ -48,10 +47,10 @@ fail_of rule plan ts i room =
     pick (ltb room (row_width * points_of ts i)) (Refused Output) (Fail (points_of ts i) (tightest_of rule plan ts i) (shortage_of rule plan ts i))
 
 -- "A passing task lists nothing", and "Refusals: the verdict's": only a fail has more to say
-abbrev pub paged_by : Judged → Paged → Paged
-paged_by (judged.Pass t) failing = Pass t
-paged_by judged.Fail failing = failing
-paged_by (judged.Refused r) failing = Refused r
+abbrev pub paged_by : Result (Option ℕ) Refusal → Paged → Paged
+paged_by (Ok (Some t)) failing = Pass t
+paged_by (Ok None) failing = failing
+paged_by (Err r) failing = Refused r
 
 -- what the call answers
 unfoldable pub page_of : Terms → List ℕ → List ℕ → List ℕ → ℕ → ℕ → Paged

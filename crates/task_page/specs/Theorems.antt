@@ -1,5 +1,5 @@
 -- What is promised of the page beyond its contract. Each statement's proof is a field of `Proved`. Assumes nothing.
-use Rattle.std.specs.Prelude.{ℕ, ◌+◌, ◌-◌, ◌*◌, ◌≤◌, ◌<◌, ◌≡◌, true, List, length, get_or}
+use Rattle.std.specs.Prelude.{ℕ, ◌+◌, ◌-◌, ◌*◌, ◌≤◌, ◌<◌, ◌≡◌, true, List, length, get_or, Option, None, Some, Result, Ok, Err}
 use Rattle.rules.specs.Limits.{row_width}
 use Rattle.rules.specs.Table.{partition}
 use Rattle.rules.specs.Terms.{rule_in}
@@ -11,19 +11,17 @@ use Rattle.theory.specs.Plan.{held, least}
 use Rattle.theory.specs.Load.{demand, point, shortage}
 use Rattle.theory.specs.Task.{task_load}
 use Rattle.theory.specs.Theorems.{TightestPoint}
-use Rattle.task_verdict.specs.declared.Judged.{Judged}
-use Rattle.task_verdict.specs.declared.Judged.TheVariants as judged
 use Rattle.task_verdict.specs.Verdict.{verdict_of}
 use Rattle.task_page.specs.declared.Paged.{Paged}
 use Rattle.task_page.specs.declared.Paged.TheVariants.{Pass, Fail, Refused}
 use Rattle.task_page.specs.Page.{points_of, tightest_of, shortage_of, page_of, Pages}
 
 -- "A passing task lists nothing. Refusals: the verdict's; a list too short for a failing task's points is 12.": the page's answer beside the verdict's, for task i and a list of room numbers
-pub data PageBy (rule : Rule) (plan ts : List ℕ) (i room : ℕ) : Judged → Paged → Type 0 where
-  page_refused : (r : Refusal) → PageBy rule plan ts i room (judged.Refused r) (Refused r)
-  page_pass : (t : ℕ) → PageBy rule plan ts i room (judged.Pass t) (Pass t)
-  page-short : room < row_width * points_of ts i → PageBy rule plan ts i room judged.Fail (Refused Output)
-  page_fail : row_width * points_of ts i ≤ room → PageBy rule plan ts i room judged.Fail (Fail (points_of ts i) (tightest_of rule plan ts i) (shortage_of rule plan ts i))
+pub data PageBy (rule : Rule) (plan ts : List ℕ) (i room : ℕ) : Result (Option ℕ) Refusal → Paged → Type 0 where
+  page_refused : (r : Refusal) → PageBy rule plan ts i room (Err r) (Refused r)
+  page_pass : (t : ℕ) → PageBy rule plan ts i room (Ok (Some t)) (Pass t)
+  page-short : room < row_width * points_of ts i → PageBy rule plan ts i room (Ok None) (Refused Output)
+  page_fail : row_width * points_of ts i ≤ room → PageBy rule plan ts i room (Ok None) (Fail (points_of ts i) (tightest_of rule plan ts i) (shortage_of rule plan ts i))
 
 abbrev pub PageAnswers : Type 0
 PageAnswers =

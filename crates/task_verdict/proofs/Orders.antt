@@ -16,59 +16,56 @@ use Rattle.tables.specs.Tables.{tables_of, GoodTables}
 use Rattle.rules.specs.declared.Refusal.{Refusal}
 use Rattle.rules.specs.declared.Refusal.TheVariants.{Edition, Limits, Granule, Partition, Task}
 use Rattle.tables.proofs.Chain.{within, not_good, without_tasks, unless_given, unless_good_lem}
-use Rattle.rules.specs.declared.Finding.{Finding}
-use Rattle.rules.specs.declared.Finding.TheVariants as found
+use Rattle.std.specs.Prelude.{Option, None, Some, Result, Ok, Err}
 use Rattle.plan_check.specs.Check.{plan_check_of, check_of}
 use Rattle.task_demand.specs.Inner.{Judgeable}
 use Rattle.task_demand.proofs.Lists.{judgeable}
-use Rattle.task_verdict.specs.declared.Judged.{Judged}
-use Rattle.task_verdict.specs.declared.Judged.TheVariants.{Pass, Fail, Refused}
 use Rattle.task_verdict.specs.Verdict.{place_of, answerable_of, pass_at, verdict_by}
 use Rattle.task_verdict.specs.Theorems.{Answered}
 
 module _ (d t : ℕ) where
-  pub is_pass : t ≤ d → pass_at d t ≡ Pass t
+  pub is_pass : t ≤ d → pass_at d t ≡ Ok (Some t)
   unfolding pass_at
   is_pass h = rw (le-leb t d h)
 
-  pub is_fail : d < t → pass_at d t ≡ Fail
+  pub is_fail : d < t → pass_at d t ≡ (Ok None)
   unfolding pass_at
   is_fail h = rw (lt-leb t d h)
 
 module _ (rule : Rule) (q : ℕ → ℕ) (plan ps ts : List ℕ) (place : ℕ) where
-  pub place_none : place < 1 → found.Refused (Task 0) ≡ place_of rule q plan ps ts place
+  pub place_none : place < 1 → Err (Task 0) ≡ place_of rule q plan ps ts place
   unfolding place_of
   place_none l = rw (lt-leb 1 place l)
 
   module _ (l : 1 ≤ place) where
-    pub place_past : tasks ts < place → found.Refused (Task 0) ≡ place_of rule q plan ps ts place
+    pub place_past : tasks ts < place → Err (Task 0) ≡ place_of rule q plan ps ts place
     unfolding place_of
     place_past h = rw (le-leb 1 place l, lt-leb place (tasks ts) h)
 
-    pub place_plan : (f : Finding) → place ≤ tasks ts → f ≡ plan_check_of rule q plan ps → f ≡ place_of rule q plan ps ts place
+    pub place_plan : (f : Result (Unit {0}) Refusal) → place ≤ tasks ts → f ≡ plan_check_of rule q plan ps → f ≡ place_of rule q plan ps ts place
     unfolding place_of
     place_plan f h e = rw (le-leb 1 place l, le-leb place (tasks ts) h) e
 
 module _ (terms : Terms) (plan ps ts : List ℕ) (place : ℕ) where
-  pub tables-refused : (r : Refusal) → tables_of terms (length plan) ps ts ≡ found.Refused r → found.Refused r ≡ answerable_of terms plan ps ts place
+  pub tables-refused : (r : Refusal) → tables_of terms (length plan) ps ts ≡ Err r → Err r ≡ answerable_of terms plan ps ts place
   unfolding answerable_of
   tables-refused r e = rw e
 
-  pub tables-good : (f : Finding) → tables_of terms (length plan) ps ts ≡ found.Good → f ≡ place_of (rule_in terms) (wanted terms ps) plan ps ts place → f ≡ answerable_of terms plan ps ts place
+  pub tables-good : (f : Result (Unit {0}) Refusal) → tables_of terms (length plan) ps ts ≡ (Ok tt) → f ≡ place_of (rule_in terms) (wanted terms ps) plan ps ts place → f ≡ answerable_of terms plan ps ts place
   unfolding answerable_of
   tables-good f e g = rw e g
 
   -- of good tables the checker has 8 and 9 to answer
   checked_plan : GoodTables terms (length plan) ps ts → check_of terms plan ps ≡ plan_check_of (rule_in terms) (wanted terms ps) plan ps
   unfolding check_of
-  checked_plan g = unless_good_lem terms (length plan) ps [] found.Refused (plan_check_of (rule_in terms) (wanted terms ps) plan ps) (without_tasks (length plan) ps ts g)
+  checked_plan g = unless_good_lem terms (length plan) ps [] Err (plan_check_of (rule_in terms) (wanted terms ps) plan ps) (without_tasks (length plan) ps ts g)
 
   -- nothing is refused: then every rule holds
-  pub answerable : answerable_of terms plan ps ts place ≡ found.Good → Answered terms plan ps ts place
+  pub answerable : answerable_of terms plan ps ts place ≡ (Ok tt) → Answered terms plan ps ts place
   unfolding answerable_of place_of
   answerable e =
-      let a = unless_given terms (length plan) ps ts found.Refused (place_of (rule_in terms) (wanted terms ps) plan ps ts place) found.Good (λ i. not_good Edition) (not_good Limits) (λ g. not_good Granule) (λ k. not_good (Partition k)) (λ j. not_good _) e in
-      let p = pick_first (leb 1 place && leb place (tasks ts)) _ _ found.Good (not_good (Task 0)) a.1 in
+      let a = unless_given terms (length plan) ps ts Err (place_of (rule_in terms) (wanted terms ps) plan ps ts place) (Ok tt) (λ i. not_good Edition) (not_good Limits) (λ g. not_good Granule) (λ k. not_good (Partition k)) (λ j. not_good _) e in
+      let p = pick_first (leb 1 place && leb place (tasks ts)) _ _ (Ok tt) (not_good (Task 0)) a.1 in
       let i = and_parts (leb 1 place) (leb place (tasks ts)) p.0 in
       record {
         accepted = checked_plan a.0 ∙ p.1;
@@ -81,28 +78,28 @@ module _ (terms : Terms) (plan ps ts : List ℕ) (place : ℕ) where
   pub plan_found : GoodTables terms (length plan) ps ts → (1 ≤ place) × (place ≤ tasks ts) → answerable_of terms plan ps ts place ≡ plan_check_of (rule_in terms) (wanted terms ps) plan ps
   unfolding answerable_of place_of
   plan_found g i =
-      unless_good_lem terms (length plan) ps ts found.Refused (place_of (rule_in terms) (wanted terms ps) plan ps ts place) g ∙ rw (le-leb 1 place i.0, le-leb place (tasks ts) i.1)
+      unless_good_lem terms (length plan) ps ts Err (place_of (rule_in terms) (wanted terms ps) plan ps ts place) g ∙ rw (le-leb 1 place i.0, le-leb place (tasks ts) i.1)
 
   -- and where they do, nothing is
-  is_answerable : Answered terms plan ps ts place → answerable_of terms plan ps ts place ≡ found.Good
+  is_answerable : Answered terms plan ps ts place → answerable_of terms plan ps ts place ≡ (Ok tt)
   is_answerable a = plan_found a.good (a.from_1, a.listed) ∙ sym (checked_plan a.good) ∙ a.accepted
 
-  pub place_from_1 : answerable_of terms plan ps ts place ≡ found.Good → 1 ≤ place
+  pub place_from_1 : answerable_of terms plan ps ts place ≡ (Ok tt) → 1 ≤ place
   place_from_1 e = (answerable e).from_1
 
-  pub place_judgeable : answerable_of terms plan ps ts place ≡ found.Good → Judgeable ts (place - 1)
+  pub place_judgeable : answerable_of terms plan ps ts place ≡ (Ok tt) → Judgeable ts (place - 1)
   place_judgeable e =
       let a = answerable e in
       judgeable ts (partitions ps) (place - 1) (within (length plan) (length ps) (length ts) a.good.limits).few_tasks a.good.tasks (omega (arith, a.from_1, a.listed))
 
   -- either engine's answer
   module _ (engine : Rule → List ℕ → List ℕ → ℕ → ℕ) where
-    pub judged_refused : (r : Refusal) → answerable_of terms plan ps ts place ≡ found.Refused r → Refused r ≡ verdict_by engine terms plan ps ts place
+    pub judged_refused : (r : Refusal) → answerable_of terms plan ps ts place ≡ Err r → Err r ≡ verdict_by engine terms plan ps ts place
     unfolding verdict_by
     judged_refused r e = rw e
 
     pub judged-task :
-        (j : Judged) (d t : ℕ) → answerable_of terms plan ps ts place ≡ found.Good → d ≡ deadline ts (place - 1) → t ≡ engine (rule_in terms) plan ts (place - 1)
+        (j : Result (Option ℕ) Refusal) (d t : ℕ) → answerable_of terms plan ps ts place ≡ (Ok tt) → d ≡ deadline ts (place - 1) → t ≡ engine (rule_in terms) plan ts (place - 1)
         → j ≡ pass_at d t → j ≡ verdict_by engine terms plan ps ts place
     unfolding verdict_by
     judged-task j d t e ed et f = rw (e, ← ed, ← et) f

@@ -1,5 +1,5 @@
 -- What the answers of both engines mean, that they are alike, and demand 3's first half over the checker's and either engine's. Assumes nothing.
-use Rattle.std.specs.Prelude.{ℕ, ◌+◌, ◌-◌, ◌≤◌, ◌≡◌, ◌↔◌, true, List, length}
+use Rattle.std.specs.Prelude.{ℕ, ◌+◌, ◌-◌, ◌≤◌, ◌≡◌, ◌↔◌, true, List, length, Option, None, Some, Result, Ok, Err}
 use Rattle.rules.specs.Walk.{Every}
 use Rattle.rules.specs.Table.{partitions, partition, tasks, deadline, good_tick}
 use Rattle.rules.specs.Terms.{granules, rule_in, wanted}
@@ -10,27 +10,25 @@ use Rattle.theory.specs.Plan.{least}
 use Rattle.theory.specs.Run.{Ran, done, LegalTo, Legal}
 use Rattle.theory.specs.Load.{demand, point}
 use Rattle.theory.specs.Task.{task_load, TaskPasses}
-use Rattle.rules.specs.declared.Finding.TheVariants as found
+use Rattle.rules.specs.declared.Refusal.{Refusal}
 use Rattle.plan_check.specs.Check.{check_of}
 use Rattle.plan_check.specs.Theorems.{ShortFrom0}
 use Rattle.rules.specs.Refusals.{placed}
-use Rattle.task_verdict.specs.declared.Judged.{Judged}
-use Rattle.task_verdict.specs.declared.Judged.TheVariants.{Pass, Fail, Refused}
 use Rattle.task_verdict.specs.Verdict.{verdict_of, plain_of, Judges, JudgesPlainly, told_judged}
 
 -- nothing is refused: the plan is accepted, the tables are good, and the place is in the table
 pub record Answered (terms : Terms) (plan ps ts : List ℕ) (place : ℕ) : Type 0 where
-  pub accepted : check_of terms plan ps ≡ found.Good
+  pub accepted : check_of terms plan ps ≡ (Ok tt)
   pub good : GoodTables terms (length plan) ps ts
   pub from_1 : 1 ≤ place
   pub listed : place ≤ tasks ts
 
 -- ==== of either engine: `judge` is what its entry answers
 
-module _ (judge : Terms → List ℕ → List ℕ → List ℕ → ℕ → Judged) where
+module _ (judge : Terms → List ℕ → List ℕ → List ℕ → ℕ → Result (Option ℕ) Refusal) where
   -- a verdict is given exactly then
   abbrev pub AnsweredExactly : Type 0
-  AnsweredExactly = (terms : Terms) (plan ps ts : List ℕ) (place : ℕ) → ((r : _) → ¬ (judge terms plan ps ts place ≡ Refused r)) ↔ Answered terms plan ps ts place
+  AnsweredExactly = (terms : Terms) (plan ps ts : List ℕ) (place : ℕ) → ((r : _) → ¬ (judge terms plan ps ts place ≡ Err r)) ↔ Answered terms plan ps ts place
 
   -- "a place outside the table is 7 with place 0, after the other 7s", and before 8 and 9: whatever the plan
   abbrev pub OutsideTable : Type 0
@@ -42,25 +40,25 @@ module _ (judge : Terms → List ℕ → List ℕ → List ℕ → ℕ → Judge
   abbrev pub PassExactly : Type 0
   PassExactly =
       (terms : Terms) (plan ps ts : List ℕ) (place : ℕ)
-      → ((t : ℕ) × (judge terms plan ps ts place ≡ Pass t)) ↔ (Answered terms plan ps ts place × TaskPasses (rule_in terms) plan ts (place - 1))
+      → ((t : ℕ) × (judge terms plan ps ts place ≡ Ok (Some t))) ↔ (Answered terms plan ps ts place × TaskPasses (rule_in terms) plan ts (place - 1))
 
   abbrev pub FailExactly : Type 0
   FailExactly =
       (terms : Terms) (plan ps ts : List ℕ) (place : ℕ)
-      → (judge terms plan ps ts place ≡ Fail) ↔ (Answered terms plan ps ts place × ¬ TaskPasses (rule_in terms) plan ts (place - 1))
+      → (judge terms plan ps ts place ≡ (Ok None)) ↔ (Answered terms plan ps ts place × ¬ TaskPasses (rule_in terms) plan ts (place - 1))
 
   -- Demand 3, first half: "Plan accepted and task passes ⇒ every job of that task ends within D in every legal run, even if other tasks fail." By ask 6 it "holds for both editions,
   -- jobs running in service ticks only": a run is legal by the call's edition
   abbrev pub EndsInTime : Type 0
   EndsInTime =
-      (terms : Terms) (plan ps ts : List ℕ) (place t : ℕ) → check_of terms plan ps ≡ found.Good → judge terms plan ps ts place ≡ Pass t
+      (terms : Terms) (plan ps ts : List ℕ) (place t : ℕ) → check_of terms plan ps ≡ (Ok tt) → judge terms plan ps ts place ≡ Ok (Some t)
       → (N start : ℕ) (work : ℕ → ℕ → ℕ) (ran : ℕ → Ran) → LegalTo N (rule_in terms) plan start ts work ran
       → (r : ℕ) → r + deadline ts (place - 1) ≤ N → done ran (place - 1) r (r + deadline ts (place - 1)) ≡ work (place - 1) r
 
   -- the same of runs without end
   abbrev pub EndsInTimeForEver : Type 0
   EndsInTimeForEver =
-      (terms : Terms) (plan ps ts : List ℕ) (place t : ℕ) → check_of terms plan ps ≡ found.Good → judge terms plan ps ts place ≡ Pass t
+      (terms : Terms) (plan ps ts : List ℕ) (place t : ℕ) → check_of terms plan ps ≡ (Ok tt) → judge terms plan ps ts place ≡ Ok (Some t)
       → (start : ℕ) (work : ℕ → ℕ → ℕ) (ran : ℕ → Ran) → Legal (rule_in terms) plan start ts work ran
       → (r : ℕ) → done ran (place - 1) r (r + deadline ts (place - 1)) ≡ work (place - 1) r
 
@@ -74,8 +72,8 @@ module _ (judge : Terms → List ℕ → List ℕ → List ℕ → ℕ → Judge
   -- document 02, ask 6: what passes in edition 2 passes in edition 1
   abbrev pub PassedBefore : Type 0
   PassedBefore =
-      (terms : Terms) (plan ps ts : List ℕ) (place t : ℕ) → judge terms plan ps ts place ≡ Pass t
-      → (u : ℕ) × (judge (granules terms.granule) plan ps ts place ≡ Pass u)
+      (terms : Terms) (plan ps ts : List ℕ) (place t : ℕ) → judge terms plan ps ts place ≡ Ok (Some t)
+      → (u : ℕ) × (judge (granules terms.granule) plan ps ts place ≡ Ok (Some u))
 
   pub record Engine : Type 0 where
     pub answered_exactly : AnsweredExactly
@@ -92,7 +90,7 @@ module _ (judge : Terms → List ℕ → List ℕ → List ℕ → ℕ → Judge
 -- "A pass reports the smallest scheduling point that holds."
 abbrev pub PassPoint : Type 0
 PassPoint =
-    (terms : Terms) (plan ps ts : List ℕ) (place t : ℕ) → verdict_of terms plan ps ts place ≡ Pass t
+    (terms : Terms) (plan ps ts : List ℕ) (place t : ℕ) → verdict_of terms plan ps ts place ≡ Ok (Some t)
     → (point (task_load ts) (place - 1) t ≡ true) × (demand (task_load ts) (place - 1) t ≤ least (rule_in terms) plan (partition ts (place - 1)) t)
     × ((u : ℕ) → point (task_load ts) (place - 1) u ≡ true → demand (task_load ts) (place - 1) u ≤ least (rule_in terms) plan (partition ts (place - 1)) u → t ≤ u)
 
@@ -106,15 +104,15 @@ pub record EarliestTick (rule : Rule) (plan ts : List ℕ) (i t : ℕ) : Type 0 
 abbrev pub PassTick : Type 0
 PassTick =
     (terms : Terms) (plan ps ts : List ℕ) (place t : ℕ)
-    → (plain_of terms plan ps ts place ≡ Pass t) ↔ (Answered terms plan ps ts place × EarliestTick (rule_in terms) plan ts (place - 1) t)
+    → (plain_of terms plan ps ts place ≡ Ok (Some t)) ↔ (Answered terms plan ps ts place × EarliestTick (rule_in terms) plan ts (place - 1) t)
 
 -- ==== of both
 
 -- an answer without its point or tick
-abbrev pub without_tick : Judged → Judged
-without_tick (Pass t) = Pass 0
-without_tick Fail = Fail
-without_tick (Refused r) = Refused r
+abbrev pub without_tick : Result (Option ℕ) Refusal → Result (Option ℕ) Refusal
+without_tick (Ok (Some t)) = Ok (Some 0)
+without_tick (Ok None) = (Ok None)
+without_tick (Err r) = Err r
 
 -- "both give pass or fail alike for every plan and task table", and refuse alike
 abbrev pub EnginesAlike : Type 0
@@ -122,14 +120,14 @@ EnginesAlike = (terms : Terms) (plan ps ts : List ℕ) (place : ℕ) → without
 
 -- the tick "may be below the scheduling point", and is never above it
 abbrev pub TickAtMostPoint : Type 0
-TickAtMostPoint = (terms : Terms) (plan ps ts : List ℕ) (place t u : ℕ) → verdict_of terms plan ps ts place ≡ Pass t → plain_of terms plan ps ts place ≡ Pass u → u ≤ t
+TickAtMostPoint = (terms : Terms) (plan ps ts : List ℕ) (place t u : ℕ) → verdict_of terms plan ps ts place ≡ Ok (Some t) → plain_of terms plan ps ts place ≡ Ok (Some u) → u ≤ t
 
 -- "any two outcomes it permits are equal"
 abbrev pub VerdictOne : Type 0
-VerdictOne = (terms : Terms) (plan ps ts : List ℕ) (place : ℕ) (r r' : Judged) → Judges terms plan ps ts place r → Judges terms plan ps ts place r' → r ≡ r'
+VerdictOne = (terms : Terms) (plan ps ts : List ℕ) (place : ℕ) (r r' : Result (Option ℕ) Refusal) → Judges terms plan ps ts place r → Judges terms plan ps ts place r' → r ≡ r'
 
 abbrev pub PlainOne : Type 0
-PlainOne = (terms : Terms) (plan ps ts : List ℕ) (place : ℕ) (r r' : Judged) → JudgesPlainly terms plan ps ts place r → JudgesPlainly terms plan ps ts place r' → r ≡ r'
+PlainOne = (terms : Terms) (plan ps ts : List ℕ) (place : ℕ) (r r' : Result (Option ℕ) Refusal) → JudgesPlainly terms plan ps ts place r → JudgesPlainly terms plan ps ts place r' → r ≡ r'
 
 pub record Proved : Type 0 where
   pub by_points : Engine verdict_of

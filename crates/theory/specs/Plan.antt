@@ -1,13 +1,12 @@
 -- The plan that repeats without end, whom each tick serves, the ticks held in a stretch, least service, and serving. Assumes nothing.
-use Rattle.std.specs.Prelude.{◌≡◌, Bool, ◌&&◌, not, List, ℕ, ◌+◌, ◌-◌, ◌%◌, ◌≤◌, ◌<◌, eqb, length, get_or}
+use Rattle.std.specs.Prelude.{◌≡◌, Bool, ◌&&◌, not, List, ℕ, ◌+◌, ◌-◌, ◌%◌, ◌≤◌, ◌<◌, eqb, length, get_or, Result, Ok, Err}
 use Rattle.rules.specs.Walk.{pick, first, count, smallest}
 use Rattle.rules.specs.Table.{cycle, partitions}
 use Rattle.rules.specs.Terms.{good_edition, rule_of}
 use Rattle.rules.specs.declared.Rule.{Rule}
 use Rattle.rules.specs.declared.Rule.TheVariants.{Own, Switching}
 use Rattle.rules.specs.declared.Refusal.TheVariants.{Edition}
-use Rattle.rules.specs.declared.Holding.{Holding}
-use Rattle.rules.specs.declared.Holding.TheVariants.{Holds, Refused}
+use Rattle.rules.specs.declared.Refusal.{Refusal}
 
 -- "A plan of F ticks names for each tick its owner: a partition, or 0 for idle. It repeats without end."
 unfoldable pub owner : List ℕ → ℕ → ℕ
@@ -39,11 +38,11 @@ abbrev pub held : Rule → List ℕ → ℕ → ℕ → ℕ → ℕ
 held rule plan = owned (service rule plan)
 
 -- "2 now means neither 1 nor 2, in a call too"; else the count
-abbrev pub count_in : ℕ → ℕ → Holding
-count_in e n = pick (good_edition e) (Holds n) (Refused Edition)
+abbrev pub count_in : ℕ → ℕ → Result ℕ Refusal
+count_in e n = pick (good_edition e) (Ok n) (Err Edition)
 
 -- the answer r of the call in edition e, for the n ticks from tick s on
-abbrev pub HeldIs : ℕ → List ℕ → ℕ → ℕ → ℕ → Holding → Type 0
+abbrev pub HeldIs : ℕ → List ℕ → ℕ → ℕ → ℕ → Result ℕ Refusal → Type 0
 HeldIs e plan p s n r = r ≡ count_in e (held (rule_of e) plan p n s)
 
 -- "the smallest number of a partition's ticks in any t consecutive ticks of the repeated plan": every start is one of the F in the frame
@@ -51,7 +50,7 @@ unfoldable pub least : Rule → List ℕ → ℕ → ℕ → ℕ
 least rule plan p t = smallest (held rule plan p t) (length plan)
 
 -- the answer r of the call in edition e
-abbrev pub LeastIs : ℕ → List ℕ → ℕ → ℕ → Holding → Type 0
+abbrev pub LeastIs : ℕ → List ℕ → ℕ → ℕ → Result ℕ Refusal → Type 0
 LeastIs e plan p t r = r ≡ count_in e (least (rule_of e) plan p t)
 
 -- document 02, ask 7: tick s is "a worst start" for t ticks: from there on they hold the least

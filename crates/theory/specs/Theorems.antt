@@ -1,12 +1,12 @@
 -- What is proved of the definitions: each statement is a type, and its proof is a term of it in proofs/. Assumes nothing.
-use Rattle.std.specs.Prelude.{◌≡◌, ◌⊎◌, ◌↔◌, true, false, List, ℕ, suc, ◌+◌, ◌-◌, ◌*◌, ◌≤◌, ◌<◌, length, get_or}
+use Rattle.std.specs.Prelude.{◌≡◌, ◌⊎◌, ◌↔◌, true, false, List, ℕ, suc, ◌+◌, ◌-◌, ◌*◌, ◌≤◌, ◌<◌, length, get_or, Result}
 use Rattle.rules.specs.Limits.{longest}
 use Rattle.rules.specs.Walk.{Every, round_up}
 use Rattle.rules.specs.Table.{cycle, partitions, wants, WantsIs, good_share, good_part, deadline, tasks, good_task}
 use Rattle.rules.specs.Terms.{good_granule}
 use Rattle.rules.specs.declared.Rule.{Rule}
 use Rattle.rules.specs.declared.Rule.TheVariants.{Own, Switching}
-use Rattle.rules.specs.declared.Holding.{Holding}
+use Rattle.rules.specs.declared.Refusal.{Refusal}
 use Rattle.theory.specs.Plan.{owner, switch_tick, service, held, HeldIs, least, LeastIs, worst_start, Serves}
 use Rattle.theory.specs.Harmonic.{Harmonic, pairs, frame, all_wanted, rank, taken, harmonic_plan}
 use Rattle.theory.specs.Run.{Ran, done, Releases, LegalTo, Legal}
@@ -40,10 +40,10 @@ abbrev pub WantsOne : Type 0
 WantsOne = (g m n d r r' : ℕ) → WantsIs g m n d r → WantsIs g m n d r' → r ≡ r'
 
 abbrev pub HeldOne : Type 0
-HeldOne = (e : ℕ) (plan : List ℕ) (p s n : ℕ) (r r' : Holding) → HeldIs e plan p s n r → HeldIs e plan p s n r' → r ≡ r'
+HeldOne = (e : ℕ) (plan : List ℕ) (p s n : ℕ) (r r' : Result ℕ Refusal) → HeldIs e plan p s n r → HeldIs e plan p s n r' → r ≡ r'
 
 abbrev pub LeastOne : Type 0
-LeastOne = (e : ℕ) (plan : List ℕ) (p t : ℕ) (r r' : Holding) → LeastIs e plan p t r → LeastIs e plan p t r' → r ≡ r'
+LeastOne = (e : ℕ) (plan : List ℕ) (p t : ℕ) (r r' : Result ℕ Refusal) → LeastIs e plan p t r → LeastIs e plan p t r' → r ≡ r'
 
 -- ==== the switch tick
 

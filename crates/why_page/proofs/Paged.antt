@@ -11,8 +11,8 @@ use Rattle.rules.specs.declared.Rule.{Rule}
 use Rattle.rules.specs.declared.Terms.{Terms}
 use Rattle.tables.proofs.Chain.{within}
 use Rattle.task_demand.proofs.Lists.{judgeable}
-use Rattle.task_verdict.specs.declared.Judged.{Judged}
-use Rattle.task_verdict.specs.declared.Judged.TheVariants as judged
+use Rattle.std.specs.Prelude.{Option, None, Some, Result, Ok}
+use Rattle.rules.specs.declared.Refusal.{Refusal}
 use Rattle.task_verdict.specs.Verdict.{verdict_of}
 use Rattle.task_verdict.specs.Theorems.{Answered}
 use Rattle.task_verdict.proofs.Engines as verdicts
@@ -32,19 +32,19 @@ use Rattle.why_page.proofs.Rows.{point_in_time, rows_long, lines-front}
 
 -- ---- what was judged
 
-by_pass : {rule : Rule} {plan ts : List ℕ} {i room : ℕ} {j : Judged} {x : Paged} (t : ℕ) → PageBy rule plan ts i room j x → x ≡ Pass t → j ≡ judged.Pass t
+by_pass : {rule : Rule} {plan ts : List ℕ} {i room : ℕ} {j : Result (Option ℕ) Refusal} {x : Paged} (t : ℕ) → PageBy rule plan ts i room j x → x ≡ Pass t → j ≡ Ok (Some t)
 by_pass t (page_refused r) e = let z : ◌≡◌ {A = ℕ} 0 1 = cc in absurd (omega arith)
 by_pass t (page_pass u) e = let z : u ≡ t = cc e in rw z
 by_pass t (page-short l) e = let z : ◌≡◌ {A = ℕ} 0 1 = cc in absurd (omega arith)
 by_pass t (page_fail l) e = let z : ◌≡◌ {A = ℕ} 0 1 = cc in absurd (omega arith)
 
-pub record Failing (rule : Rule) (plan ts : List ℕ) (i room : ℕ) (j : Judged) (n u : ℕ) : Type 0 where
-  pub judged_so : j ≡ judged.Fail
+pub record Failing (rule : Rule) (plan ts : List ℕ) (i room : ℕ) (j : Result (Option ℕ) Refusal) (n u : ℕ) : Type 0 where
+  pub judged_so : j ≡ (Ok None)
   pub rows : n ≡ points_of ts i
   pub tight : u ≡ tightest_of rule plan ts i
   pub fits : row_width * n ≤ room
 
-by_fail : {rule : Rule} {plan ts : List ℕ} {i room : ℕ} {j : Judged} {x : Paged} (n u h : ℕ) → PageBy rule plan ts i room j x → x ≡ Fail n u h → Failing rule plan ts i room j n u
+by_fail : {rule : Rule} {plan ts : List ℕ} {i room : ℕ} {j : Result (Option ℕ) Refusal} {x : Paged} (n u h : ℕ) → PageBy rule plan ts i room j x → x ≡ Fail n u h → Failing rule plan ts i room j n u
 by_fail n u h (page_refused r) e = let z : ◌≡◌ {A = ℕ} 0 1 = cc in absurd (omega arith)
 by_fail n u h (page_pass t) e = let z : ◌≡◌ {A = ℕ} 0 1 = cc in absurd (omega arith)
 by_fail n u h (page-short l) e = let z : ◌≡◌ {A = ℕ} 0 1 = cc in absurd (omega arith)
@@ -53,7 +53,7 @@ by_fail {rule} {plan} {ts} {i} n u h (page_fail l) e =
     record { judged_so = refl; rows = en; tight = cc e; fits = rw en l }
 
 module _ (terms : Terms) (plan ps ts : List ℕ) (place room : ℕ) where
-  pub pass-judged : (t : ℕ) → page_of terms plan ps ts place room ≡ Pass t → verdict_of terms plan ps ts place ≡ judged.Pass t
+  pub pass-judged : (t : ℕ) → page_of terms plan ps ts place room ≡ Pass t → verdict_of terms plan ps ts place ≡ Ok (Some t)
   pass-judged t e = by_pass t ((pages.proved).page_answers terms plan ps ts place room) e
 
   pub fail_judged : (n u h : ℕ) → page_of terms plan ps ts place room ≡ Fail n u h → Failing (rule_in terms) plan ts (place - 1) room (verdict_of terms plan ps ts place) n u

@@ -1,5 +1,5 @@
 -- What is promised of a task's page as text beyond its contract. Each statement's proof is a field of `Proved`. Assumes nothing.
-use Rattle.std.specs.Prelude.{ℕ, ◌+◌, ◌-◌, ◌<◌, ◌≡◌, true, List, [], ◌∷◌, ◌++◌, eqb, take}
+use Rattle.std.specs.Prelude.{ℕ, ◌+◌, ◌-◌, ◌<◌, ◌≡◌, true, List, [], ◌∷◌, ◌++◌, eqb, take, None, Ok}
 use Prim.Native.Char.{code}
 use Rattle.rules.specs.Limits.{longest_file, row_width}
 use Rattle.rules.specs.Walk.{only}
@@ -10,7 +10,6 @@ use Rattle.theory.specs.Plan.{least, worst_start}
 use Rattle.theory.specs.Load.{demand, point}
 use Rattle.theory.specs.Task.{task_load}
 use Rattle.theory.specs.Theorems.{TightestPoint}
-use Rattle.task_verdict.specs.declared.Judged.TheVariants as judged
 use Rattle.task_verdict.specs.Verdict.{verdict_of}
 use Rattle.task_page.specs.declared.Paged.TheVariants.{Pass, Fail}
 use Rattle.task_page.specs.Page.{rows_of, points_of, tightest_of, shortage_of, page_of}
@@ -75,7 +74,7 @@ PassSpare =
 -- there is room for every page: where the verdict is a fail it is printed, and never 12
 abbrev pub RoomEnough : Type 0
 RoomEnough =
-    (e : ℕ) (plan ps ts : List ℕ) (place : ℕ) → verdict_of (filed e) plan ps ts place ≡ judged.Fail
+    (e : ℕ) (plan ps ts : List ℕ) (place : ℕ) → verdict_of (filed e) plan ps ts place ≡ (Ok None)
     → page_of (filed e) plan ps ts place most_numbers
     ≡ Fail (points_of ts (place - 1)) (tightest_of (rule_of e) plan ts (place - 1)) (shortage_of (rule_of e) plan ts (place - 1))
 

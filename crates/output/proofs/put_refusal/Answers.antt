@@ -4,4 +4,4 @@ use Rattle.output.proofs.put_refusal.Goals as goal
 
 pub returns : goal.returns
 unfolding refused_line
-returns c = (rw c.tell-told.ensures at c.put_refused.ensures.0, search rules)
+returns c = (rw c.from-told.ensures at c.put_refused.ensures.0, search rules)

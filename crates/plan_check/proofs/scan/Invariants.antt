@@ -4,13 +4,13 @@ use Rattle.rules.specs.Walk.{first}
 use Rattle.rules.specs.Terms.{wanted}
 use Rattle.theory.specs.Plan.{held}
 use Rattle.plan_check.specs.Check.{short_at}
-use Rattle.rules.specs.declared.Finding.TheVariants.{Good}
+use Rattle.std.specs.Prelude.{Ok}
 use Rattle.plan_check.proofs.Orders.{short_in}
 use Rattle.plan_check.proofs.scan.Given as goal
 
 abbrev pub invariant-loop-stretch : goal.invariant-loop-stretch
 invariant-loop-stretch l = (l.stretch.start ≤ l.f)
-    × (l.found ≡ Good)
+    × (l.found ≡ (Ok tt))
     × (l.stretch.length ≡ l.m)
     × (l.stretch.held ≡ held l.rule l.plan (l.k + 1) l.stretch.length l.stretch.start)
     × (l.stretch.enters ≡ (l.stretch.start + l.stretch.length) % l.f)
@@ -20,7 +20,7 @@ abbrev pub decreases-loop-stretch : goal.decreases-loop-stretch
 decreases-loop-stretch l = l.f - l.stretch.start
 
 abbrev pub invariant-scan : goal.invariant-scan
-invariant-scan l = (l.k ≤ l.n) × (l.found ≡ Good) × (first (short_in l.rule (wanted l.terms l.parts) l.plan l.parts) l.k ≡ l.k)
+invariant-scan l = (l.k ≤ l.n) × (l.found ≡ (Ok tt)) × (first (short_in l.rule (wanted l.terms l.parts) l.plan l.parts) l.k ≡ l.k)
 
 abbrev pub decreases-scan : goal.decreases-scan
 decreases-scan l = l.n - l.k
