@@ -5,56 +5,44 @@ ghost use Rattle.std.specs.Prelude.{◌≡◌};
 ghost use Rattle.rules.specs.Terms.{rule_in, wanted};
 ghost use Rattle.plan_check.specs.Check.{scan_of, plan_check_of, Checks};
 
-use rules::{Finding, Refusal, Rule, Terms};
+use rules::{Refusal, Rule, Terms};
 
 // Refusal 9 alone: the lowest partition's lowest start whose stretch holds too little. It is public for a caller
 // whose plan is judged already, as the listing's is by the reader.
-pub fn scan(rule: Rule, terms: Terms, plan: &[u16], parts: &[u16]) -> Finding
+pub fn scan(rule: Rule, terms: Terms, plan: &[u16], parts: &[u16]) -> Result<(), Refusal>
     ensures { result ≡ scan_of rule (wanted terms parts.now) plan.now parts.now }
 {
-    let f = plan.len();
-    let n = rules::records::partitions(parts);
-    let mut found = Finding::Good;
-    let mut k = 0;
-    'scan: while k < n {
-        let m = rules::numbers::wide(rules::records::cycle(parts, k));
+    for k in 0..rules::records::partitions(parts) {
+        let m = usize::from(rules::records::cycle(parts, k));
         let q = rules::records::wanted(terms, parts, k);
         let mut stretch = plan_service::stretch_from(rule, plan, k + 1, m, 0);
-        while stretch.start < f {
+        while stretch.start < plan.len() {
             if stretch.held < q {
-                found = Finding::Refused(Refusal::Shortfall {
+                return Err(Refusal::Shortfall {
                     partition: k + 1,
                     start: stretch.start,
                     held: stretch.held,
                     wanted: q,
                 });
-                break 'scan;
             }
             stretch = plan_service::next_stretch(rule, plan, k + 1, stretch);
         }
-        k += 1;
     }
-    found
+    Ok(())
 }
 
 // Refusals 8 and 9, of tables whose numbers are within their limits.
-pub fn check_plan(terms: Terms, plan: &[u16], parts: &[u16]) -> Finding
+pub fn check_plan(terms: Terms, plan: &[u16], parts: &[u16]) -> Result<(), Refusal>
     ensures { result ≡ plan_check_of (rule_in terms) (wanted terms parts.now) plan.now parts.now }
 {
-    let ticks = tables::judge_ticks(plan, parts);
-    match ticks {
-        Finding::Refused(r) => Finding::Refused(r),
-        Finding::Good => scan(rules::rule_of(terms.edition), terms, plan, parts),
-    }
+    tables::judge_ticks(plan, parts)?;
+    scan(rules::rule_of(terms.edition), terms, plan, parts)
 }
 
 // Whether the plan serves the table.
-pub fn check(terms: Terms, plan: &[u16], parts: &[u16]) -> Finding
+pub fn check(terms: Terms, plan: &[u16], parts: &[u16]) -> Result<(), Refusal>
     ensures { Checks terms plan.now parts.now result }
 {
-    let tables = tables::judge_partitions(terms, plan.len(), parts);
-    match tables {
-        Finding::Refused(r) => Finding::Refused(r),
-        Finding::Good => check_plan(terms, plan, parts),
-    }
+    tables::judge_partitions(terms, plan.len(), parts)?;
+    check_plan(terms, plan, parts)
 }

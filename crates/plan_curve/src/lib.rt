@@ -11,7 +11,7 @@ ghost use Rattle.plan_curve.specs.Inner.{most, lower_at, lower_from, LoweredOn, 
 
 use plan_service::{serves_at, service_at};
 use rules::numbers::{smaller, wide, wide32};
-use rules::{Filling, Refusal, Rule};
+use rules::{Refusal, Rule};
 
 const FEW: usize = 64; // numbers; a frame within the limits has fewer divisors
 
@@ -204,17 +204,23 @@ pub fn draw(rule: Rule, plan: &[u16], p: usize, list: &mut [u32], n: usize)
 }
 
 // least(0) .. least(n) of partition p by an edition, at the start of the list.
-pub fn curve(edition: usize, plan: &[u16], p: u16, n: u32, list: &mut [u32]) -> Filling
+pub fn curve(
+    edition: usize,
+    plan: &[u16],
+    p: u16,
+    n: u32,
+    list: &mut [u32],
+) -> Result<usize, Refusal>
     ensures { DrawsCurve edition plan.now p n list.old list.new result }
 {
     if !rules::good_edition(edition) {
-        return Filling::Refused(Refusal::Edition);
+        return Err(Refusal::Edition);
     }
     let needed = (n as usize) + 1;
     if list.len() < needed {
-        return Filling::Refused(Refusal::Output);
+        return Err(Refusal::Output);
     }
     let rule = rules::rule_of(edition);
     draw(rule, plan, wide(p), list, needed);
-    Filling::Fills(needed)
+    Ok(needed)
 }

@@ -6,7 +6,7 @@ ghost use Rattle.rules.specs.Walk.{only};
 ghost use Rattle.theory.specs.Plan.{service, held, HeldIs, least, LeastIs, worst_start};
 
 use rules::numbers::wide;
-use rules::{Holding, Refusal, Rule};
+use rules::{Refusal, Rule};
 
 // The partition that the tick at a place of the frame serves, or 0 for none.
 pub fn service_at(rule: Rule, plan: &[u16], at: usize) -> usize
@@ -98,14 +98,14 @@ fn held_from(rule: Rule, plan: &[u16], p: usize, n: usize, s: usize) -> usize
 }
 
 // What a stretch holds by an edition, of numbers as a caller has them: the ticks that serve p among the n from tick s on.
-pub fn held(edition: usize, plan: &[u16], p: u16, s: u32, n: u32) -> Holding
+pub fn held(edition: usize, plan: &[u16], p: u16, s: u32, n: u32) -> Result<usize, Refusal>
     ensures { HeldIs edition plan.now p s n result }
 {
     if !rules::good_edition(edition) {
-        return Holding::Refused(Refusal::Edition);
+        return Err(Refusal::Edition);
     }
     let rule = rules::rule_of(edition);
-    Holding::Holds(held_from(rule, plan, p as usize, n as usize, s as usize))
+    Ok(held_from(rule, plan, p as usize, n as usize, s as usize))
 }
 
 // A stretch on the walk over starts: how many of its ticks serve some partition, and the place in the frame of the tick
@@ -195,12 +195,12 @@ pub fn worst_start(rule: Rule, plan: &[u16], p: usize, t: usize, low: usize) -> 
 }
 
 // The least number by an edition.
-pub fn least(edition: usize, plan: &[u16], p: u16, t: u32) -> Holding
+pub fn least(edition: usize, plan: &[u16], p: u16, t: u32) -> Result<usize, Refusal>
     ensures { LeastIs edition plan.now p t result }
 {
     if !rules::good_edition(edition) {
-        return Holding::Refused(Refusal::Edition);
+        return Err(Refusal::Edition);
     }
     let rule = rules::rule_of(edition);
-    Holding::Holds(least_by(rule, plan, p, t))
+    Ok(least_by(rule, plan, p, t))
 }

@@ -130,7 +130,12 @@ pub fn lowest<G: Fn(usize) -> bool>(n: usize, good: G) -> Result<(), usize>
 }
 
 // What tells against the granule and the tables, for cycles no longer than the frame: 3, 21, 6 and 7.
-pub fn judge_in_edition(terms: Terms, frame: usize, parts: &[u16], table: &[u16]) -> Result<(), Refusal>
+pub fn judge_in_edition(
+    terms: Terms,
+    frame: usize,
+    parts: &[u16],
+    table: &[u16],
+) -> Result<(), Refusal>
     ensures { result ≡ in_edition terms frame parts.now table.now }
 {
     if !within_limits(frame, parts.len(), table.len()) {
@@ -166,4 +171,3 @@ pub fn judge_ticks(plan: &[u16], parts: &[u16]) -> Result<(), Refusal>
 {
     lowest(plan.len(), |t| good_tick(plan, partitions(parts), t)).map_err(Refusal::Tick)
 }
-
