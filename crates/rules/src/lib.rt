@@ -9,7 +9,7 @@ ghost use Rattle.rules.specs.Terms.{good_edition, rule_of, filed};
 use limits::NEWEST_EDITION;
 
 pub mod limits; // limits.rt: every limit and width by name
-pub mod numbers; // numbers.rt: what numbers need everywhere
+pub mod numbers; // numbers.rt: the places after and before in a round
 pub mod records; // records.rt: the tables behind accessors, and ticks wanted
 
 // Which deadline binds the room of a place: the request's own, or that of a listed job, counted from 0 after dropping.

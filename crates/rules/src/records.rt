@@ -6,13 +6,12 @@ ghost use Rattle.rules.specs.Terms.{wanted};
 
 use crate::Terms;
 use crate::limits::{PART_WIDTH, TASK_WIDTH};
-use crate::numbers::wide;
 
 // What stands at a place of a table, or 0 past its end.
 pub fn entry(table: &[u16], k: usize) -> u16
     ensures { result ≡ get_or table.now k 0 }
 {
-    if k < table.len() { table[k] } else { 0 }
+    table.get(k).copied().unwrap_or(0)
 }
 
 // A field of the record at place k, in a table whose records are `width` numbers wide, or 0 past its end.
@@ -104,7 +103,7 @@ pub fn wants(granule: usize, m: u16, num: u16, den: u16) -> usize
     if den == 0 {
         return 0;
     }
-    up_to_granule(granule, (wide(num) * wide(m) + (wide(den) - 1)) / wide(den))
+    up_to_granule(granule, (usize::from(num) * usize::from(m) + (usize::from(den) - 1)) / usize::from(den))
 }
 
 // What the partition at place k wants.

@@ -26,4 +26,4 @@ returns-then-den-eq0 c = rw (c.if-den-eq0.true, zero-mul, div-zero) (sym (zero-m
 pub returns : goal.returns
 unfolding round_up
 returns c = c.up_to_granule.ensures
-    ∙ rw (c.wide.ensures, c.wide-2.ensures, c.wide-3.ensures, c.wide-4.ensures) (in_two _ _ _ _ (search rules))
+    ∙ rw (c.from.ensures, c.from-2.ensures, c.from-3.ensures, c.from-4.ensures) (in_two _ _ _ _ (search rules))
