@@ -1,8 +1,10 @@
 -- The terms of a call: what is given with it besides its tables and its plan. Assumes nothing.
-use Rattle.std.specs.Prelude.{ℕ, List, Bool, ◌&&◌, leb, eqb}
+use Rattle.std.specs.Prelude.{ℕ, List, Bool, ◌&&◌, leb, eqb, Result, Ok, Err}
 use Rattle.rules.specs.Limits.{most_granule, newest_edition}
 use Rattle.rules.specs.Walk.{pick}
 use Rattle.rules.specs.Table.{cycle, num, den, wants}
+use Rattle.rules.specs.declared.Refusal.{Refusal}
+use Rattle.rules.specs.declared.Refusal.TheVariants.{Edition}
 use Rattle.rules.specs.declared.Terms.{Terms}
 use Rattle.rules.specs.declared.Rule.{Rule}
 use Rattle.rules.specs.declared.Rule.TheVariants.{Own, Switching}
@@ -14,6 +16,10 @@ good_edition e = leb 1 e && leb e newest_edition
 -- "Files say edition 2; edition 1 files keep their rule for good"
 abbrev pub rule_of : ℕ → Rule
 rule_of e = pick (eqb e 1) Own Switching
+
+-- of a number given as an edition: its rule, or 2
+abbrev pub rule_given : ℕ → Result Rule Refusal
+rule_given e = pick (good_edition e) (Ok (rule_of e)) (Err Edition)
 
 -- document 02, ask 5: "g from 1 to 16, given with the call"
 unfoldable pub good_granule : ℕ → Bool

@@ -4,7 +4,7 @@
 ghost use Rattle.std.specs.Prelude.{◌≡◌};
 ghost use Rattle.rules.specs.Refusals.{told, telling, placed, questioned, binding_kind, binding_job};
 ghost use Rattle.rules.specs.declared.Refusal.TheVariants.{NoPlace};
-ghost use Rattle.rules.specs.Terms.{good_edition, rule_of, filed};
+ghost use Rattle.rules.specs.Terms.{good_edition, rule_of, rule_given, filed};
 
 use limits::NEWEST_EDITION;
 
@@ -105,6 +105,20 @@ pub fn rule_of(edition: usize) -> Rule
         return Rule::Own;
     }
     Rule::Switching
+}
+
+// The rule by which an edition's ticks serve, or 2 of a number that is no edition.
+impl TryFrom<usize> for Rule {
+    type Error = Refusal;
+
+    ghost try_from_gives = { λ edition r. r ≡ rule_given edition };
+
+    fn try_from(edition: usize) -> Result<Self, Refusal> {
+        if !good_edition(edition) {
+            return Err(Refusal::Edition);
+        }
+        Ok(rule_of(edition))
+    }
 }
 
 // The terms of a file, which has an edition and no granule.
