@@ -11,21 +11,27 @@ use Rattle.rules.specs.Walk.{gathered}
 use Rattle.rules.proofs.First.{gathered-zero, gathered_more}
 use Rattle.output.specs.Put.{Put}
 
-sets_append : (a b l : List ℕ) (i : ℕ) → sets l i (a ++ b) ≡ sets (sets l i a) (i + length a) b
+sets_append : {A : Type 0} (a b l : List A) (i : ℕ) → sets l i (a ++ b) ≡ sets (sets l i a) (i + length a) b
 sets_append [] b l i = rw (add-zero i)
 sets_append (x ∷ a) b l i = sets_append a b (set l i x) (suc i) ∙ (let e : suc i + length a ≡ i + suc (length a) = omega arith in rw e)
 
-pub put_none : (l : List ℕ) (i : ℕ) → Put l i [] i l
+pub put_none : {A : Type 0} (l : List A) (i : ℕ) → Put l i [] i l
 put_none l i = record { place = sym (add-zero i); bytes = refl }
 
 pub put_one : {l o : List ℕ} {i x r : ℕ} → r ≡ i + 1 → o ≡ set l i x → Put l i (x ∷ []) r o
 put_one p b = record { place = p; bytes = b }
 
-pub and_then : {l m o a b : List ℕ} {i j r : ℕ} → Put l i a j m → Put m j b r o → Put l i (a ++ b) r o
-and_then {l} {m} {o} {a} {b} {i} {j} {r} p q = record {
+pub and_then : {A : Type 0} {l m o a b : List A} {i j r : ℕ} → Put l i a j m → Put m j b r o → Put l i (a ++ b) r o
+and_then {l = l} {m} {o} {a} {b} {i} {j} {r} p q = record {
   place = rw (length-append a b) (omega (arith, p.place, q.place));
   bytes = rw (sets_append a b l i, ← p.bytes, ← p.place) q.bytes;
 }
+
+-- a loop's turn over what is put: one more of it
+pub put_turn :
+    {A : Type 0} {l m o : List A} {i j r : ℕ} (s : List A) (k : ℕ) (x : A) → k < length s → x ≡ get_or s k x
+    → Put l i (take k s) j m → Put m j (x ∷ []) r o → Put l i (take (k + 1) s) r o
+put_turn s k x h e p q = rw (add-one k, take-suc s k x h, ← e) (and_then p q)
 
 -- lines one behind the other: none, and one more
 pub lines_none : (f : ℕ → List ℕ) (l : List ℕ) (i : ℕ) → Put l i (gathered f 0) i l

@@ -1,7 +1,7 @@
 // What is put into a lent output from a place on, as far as there is room: numbers, text, decimals, and the line of a refusal.
 #![tactic(auto)]
 
-ghost use Rattle.std.specs.Prelude.{◌≡◌, ◌++◌, ◌+◌, ◌≤◌, ◌<◌, ◌^◌, length, set};
+ghost use Rattle.std.specs.Prelude.{◌≡◌, ◌++◌, [], ◌∷◌, ◌+◌, ◌≤◌, ◌<◌, ◌^◌, length, set};
 ghost use Rattle.output.specs.Inner.{byte};
 ghost use Rattle.output.specs.Put.{Put};
 ghost use Rattle.output.specs.Text.{bytes};
@@ -20,6 +20,45 @@ pub fn put_one<T: Copy>(out: &mut [T], at: usize, x: T) -> usize
         out[at] = x;
     }
     at + 1
+}
+
+// A lent output, filled from its start on, and the place behind what was put: what finds no room is counted all the same.
+#[derive(Drop)]
+pub struct Output<'a, T> {
+    pub lent: &'a mut [T],
+    pub at: usize,
+}
+
+impl<'a, T: Copy> Output<'a, T> {
+    pub fn new(lent: &'a mut [T]) -> Output<'a, T>
+        ensures same_reference { result.lent.ghost_name ≡ lent.entry.ghost_name }
+        ensures empty { (result.at ≡ 0) × (result.lent.now ≡ lent.old) }
+    {
+        Output { lent, at: 0 }
+    }
+
+    // One number or byte.
+    pub fn put(&mut self, x: T)
+        requires { self.old.at < 2 ^ 62 }
+        ensures same_reference { self.new.lent.ghost_name ≡ self.old.lent.ghost_name }
+        ensures put { Put self.old.lent.now self.old.at (x ∷ []) self.new.at self.new.lent.now }
+    {
+        if self.at < self.lent.len() {
+            self.lent[self.at] = x;
+        }
+        self.at += 1;
+    }
+
+    // All of them, in order.
+    pub fn put_all(&mut self, xs: &[T])
+        requires { (self.old.at < 2 ^ 60) × (length xs.now < 2 ^ 32) }
+        ensures same_reference { self.new.lent.ghost_name ≡ self.old.lent.ghost_name }
+        ensures put { Put self.old.lent.now self.old.at xs.now self.new.at self.new.lent.now }
+    {
+        for x in xs {
+            self.put(*x);
+        }
+    }
 }
 
 fn digit(n: usize) -> u8
