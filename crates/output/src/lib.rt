@@ -68,6 +68,44 @@ fn digit(n: usize) -> u8
     b'0' + n as u8
 }
 
+impl<'a> Output<'a, u8> {
+    // The digits of n, most significant first: those of n / 10, and then the last.
+    fn put_decimal(&mut self, n: usize)
+        requires { self.old.at < 2 ^ 60 }
+        ensures same_reference { self.new.lent.ghost_name ≡ self.old.lent.ghost_name }
+        ensures put { Put self.old.lent.now self.old.at (decimal n) self.new.at self.new.lent.now }
+    {
+        if n < 10 {
+            self.put(digit(n));
+            return;
+        }
+        self.put_decimal(n / 10);
+        self.put(digit(n % 10));
+    }
+
+    // A text, and a number behind it.
+    pub fn put_field(&mut self, text: &[u8], n: usize)
+        requires { (self.old.at < 2 ^ 50) × (length text.now < 2 ^ 32) }
+        ensures same_reference { self.new.lent.ghost_name ≡ self.old.lent.ghost_name }
+        ensures put { Put self.old.lent.now self.old.at (text.now ++ decimal n) self.new.at self.new.lent.now }
+        ensures short { self.new.at ≤ self.old.at + length text.now + 20 }
+    {
+        self.put_all(text);
+        self.put_decimal(n);
+    }
+
+    // A refusal's line.
+    pub fn put_refusal(&mut self, refusal: Refusal)
+        requires { self.old.at < 2 ^ 40 }
+        ensures same_reference { self.new.lent.ghost_name ≡ self.old.lent.ghost_name }
+        ensures put { Put self.old.lent.now self.old.at (refused_line refusal) self.new.at self.new.lent.now }
+        ensures short { self.new.at ≤ self.old.at + longest_line }
+    {
+        self.put_field(b"refused ", Told::from(refusal).number);
+        self.put_all(b"\n");
+    }
+}
+
 // The digits of n, most significant first: those of n / 10, and then the last.
 fn put_decimal(out: &mut [u8], at: usize, n: usize) -> usize
     requires { at < 2 ^ 60 }
