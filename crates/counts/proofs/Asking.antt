@@ -50,7 +50,7 @@ module _ (plan ps : List ℕ) (room : ℕ) where
       go : (f : Result (Unit {0}) Refusal) → plan_judged plan ps ≡ f → unless Err f (pick (long_enough plan ps room) (Ok (needed plan ps)) (Err Output)) ≡ Ok n
           → Planned plan ps × (n ≡ needed plan ps) × (needed plan ps ≤ room)
       go (Err r) h q = absurd (no_filling n r q)
-      go (Ok tt) h q =
+      go (Ok _) h q =
           let a = pick_first (long_enough plan ps room) _ _ (Ok n) (no_filling n Output) q in
           let m : n ≡ needed plan ps = cc a.1 in
           (planned plan ps h, m, leb-true _ _ a.0)

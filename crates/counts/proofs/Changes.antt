@@ -125,7 +125,7 @@ change_same plan ps list plan' o tick r c = go r c.0 c.1 c.2
     go : (r : Result (Unit {0}) Refusal) → r ≡ change_of plan ps list tick (get_or plan tick 0) → plan' ≡ changed_by r (set plan tick (get_or plan tick 0)) plan
         → o ≡ changed_by r (running_counts (set plan tick (get_or plan tick 0)) ps ++ drop (needed plan ps) list) list → (plan' ≡ plan) × (o ≡ list)
     go (Err x) e f g = (f, g)
-    go (Ok tt) e f g =
+    go (Ok _) e f g =
         let a = changeable plan ps list tick (get_or plan tick 0) (sym e) in
         let w : running_counts (set plan tick (get_or plan tick 0)) ps ++ drop (needed plan ps) list ≡ list = rw same (sym ((counted_is plan ps list).0 a.list_is)) in
         (f ∙ same, g ∙ w)

@@ -61,7 +61,7 @@ unfolding good_stretch
 is_stretch f s n l m = rw (lt-ltb s f l, le-leb n f m)
 
 -- refused unless the test holds
-pub tested : (b : Bool) (r : Refusal) → pick b (Ok tt) (Err r) ≡ (Ok tt) → b ≡ true
+pub tested : (b : Bool) (r : Refusal) → unless_good b r ≡ (Ok tt) → b ≡ true
 tested true r e = refl
 tested false r e = absurd (not_good r e)
 
@@ -199,7 +199,7 @@ module _ (plan ps list : List ℕ) (named : Result (Unit {0}) Refusal) (enough :
       go (Ok _) ea (Err r) eb l el m em d ed i ei = at_name (planned plan ps ea) r eb
       go (Ok _) ea (Ok _) eb false el m em d ed i ei = at_length (planned plan ps ea) eb (inl (leb-false _ _ el))
       go (Ok _) ea (Ok _) eb true el false em d ed i ei = at_length (planned plan ps ea) eb (inr em)
-      go (Ok tt) ea (Ok tt) eb true el true em true ed i ei =
+      go (Ok _) ea (Ok _) eb true el true em true ed i ei =
           at-counts (planned plan ps ea) eb (leb-true _ _ el) em (λ g. true≢false (sym ed ∙ all_agree plan list (needed plan ps) g.counts))
       go (Ok _) ea (Ok _) eb true el true em false ed (Err r) ei = at_stretch (planned plan ps ea) eb (counted (leb-true _ _ el) ed) em r ei
       go (Ok _) ea (Ok _) eb true el true em false ed (Ok _) ei = at_none (planned plan ps ea) eb (counted (leb-true _ _ el) ed) em ei

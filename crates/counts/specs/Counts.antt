@@ -1,5 +1,5 @@
 -- The running counts kept beside a plan, and what the calls over them answer. Assumes nothing.
-use Rattle.std.specs.Prelude.{ℕ, ◌+◌, ◌-◌, ◌*◌, ◌/◌, ◌%◌, ◌≡◌, Bool, true, ◌&&◌, List, [], ◌++◌, length, get_or, set, drop, ltb, leb, eqb, None, Result, Ok, Err}
+use Rattle.std.specs.Prelude.{ℕ, ◌+◌, ◌-◌, ◌*◌, ◌/◌, ◌%◌, ◌≡◌, Bool, true, ◌&&◌, List, [], ◌++◌, length, get_or, set, drop, ltb, leb, eqb, Result, Ok, Err}
 use Rattle.rules.specs.Walk.{pick, fails, some, listed}
 use Rattle.rules.specs.Limits.{question_width}
 use Rattle.rules.specs.Table.{field_at, partitions}

@@ -4,67 +4,56 @@ ghost use Rattle.counts.specs.Counts.{unless_good, plan_judged, list_judged, cou
 ghost use Rattle.counts.specs.Inner.{Sized};
 
 use counts_rows::differs;
+use rules::Refusal;
 use rules::records::partitions;
-use rules::{Finding, Refusal};
-use tables::first_found;
 
 // Refused where a test fails.
-pub fn unless_good(good: bool, refusal: Refusal) -> Finding
+pub fn unless_good(good: bool, refusal: Refusal) -> Result<(), Refusal>
     ensures { result ≡ unless_good good refusal }
 {
-    if good {
-        return Finding::Good;
-    }
-    Finding::Refused(refusal)
+    if good { Ok(()) } else { Err(refusal) }
 }
 
 // Whether p is a partition of the table; there are no numbers for idle.
+#[tactic(auto, unfolding(counts::specs::Counts::good_name))]
 pub fn good_name(parts: usize, p: usize) -> bool
     ensures { result ≡ good_name parts p }
 {
-    if p < 1 {
-        return false;
-    }
-    p <= parts
+    1 <= p && p <= parts
 }
 
 // Whether a stretch starts in a frame of f ticks and is no longer.
+#[tactic(auto, unfolding(counts::specs::Counts::good_stretch))]
 pub fn good_stretch(f: usize, s: usize, n: usize) -> bool
     ensures { result ≡ good_stretch f s n }
 {
-    if f <= s {
-        return false;
-    }
-    n <= f
+    s < f && n <= f
 }
 
 // 3, 6 and 8: the ticks are walked only where the frame is within its limits.
-pub fn judge_plan(plan: &[u16], parts: &[u16]) -> Finding
+pub fn judge_plan(plan: &[u16], parts: &[u16]) -> Result<(), Refusal>
     ensures { result ≡ plan_judged plan.now parts.now }
 {
-    let tables = tables::judge_partitions(rules::filed(1), plan.len(), parts);
-    match tables {
-        Finding::Refused(r) => Finding::Refused(r),
-        Finding::Good => tables::judge_ticks(plan, parts),
-    }
+    tables::judge_partitions(rules::filed(1), plan.len(), parts)?;
+    tables::judge_ticks(plan, parts)
 }
 
 // 12 and 20.
-fn judge_list(plan: &[u16], parts: &[u16], list: &[u16], enough: bool) -> Finding
+fn judge_list(plan: &[u16], parts: &[u16], list: &[u16], enough: bool) -> Result<(), Refusal>
     requires { Sized plan.now parts.now }
     ensures { result ≡ list_judged plan.now parts.now list.now enough }
 {
     let n = partitions(parts);
     if list.len() < n * (plan.len() + 1) {
-        return Finding::Refused(Refusal::Output);
+        return Err(Refusal::Output);
     }
     if !enough {
-        return Finding::Refused(Refusal::Output);
+        return Err(Refusal::Output);
     }
     if differs(plan, list, n) {
-        return Finding::Refused(Refusal::Counts);
+        return Err(Refusal::Counts);
     }
-    Finding::Good
+    Ok(())
 }
 
 // All of them: `named` is what is found of the partition or owner named, `within` of the tick or stretch, and `enough` says
@@ -73,15 +62,14 @@ pub fn judge_call(
     plan: &[u16],
     parts: &[u16],
     list: &[u16],
-    named: Finding,
+    named: Result<(), Refusal>,
     enough: bool,
-    within: Finding,
-) -> Finding
+    within: Result<(), Refusal>,
+) -> Result<(), Refusal>
     ensures { result ≡ counts_judged plan.now parts.now list.now named enough within }
 {
-    let before = first_found(judge_plan(plan, parts), named);
-    match before {
-        Finding::Refused(r) => Finding::Refused(r),
-        Finding::Good => first_found(judge_list(plan, parts, list, enough), within),
-    }
+    judge_plan(plan, parts)?;
+    named?;
+    judge_list(plan, parts, list, enough)?;
+    within
 }

@@ -9,73 +9,69 @@ ghost use Rattle.counts.specs.Inner.{Recounted};
 use counts_rows::{fill_row, fill_rows, look_up};
 use judging::{good_name, good_stretch, judge_call, judge_plan, unless_good};
 use questions::{answer_all, judge_names, judge_stretches, questions};
+use rules::Refusal;
 use rules::limits::QUESTION_WIDTH;
-use rules::numbers::wide;
 use rules::records::partitions;
-use rules::{Filling, Finding, Holding, Refusal};
 
 mod judging; // judging.rt: the one chain of refusals, 3, 6, 8, 8 with place 0, 12, 20 and 26
 mod questions; // questions.rt: many questions in one lent list
 
 // The answer for a list of so many numbers.
-fn fill_answer(plan: &[u16], parts: &[u16], room: usize) -> Filling
+fn fill_answer(plan: &[u16], parts: &[u16], room: usize) -> Result<usize, Refusal>
     ensures { result ≡ fill_of plan.now parts.now room }
 {
-    let planned = judge_plan(plan, parts);
-    match planned {
-        Finding::Refused(r) => Filling::Refused(r),
-        Finding::Good => {
-            let needed = partitions(parts) * (plan.len() + 1);
-            if room < needed {
-                return Filling::Refused(Refusal::Output);
-            }
-            Filling::Fills(needed)
-        }
+    judge_plan(plan, parts)?;
+    let needed = partitions(parts) * (plan.len() + 1);
+    if room < needed {
+        return Err(Refusal::Output);
     }
+    Ok(needed)
 }
 
 // The plan's counts, written into the first numbers of the list.
-pub fn fill(plan: &[u16], parts: &[u16], list: &mut [u16]) -> Filling
+pub fn fill(plan: &[u16], parts: &[u16], list: &mut [u16]) -> Result<usize, Refusal>
     ensures { FillsCounts plan.now parts.now list.old list.new result }
 {
-    let filled = fill_answer(plan, parts, list.len());
-    match filled {
-        Filling::Fills(n) => {
-            fill_rows(plan, list, partitions(parts));
-            Filling::Fills(n)
-        }
-        Filling::Refused(r) => Filling::Refused(r),
-    }
+    let n = fill_answer(plan, parts, list.len())?;
+    fill_rows(plan, list, partitions(parts));
+    Ok(n)
 }
 
 // What a stretch holds, from two or three numbers of the list: p's ticks among the n from tick s on.
-pub fn held(plan: &[u16], parts: &[u16], list: &[u16], p: usize, s: usize, n: usize) -> Holding
+pub fn held(
+    plan: &[u16],
+    parts: &[u16],
+    list: &[u16],
+    p: usize,
+    s: usize,
+    n: usize,
+) -> Result<usize, Refusal>
     ensures { HoldsOne plan.now parts.now list.now p s n result }
 {
     let named = unless_good(good_name(partitions(parts), p), Refusal::Asked(0));
     let within = unless_good(good_stretch(plan.len(), s, n), Refusal::Beyond(0));
-    let found = judge_call(plan, parts, list, named, true, within);
-    match found {
-        Finding::Refused(r) => Holding::Refused(r),
-        Finding::Good => Holding::Holds(look_up(plan, list, p, s, n)),
-    }
+    judge_call(plan, parts, list, named, true, within)?;
+    Ok(look_up(plan, list, p, s, n))
 }
 
 // The answer to many questions, for an output of so many answers.
-fn many_answer(plan: &[u16], parts: &[u16], list: &[u16], asked: &[u16], room: usize) -> Filling
+fn many_answer(
+    plan: &[u16],
+    parts: &[u16],
+    list: &[u16],
+    asked: &[u16],
+    room: usize,
+) -> Result<usize, Refusal>
     ensures { result ≡ many_of plan.now parts.now list.now asked.now room }
 {
     if asked.len() % QUESTION_WIDTH != 0 {
-        return Filling::Refused(Refusal::Limits);
+        return Err(Refusal::Limits);
     }
     let n = questions(asked);
     let named = judge_names(asked, partitions(parts));
     let within = judge_stretches(asked, plan.len());
-    let found = judge_call(plan, parts, list, named, n <= room, within);
-    match found {
-        Finding::Refused(r) => Filling::Refused(r),
-        Finding::Good => Filling::Fills(n),
-    }
+    judge_call(plan, parts, list, named, n <= room, within)?;
+    Ok(n)
 }
 
 // What many stretches hold: the list is judged once, then each answer is two or three numbers of it.
@@ -85,22 +81,23 @@ pub fn held_many(
     list: &[u16],
     asked: &[u16],
     answers: &mut [u16],
-) -> Filling
+) -> Result<usize, Refusal>
     ensures { HoldsMany plan.now parts.now list.now asked.now
         answers.old answers.new result }
 {
-    let answered = many_answer(plan, parts, list, asked, answers.len());
-    match answered {
-        Filling::Fills(n) => {
-            answer_all(plan, list, asked, answers, n);
-            Filling::Fills(n)
-        }
-        Filling::Refused(r) => Filling::Refused(r),
-    }
+    let n = many_answer(plan, parts, list, asked, answers.len())?;
+    answer_all(plan, list, asked, answers, n);
+    Ok(n)
 }
 
 // What tells against a change.
-fn judge_change(plan: &[u16], parts: &[u16], list: &[u16], tick: usize, owner: usize) -> Finding
+fn judge_change(
+    plan: &[u16],
+    parts: &[u16],
+    list: &[u16],
+    tick: usize,
+    owner: usize,
+) -> Result<(), Refusal>
     ensures { result ≡ change_of plan.now parts.now list.now tick owner }
 {
     let named = unless_good(owner <= partitions(parts), Refusal::Asked(0));
@@ -118,7 +115,7 @@ fn give(plan: &mut [u16], list: &mut [u16], tick: usize, owner: usize)
         × Recounted plan.new (get_or plan.old tick 0) list.old between
         × Recounted plan.new owner between list.new) }
 {
-    let old = wide(plan[tick]);
+    let old = usize::from(plan[tick]);
     plan[tick] = owner as u16;
     fill_row(plan, list, old);
     fill_row(plan, list, owner);
@@ -131,16 +128,11 @@ pub fn change(
     list: &mut [u16],
     tick: usize,
     owner: usize,
-) -> Finding
+) -> Result<(), Refusal>
     ensures { Changes plan.old parts.now list.old tick owner
         plan.new list.new result }
 {
-    let found = judge_change(plan, parts, list, tick, owner);
-    match found {
-        Finding::Good => {
-            give(plan, list, tick, owner);
-            Finding::Good
-        }
-        Finding::Refused(r) => Finding::Refused(r),
-    }
+    judge_change(plan, parts, list, tick, owner)?;
+    give(plan, list, tick, owner);
+    Ok(())
 }

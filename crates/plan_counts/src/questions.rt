@@ -8,30 +8,27 @@ ghost use Rattle.counts.specs.Inner.{Answerable};
 
 use crate::judging::{good_name, good_stretch};
 use counts_rows::look_up;
+use rules::Refusal;
 use rules::limits::QUESTION_WIDTH;
-use rules::numbers::wide;
-use rules::{Finding, Refusal};
+use rules::records::field_at;
+use tables::lowest;
 
-// A question's three numbers: none is looked for past the list's end, so no place is tested.
-fn asked(table: &[u16], k: usize) -> usize
-    requires { k < questions table.now }
-    ensures { result ≡ asked table.now k }
-{
-    wide(table[QUESTION_WIDTH * k])
+// A question's three numbers.
+#[derive(Clone, Copy)]
+struct Question {
+    asked: usize,
+    start: usize,
+    span: usize,
 }
 
-fn start(table: &[u16], k: usize) -> usize
-    requires { k < questions table.now }
-    ensures { result ≡ start table.now k }
+fn question_at(table: &[u16], k: usize) -> Question
+    ensures { (result.asked ≡ asked table.now k) × (result.start ≡ start table.now k) × (result.span ≡ span table.now k) }
 {
-    wide(table[QUESTION_WIDTH * k + 1])
-}
-
-fn span(table: &[u16], k: usize) -> usize
-    requires { k < questions table.now }
-    ensures { result ≡ span table.now k }
-{
-    wide(table[QUESTION_WIDTH * k + 2])
+    Question {
+        asked: usize::from(field_at(table, QUESTION_WIDTH, k, 0)),
+        start: usize::from(field_at(table, QUESTION_WIDTH, k, 1)),
+        span: usize::from(field_at(table, QUESTION_WIDTH, k, 2)),
+    }
 }
 
 pub fn questions(table: &[u16]) -> usize
@@ -40,34 +37,33 @@ pub fn questions(table: &[u16]) -> usize
     table.len() / QUESTION_WIDTH
 }
 
+#[tactic(auto, unfolding(counts::specs::Counts::names_one))]
+fn names_one(table: &[u16], parts: usize, k: usize) -> bool
+    ensures { result ≡ names_one parts table.now k }
+{
+    good_name(parts, question_at(table, k).asked)
+}
+
+#[tactic(auto, unfolding(counts::specs::Counts::within_frame))]
+fn within_frame(table: &[u16], f: usize, k: usize) -> bool
+    ensures { result ≡ within_frame f table.now k }
+{
+    let q = question_at(table, k);
+    good_stretch(f, q.start, q.span)
+}
+
 // The lowest question that names no partition of the table: 8 with place 0.
-pub fn judge_names(table: &[u16], parts: usize) -> Finding
+pub fn judge_names(table: &[u16], parts: usize) -> Result<(), Refusal>
     ensures { result ≡ lowest Asked (names_one parts table.now) (questions table.now) }
 {
-    let n = questions(table);
-    let mut k = 0;
-    while k < n {
-        if !good_name(parts, asked(table, k)) {
-            return Finding::Refused(Refusal::Asked(k + 1));
-        }
-        k += 1;
-    }
-    Finding::Good
+    lowest(questions(table), |k| names_one(table, parts, k)).map_err(Refusal::Asked)
 }
 
 // The lowest question that starts outside a frame of f ticks or is longer: 26.
-pub fn judge_stretches(table: &[u16], f: usize) -> Finding
+pub fn judge_stretches(table: &[u16], f: usize) -> Result<(), Refusal>
     ensures { result ≡ lowest Beyond (within_frame f table.now) (questions table.now) }
 {
-    let n = questions(table);
-    let mut k = 0;
-    while k < n {
-        if !good_stretch(f, start(table, k), span(table, k)) {
-            return Finding::Refused(Refusal::Beyond(k + 1));
-        }
-        k += 1;
-    }
-    Finding::Good
+    lowest(questions(table), |k| within_frame(table, f, k)).map_err(Refusal::Beyond)
 }
 
 // The answers to the first n questions, for a caller that knows the list to be the plan's.
@@ -76,10 +72,8 @@ pub fn answer_all(plan: &[u16], list: &[u16], table: &[u16], answers: &mut [u16]
     ensures { AsNamed (answer_at plan.now table.now) n
         answers.old answers.new }
 {
-    let mut k = 0;
-    while k < n {
-        let h = look_up(plan, list, asked(table, k), start(table, k), span(table, k));
-        answers[k] = h as u16;
-        k += 1;
+    for k in 0..n {
+        let q = question_at(table, k);
+        answers[k] = look_up(plan, list, q.asked, q.start, q.span) as u16;
     }
 }
