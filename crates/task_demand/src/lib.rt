@@ -11,7 +11,6 @@ ghost use Rattle.task_demand.specs.Inner.{Added, with_task, with_asked, all_aske
 
 use rules::Rule;
 use rules::limits::LONGEST;
-use rules::numbers::{smaller, wide, wide32};
 
 pub const TICKS: usize = LONGEST + 1; // numbers of a list, for 0 to 4,096 ticks
 
@@ -20,15 +19,13 @@ fn add_row(asks: &mut [u32], b: usize, e: usize, all: usize)
     requires { (b ≤ e) × (e ≤ length asks.old) × (all < 2 ^ 31) × SmallFrom b asks.old }
     ensures { Added all b e asks.old asks.new }
 {
-    let mut t = b;
-    while t < e {
-        asks[t] = (wide32(asks[t]) + all) as u32;
-        t += 1;
+    for t in b..e {
+        asks[t] += all as u32;
     }
 }
 
 // A task of budget c: "c times t/T, rounded up" is added to number t, for the first n. That is one c more from behind each
-// multiple of T up to the next, so that nothing is divided.
+// multiple of T up to the next, so that nothing is divided. The walk steps by the period, and the row's end is its next start.
 fn add_task(asks: &mut [u32], n: usize, c: u16, period: u16)
     requires { (0 < period) × (c ≤ period) × (period ≤ longest) × (0 < n) × (n ≤ longest + 1)
         × (n ≤ length asks.old) × Small asks.old }
@@ -37,8 +34,8 @@ fn add_task(asks: &mut [u32], n: usize, c: u16, period: u16)
     let mut all = 0;
     let mut t = 1;
     while t < n {
-        all = all + wide(c);
-        let e = smaller(t + wide(period), n);
+        all += usize::from(c);
+        let e = (t + usize::from(period)).min(n);
         add_row(asks, t, e, all);
         t = e;
     }
@@ -64,10 +61,8 @@ fn ask_rivals(tasks: &[u16], i: usize, asks: &mut [u32], n: usize)
         asks.old asks.new }
 {
     let p = rules::records::partition(tasks, i);
-    let mut j = 0;
-    while j < i {
+    for j in 0..i {
         ask_task(tasks, p, j, asks, n);
-        j += 1;
     }
 }
 
@@ -84,8 +79,8 @@ pub fn draw_task(
         × (longest < length curve.old) × (longest < length asks.old) }
     ensures { Drawn rule plan.now tasks.now i curve.new asks.new }
 {
-    let n = wide(rules::records::deadline(tasks, i)) + 1;
-    let p = wide(rules::records::partition(tasks, i));
+    let n = usize::from(rules::records::deadline(tasks, i)) + 1;
+    let p = usize::from(rules::records::partition(tasks, i));
     plan_curve::draw(rule, plan, p, curve, n);
     ask_rivals(tasks, i, asks, n);
 }
@@ -95,5 +90,5 @@ pub fn fits(curve: &[u32], asks: &[u32], c: u16, t: usize) -> bool
     requires { (t < length curve.now) × (t < length asks.now) }
     ensures { result ≡ fits_at curve.now asks.now c t }
 {
-    wide(c) + wide32(asks[t]) <= wide32(curve[t])
+    usize::from(c) + asks[t] as usize <= curve[t] as usize
 }

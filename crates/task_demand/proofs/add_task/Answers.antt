@@ -12,8 +12,8 @@ loop-t-init c = (search rules, refl, with_none _ _ _ c.requires.0, (0, jobs-none
 pub loop-t-preserved : goal.loop-t-preserved
 loop-t-preserved c = let l = c.loop-t in
     let k = l.invariant.3 in
-    let e = rw c.wide.ensures at c.smaller-e.ensures in
-    let all = more_asked _ _ _ _ k.2 c.wide-all.ensures in
+    let e = rw c.from.ensures at c.min-e.ensures in
+    let all = more_asked _ _ _ _ k.2 c.from-all.ensures in
     let w = c.add_row.ensures in (
       omega (arith, e),
       w.as_long ∙ l.invariant.1,

@@ -1,4 +1,3 @@
-use Prim.Native.Nat.{◌-◌, ◌≤◌}
 use mathlib.Core.Path.{◌≡◌}
 use lib.ListN.{length}
 use Rattle.rules.specs.Inner.{AsNamed}
@@ -6,7 +5,4 @@ use Rattle.task_demand.specs.Inner.{all_asked}
 use Rattle.task_demand.proofs.ask_rivals.Given as goal
 
 abbrev pub invariant-loop-j : goal.invariant-loop-j
-invariant-loop-j l = (l.j ≤ l.i) × (length l.asks ≡ length l.initial.asks) × AsNamed (all_asked l.tasks l.p l.j) l.n l.initial.asks l.asks
-
-abbrev pub decreases-loop-j : goal.decreases-loop-j
-decreases-loop-j l = l.i - l.j
+invariant-loop-j l = (length l.asks ≡ length l.initial.asks) × AsNamed (all_asked l.tasks l.p l.j) l.n l.initial.asks l.asks

@@ -3,4 +3,4 @@ use Rattle.task_demand.proofs.fits.Goals as goal
 
 pub returns : goal.returns
 unfolding fits_at
-returns c = rw (c.wide32-2.ensures.1, c.wide32.ensures.1, c.wide.ensures)
+returns c = rw c.from.ensures
