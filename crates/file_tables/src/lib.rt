@@ -5,8 +5,8 @@ ghost use Rattle.std.specs.Prelude.{◌≡◌, ◌<◌, ◌^◌, length};
 ghost use Rattle.file_tables.specs.Inner.{runs_counted};
 ghost use Rattle.file_tables.specs.Runs.{run_owner, run_length, runs, reached, repeats, good_run, runs_judged, file_tables_of};
 
-use rules::limits::{LONGEST, RUN_WIDTH};
 use rules::Refusal;
+use rules::limits::{LONGEST, RUN_WIDTH};
 
 pub fn run_owner(table: &[u16], k: usize) -> u16
     ensures { result ≡ run_owner table.now k }
