@@ -1,37 +1,38 @@
 -- Laws of words and numbers. Assumes nothing.
-use Prim.Native.Nat.{ℕ, ◌+◌, ◌-◌, ◌*◌, ◌≤◌, ◌<◌, min}
-use mathlib.Core.Path.{◌≡◌, refl, ap, ◌∙◌}
-use mathlib.Core.Bool.{true, false}
-use mathlib.Core.Logic.{◌⊎◌, inl, inr}
+use Prim.Native.Nat.{ℕ, ◌+◌, ◌-◌, ◌*◌, ◌≤◌, ◌<◌}
+use mathlib.Core.Path.{◌≡◌, refl, sym, ap, ◌∙◌}
+use mathlib.Core.Bool.{Bool, true, false, ◌&&◌, not}
 use mathlib.Core.List.{List, [], ◌∷◌}
 use native.Mathlib.Numerals.{add-one}
 use native.Mathlib.Omega.{arith}
 use lib.ListN.{length, get_or, take, drop, length-drop}
 use lib.Seq.{take-suc, take_all}
-use lib.Dec.{leb}
-use borrow.Author.Tests.{lt-ltb, le-ltb, le-leb, lt-leb, eq-eqb, ne_eqb}
+use Rattle.std.proofs.lemmas.List.{take-append-drop}
+use lib.Dec.{leb, ltb}
+use borrow.Author.Tests.{lt-ltb, le-ltb, le-leb, lt-leb, ne_eqb}
 use Rattle.rules.specs.Walk.{pick, first}
-use Rattle.rules.proofs.Sum.{le-or-lt}
+use Rattle.rules.proofs.First.{first_found}
 use Prim.Native.Char.{code}
 use Rattle.output.specs.Decimal.{value}
 use Rattle.output.proofs.Decimal.{value-append}
-use Rattle.share_words.specs.declared.Mark.TheVariants.{Solid, Break, NoDigit}
-use Rattle.share_words.specs.Words.{found, width, word_of, rest_of, differs, same, is_number, numeral, highest, no_number}
+use Rattle.std.specs.Prelude.{Some, None}
+use Rattle.std.specs.Char.{is_ascii_digit}
+use Rattle.share_words.specs.Words.{solid, ends_word, no_digit, stops_at, found, width, word_of, rest_of, is_number, numeral, highest}
 
 -- a part up to the end
 pub tail : (a : ℕ) (l : List ℕ) → take (length l - a) (drop a l) ≡ drop a l
 tail a l = take_all (length l - a) (drop a l) (simp length-drop (omega arith))
 
-pub word_is : (l : List ℕ) (a w : ℕ) → a ≡ found Solid l → w ≡ width (take (length l - a) (drop a l)) → take w (take (length l - a) (drop a l)) ≡ word_of l
+pub word_is : (l : List ℕ) (a w : ℕ) → a ≡ found solid l → w ≡ width (take (length l - a) (drop a l)) → take w (take (length l - a) (drop a l)) ≡ word_of l
 unfolding word_of
 word_is l a w ea ew = let e : w ≡ width (drop a l) = rw (tail a l) at ew in rw (tail a l, ← ea, ← e)
 
-pub rest_is : (l x : List ℕ) (a w : ℕ) → x ≡ take (length l - a) (drop a l) → a ≡ found Solid l → w ≡ width x → take (length x - w) (drop w x) ≡ rest_of l
+pub rest_is : (l x : List ℕ) (a w : ℕ) → x ≡ take (length l - a) (drop a l) → a ≡ found solid l → w ≡ width x → take (length x - w) (drop w x) ≡ rest_of l
 unfolding rest_of
 rest_is l x a w ex ea ew = let e : w ≡ width (drop a l) = ew ∙ ap width (ex ∙ tail a l) in rw (tail w x, ex, tail a l, ← ea, ← e)
 
 -- no word at the end
-pub width-none : (l : List ℕ) → length l < 1 → width l ≡ 0
+pub width-none : (l : List ℕ) → length l < 1 → 0 ≡ width l
 unfolding width first
 width-none [] h = refl
 width-none (b ∷ l) h = absurd (omega arith)
@@ -40,57 +41,58 @@ pub width_slash : (l : List ℕ) → get_or l 0 0 ≡ (code "/") → width l ≡
 unfolding width
 width_slash l e = rw e
 
-pub width_more : (l : List ℕ) (r : ℕ) → (get_or l 0 0 ≡ (code "/") → ⊥) → r ≡ found Break l → r ≡ width l
+pub width_more : (l : List ℕ) (r : ℕ) → (get_or l 0 0 ≡ (code "/") → ⊥) → r ≡ found ends_word l → r ≡ width l
 unfolding width
 width_more l r h e = rw (ne_eqb (get_or l 0 0) (code "/") h) e
-
--- two words of other lengths, with another byte at k, and neither
-pub same-long : (a b : List ℕ) → (length a ≡ length b → ⊥) → same a b ≡ false
-unfolding same
-same-long a b h = rw (ne_eqb (length a) (length b) h)
-
-pub same_not : (a b : List ℕ) (k : ℕ) → length a ≡ length b → k < length a → first (differs a b) (length a) ≡ k → same a b ≡ false
-unfolding same
-same_not a b k e h f = rw (f, eq-eqb (length a) (length b) e, lt-leb (length a) k h)
-
-pub same-all : (a b : List ℕ) → length a ≡ length b → first (differs a b) (length a) ≡ length a → same a b ≡ true
-unfolding same
-same-all a b e f = rw (f, eq-eqb (length a) (length b) e, le-leb (length a) (length a) (omega arith))
-
-pub differs_at_lem : (a b : List ℕ) (k : ℕ) → (get_or a k 0 ≡ get_or b k 0 → ⊥) → differs a b k ≡ true
-unfolding differs
-differs_at_lem a b k h = rw (ne_eqb (get_or a k 0) (get_or b k 0) h)
-
-pub agrees_at_lem : (a b : List ℕ) (k : ℕ) → get_or a k 0 ≡ get_or b k 0 → differs a b k ≡ false
-unfolding differs
-agrees_at_lem a b k h = rw (eq-eqb (get_or a k 0) (get_or b k 0) h)
 
 -- a turn over the digits: one more of them
 value_more : (w : List ℕ) (k : ℕ) → k < length w → value (take (k + 1) w) 0 ≡ value (take k w) 0 * 10 + (get_or w k 0 - code "0")
 unfolding value
 value_more w k h = rw (add-one k, take-suc w k 0 h) (value-append (take k w) (get_or w k 0 ∷ []) 0)
 
-cut : (x d : ℕ) → min (min x no_number * 10 + d) no_number ≡ min (x * 10 + d) no_number
-cut x d = omega arith
+pub digits_more : (w : List ℕ) (k v : ℕ) → k < length w → v ≡ value (take k w) 0 → v * 10 + (get_or w k 0 - code "0") ≡ value (take (k + 1) w) 0
+digits_more w k v h e = rw e (sym (value_more w k h))
 
-pub digits_more : (w : List ℕ) (k v d r : ℕ) → k < length w → v ≡ min (value (take k w) 0) no_number → d ≡ get_or w k 0 - code "0" → r ≡ min (v * 10 + d) no_number
-    → r ≡ min (value (take (k + 1) w) 0) no_number
-digits_more w k v d r h ev ed er = er ∙ rw (ev, ed, value_more w k h) (cut (value (take k w) 0) (get_or w k 0 - code "0"))
+-- what is read further says no less
+value-grows : (ds : List ℕ) (v : ℕ) → v ≤ value ds v
+unfolding value
+value-grows [] v = omega arith
+value-grows (d ∷ ds) v = let h = value-grows ds (v * 10 + (d - code "0")) in omega (arith, h)
 
--- no number: nothing, or a byte that is no digit
-pub numeral-none : (w : List ℕ) → length w < 1 → no_number ≡ numeral w
+-- no number: nothing, a byte that is no digit, or more than a number can say
+pub numeral-none : (w : List ℕ) → length w < 1 → None ≡ numeral w
 unfolding numeral is_number
 numeral-none w h = rw (le-ltb 0 (length w) (omega arith))
 
-pub numeral_odd : (w : List ℕ) → 1 ≤ length w → found NoDigit w < length w → no_number ≡ numeral w
-unfolding numeral is_number
-numeral_odd w l h = rw (lt-ltb 0 (length w) (omega arith), lt-leb (length w) (found NoDigit w) h)
+pub numeral_odd : (w : List ℕ) (k : ℕ) → k < length w → first (stops_at no_digit w) k ≡ k → no_digit (get_or w k 0) ≡ true → None ≡ numeral w
+unfolding numeral is_number stops_at
+numeral_odd w k l e h = rw (lt-ltb 0 (length w) (omega arith), first_found (stops_at no_digit w) (length w) k l e h, lt-leb (length w) k l)
 
--- digits alone
-pub numeral-all : (w : List ℕ) (r : ℕ) → 1 ≤ length w → length w ≤ found NoDigit w → r ≡ min (value w 0) no_number → r ≡ numeral w
+more-digits : (w : List ℕ) (k : ℕ) → value (take k w) 0 ≤ value w 0
+more-digits w k =
+    let h = value-grows (drop k w) (value (take k w) 0) in
+    let e : value w 0 ≡ value (drop k w) (value (take k w) 0) = sym (ap (λ l. value l 0) (take-append-drop k w)) ∙ value-append (take k w) (drop k w) 0 in
+    rw e h
+
+pub numeral-more : (w : List ℕ) (k v : ℕ) → k < length w → v ≡ value (take k w) 0 → highest < v * 10 + (get_or w k 0 - code "0") → None ≡ numeral w
 unfolding numeral is_number
-numeral-all w r l h e = rw (lt-ltb 0 (length w) (omega arith), le-leb (length w) (found NoDigit w) h) (step (le-or-lt (value w 0) highest))
+numeral-more w k v l e h = step (ltb 0 (length w)) (leb (length w) (found no_digit w))
   where
-    step : (value w 0 ≤ highest) ⊎ (highest < value w 0) → r ≡ pick (leb (value w 0) highest) (value w 0) no_number
-    step (inl m) = rw (le-leb (value w 0) highest m) (omega arith)
-    step (inr m) = rw (lt-leb (value w 0) highest m) (omega arith)
+    step : (a b : Bool) → None ≡ pick (a && b && leb (value w 0) highest) (Some (value w 0)) None
+    step true true = rw (lt-leb (value w 0) highest (omega (arith, h, digits_more w k v l e, more-digits w (k + 1))))
+    step true false = refl
+    step false b = refl
+
+-- digits alone, k of them read
+pub numeral-all : (w : List ℕ) (k v : ℕ) → 1 ≤ length w → length w ≤ k → k ≤ length w → first (stops_at no_digit w) k ≡ k → v ≡ value (take k w) 0 → v ≤ highest → Some v ≡ numeral w
+unfolding numeral is_number
+numeral-all w k v l h m f e g =
+    let n : k ≡ length w = omega arith in
+    let f' = rw n at f in
+    let e' : v ≡ value w 0 = e ∙ ap (λ x. value x 0) (take_all k w h) in
+    rw (lt-ltb 0 (length w) (omega arith), f', le-leb (length w) (length w) (omega arith), ← e', le-leb v highest g)
+
+-- the library's test of a byte
+pub digit_is : (b : ℕ) {r : Bool} → r ≡ is_ascii_digit b → no_digit b ≡ not r
+unfolding no_digit
+digit_is b e = rw e

@@ -1,84 +1,53 @@
 // The words of a line.
-ghost use Rattle.std.specs.Prelude.{◌≡◌, ◌||◌, ◌≤◌, length, eqb};
-ghost use Rattle.output.specs.Inner.{byte};
-ghost use Rattle.share_words.specs.Words.{blank, stops, found, width, word_of, ends_at, rest_of, same};
+ghost use Rattle.std.specs.Prelude.{◌≡◌, ◌≤◌, ℕ, Bool, length, bytes_eq};
+ghost use Rattle.share_words.specs.Words.{blank, ends_word, found, width, word_of, ends_at, rest_of};
 
-use crate::Mark;
-
+#[tactic(auto, unfolding(crate::specs::Words::blank))]
 fn is_blank(b: u8) -> bool
     ensures { result ≡ blank b }
 {
-    if b == b' ' {
-        return true;
-    }
-    if b == b'\t' {
-        return true;
-    }
-    b == b'\r'
+    matches!(b, b' ' | b'\t' | b'\r')
 }
 
+#[tactic(auto, unfolding(crate::specs::Words::ends_word))]
 fn ends_word(b: u8) -> bool
-    ensures { result ≡ blank b || eqb b (byte "/") }
+    ensures { result ≡ ends_word b }
 {
-    if is_blank(b) {
-        return true;
-    }
-    b == b'/'
-}
-
-fn no_digit(b: u8) -> bool
-    ensures { result ≡ stops Mark.NoDigit b }
-{
-    if b < b'0' {
-        return true;
-    }
-    !(b <= b'9')
-}
-
-fn stops(mark: Mark, b: u8) -> bool
-    ensures { result ≡ stops mark b }
-{
-    match mark {
-        Mark::Solid => !is_blank(b),
-        Mark::Break => ends_word(b),
-        Mark::Comment => b == b'#',
-        Mark::Line => b == b'\n',
-        Mark::NoDigit => no_digit(b),
-    }
+    is_blank(b) || b == b'/'
 }
 
 // The first place at which the search stops, or the end.
-pub fn find(l: &[u8], mark: Mark) -> usize
-    ensures { (result ≤ length l.now) × (result ≡ found mark l.now) }
+pub fn find<S: Fn(u8) -> bool>(l: &[u8], stops: S) -> usize
+    requires { S.IsAlwaysCallable stops }
+    ensures bound { result ≤ length l.now }
+    ensures place { (test : ℕ → Bool) → ((b : ℕ) (r : Bool) → S.post stops b r → r ≡ test b)
+        → result ≡ found test l.now }
 {
-    let n = l.len();
-    let mut k = 0;
-    while k < n {
-        if stops(mark, l[k]) {
+    for (k, b) in l.iter().enumerate() {
+        if stops(*b) {
             return k;
         }
-        k += 1;
     }
-    n
+    l.len()
 }
 
 // How long the word is that a line begins with.
 fn width(l: &[u8]) -> usize
     ensures { (result ≤ length l.now) × (result ≡ width l.now) }
 {
-    if l.len() < 1 {
+    if l.is_empty() {
         return 0;
     }
     if l[0] == b'/' {
         return 1;
     }
-    find(l, Mark::Break)
+    find(l, ends_word)
 }
 
 pub fn first_word(l: &[u8]) -> &[u8]
     ensures { result.now ≡ word_of l.now }
 {
-    let a = find(l, Mark::Solid);
+    let a = find(l, |b| !is_blank(b));
     let t = &l[a..];
     let w = width(t);
     &t[..w]
@@ -87,40 +56,22 @@ pub fn first_word(l: &[u8]) -> &[u8]
 pub fn after_word(l: &[u8]) -> &[u8]
     ensures { result.now ≡ rest_of l.now }
 {
-    let a = find(l, Mark::Solid);
+    let a = find(l, |b| !is_blank(b));
     let t = &l[a..];
     let w = width(t);
     &t[w..]
 }
 
-fn same(a: &[u8], b: &[u8]) -> bool
-    ensures { result ≡ same a.now b.now }
-{
-    let n = a.len();
-    if n != b.len() {
-        return false;
-    }
-    let mut k = 0;
-    while k < n {
-        if a[k] != b[k] {
-            return false;
-        }
-        k += 1;
-    }
-    true
-}
-
 // Whether the first word is this one.
 pub fn begins_with(l: &[u8], word: &[u8]) -> bool
-    ensures { result ≡ same (word_of l.now) word.now }
+    ensures { result ≡ bytes_eq (word_of l.now) word.now }
 {
-    same(first_word(l), word)
+    first_word(l) == word
 }
 
 // Whether no word is left.
 pub fn no_word(l: &[u8]) -> bool
     ensures { result ≡ ends_at l.now 0 }
 {
-    let w = first_word(l);
-    w.len() == 0
+    first_word(l).is_empty()
 }

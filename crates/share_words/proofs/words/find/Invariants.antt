@@ -1,11 +1,7 @@
 use Rattle.share_words.specs.Words.{stops_at}
 use Rattle.rules.specs.Walk.{first}
-use mathlib.Core.Path.{◌≡◌}
-use Prim.Native.Nat.{◌≤◌, ◌-◌}
+use Rattle.std.proofs.Common.{◌≡◌, ℕ, Bool}
 use Rattle.share_words.proofs.words.find.Given as goal
 
 abbrev pub invariant-loop-k : goal.invariant-loop-k
-invariant-loop-k l = (l.k ≤ l.n) × (first (stops_at l.mark l.l) l.k ≡ l.k)
-
-abbrev pub decreases-loop-k : goal.decreases-loop-k
-decreases-loop-k l = l.n - l.k
+invariant-loop-k g l = (test : ℕ → Bool) → ((b : ℕ) (r : Bool) → goal.S-post g l.stops b r → r ≡ test b) → first (stops_at test l.l) l.k ≡ l.k

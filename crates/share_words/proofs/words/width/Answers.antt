@@ -1,13 +1,13 @@
-use mathlib.Core.Path.{sym}
+use Rattle.std.proofs.Common.{rules, sym}
+use Rattle.share_words.specs.Words.{ends_word}
 use Rattle.share_words.proofs.WordLaws.{width-none, width_slash, width_more}
-use borrow.Author.Rules.{rules}
 use Rattle.share_words.proofs.words.width.Goals as goal
 
-pub returns-then-l-lt1 : goal.returns-then-l-lt1
-returns-then-l-lt1 c = (search rules, sym (width-none _ c.if-l-lt1.true))
+pub returns-then-is_empty : goal.returns-then-is_empty
+returns-then-is_empty c = (search rules, width-none _ (search rules))
 
 pub returns-then-l-eq47 : goal.returns-then-l-eq47
 returns-then-l-eq47 c = (search rules, sym (width_slash _ c.if-l-eq47.true))
 
 pub returns : goal.returns
-returns c = (c.find.ensures.0, width_more _ _ c.if-l-eq47.false c.find.ensures.1)
+returns c = (c.find.ensures.bound, width_more _ _ c.if-l-eq47.false (c.find.ensures.place ends_word (λ b r e. e)))
