@@ -4,7 +4,7 @@
 
 // A job: document 01's a, C, d, x.
 #[repr(C)]
-#[derive(Clone, Copy)]
+#[derive(Clone, Copy, PartialEq, Eq)]
 pub struct Job {
     pub start: u32,
     pub budget: u32,

@@ -7,7 +7,7 @@ use crate::decision::{Decision, decide, rest_of};
 use desk::{Desk, Done};
 use desk_reading::scan::Scan;
 use desk_reading::searching::new_job;
-use desk_records::numbers::{ALL_PLACES, FAR, less, sum};
+use desk_records::numbers::{ALL_PLACES, FAR};
 use desk_records::records::no_job;
 use desk_writing::fit::{Fit, still_fit};
 use desk_writing::shift::{Shift, still_shift};
@@ -48,7 +48,7 @@ pub fn open_effect(s: Scan) -> Effect
     let k = s.desk;
     let fit = Fit {
         still: false,
-        wait: less(ALL_PLACES, k.count),
+        wait: ALL_PLACES.saturating_sub(k.count),
         behind: FAR,
     };
     Effect {
@@ -108,17 +108,17 @@ pub fn take_effect(s: Scan) -> Effect
 {
     let q = s.searching;
     let rest = rest_of(s);
-    let count = sum(rest, 1);
+    let count = rest.saturating_add(1);
     let shift = Shift {
         still: false,
         before: q.place,
-        put: sum(less(rest, q.place), 1),
+        put: rest.saturating_sub(q.place).saturating_add(1),
         end: 0,
         carry: new_job(q),
     };
     let fit = Fit {
         still: false,
-        wait: less(ALL_PLACES, sum(q.place, 1)),
+        wait: ALL_PLACES.saturating_sub(q.place.saturating_add(1)),
         behind: q.behind,
     };
     Effect {
