@@ -14,7 +14,8 @@ use Rattle.rules.specs.Refusals.{told}
 use Rattle.rules.specs.declared.Refusal.TheVariants.{Busy, Full, NoPlace}
 use Rattle.rules.proofs.Tests.{and_parts}
 use Rattle.desk.specs.declared.Job.{Job}
-use Rattle.desk.specs.declared.Answer.TheVariants.{Taken}
+use Rattle.std.specs.Prelude.{Ok}
+use Rattle.desk.specs.declared.Done.TheVariants.{Taken}
 use Rattle.desk.specs.Table.{job, x_of, right_x, ends, Outcome}
 use Rattle.desk.specs.Places.{early, start_at, room}
 use Rattle.desk.specs.Request.{kept, find_from, insert_at, request_of, At, Nowhere}
@@ -233,7 +234,7 @@ module _ (clock n : ℕ) (l : List Job) (t c d : ℕ) where
   refused_fits o (inl w) = (λ e. absurd (omega (arith, w.0)), λ f. absurd (f w.1))
   refused_fits o (inr w) = (λ e. w.1, λ f. w.0)
 
-  started : (o : Outcome) (i s : ℕ) → o.answer ≡ Taken i s → Ending clock n l t c d o → s ≡ start_at t js i
+  started : (o : Outcome) (i s : ℕ) → o.answer ≡ Ok (Taken i s) → Ending clock n l t c d o → s ≡ start_at t js i
   started o i s e (same r h) = absurd (let z : ◌≡◌ {A = ℕ} 0 1 = cc in omega arith)
   started o i s e (dropped r h late small) = absurd (let z : ◌≡◌ {A = ℕ} 0 1 = cc in omega arith)
   started o i s e (taken i₂ s₂ late small some due few g spot) =

@@ -9,7 +9,8 @@ use lib.ListN.{length, take, drop, get_or}
 use lib.Seq.{get_or-take}
 use borrow.Author.Tests.{leb-true, leb-false}
 use Rattle.desk.specs.declared.Job.{Job}
-use Rattle.desk.specs.declared.Answer.TheVariants.{Taken}
+use Rattle.std.specs.Prelude.{Ok}
+use Rattle.desk.specs.declared.Done.TheVariants.{Taken}
 use Rattle.desk.specs.Table.{job, start, flex, ends, none, filled, right_x, Outcome}
 use Rattle.desk.specs.Places.{early, start_at, shift}
 use Rattle.desk.specs.Reason.{room_at, places_of}
@@ -73,7 +74,7 @@ module _ (clock n : ℕ) (l : List Job) (t c d : ℕ) (right : right_x (kept t (
   abbrev js : List Job
   js = kept t (take n l)
 
-  ending_within : (o : Outcome) (i s : ℕ) → o.answer ≡ Taken i s → Ending clock n l t c d o → MovesWithin js i o.jobs
+  ending_within : (o : Outcome) (i s : ℕ) → o.answer ≡ Ok (Taken i s) → Ending clock n l t c d o → MovesWithin js i o.jobs
   ending_within o i s e (same r h) = absurd (let z : ◌≡◌ {A = ℕ} 0 1 = cc in omega arith)
   ending_within o i s e (dropped r h late small) = absurd (let z : ◌≡◌ {A = ℕ} 0 1 = cc in omega arith)
   ending_within o i s e (taken i₂ s₂ late small some due few g spot) =

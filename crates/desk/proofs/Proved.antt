@@ -10,7 +10,9 @@ use Rattle.rules.specs.Walk.{pick}
 use Rattle.rules.specs.declared.Refusal.{Refusal}
 use Rattle.rules.specs.declared.Refusal.TheVariants.{Rules, Numbers, Past, Busy, Full, NoPlace}
 use Rattle.desk.specs.declared.Job.{Job}
-use Rattle.desk.specs.declared.Answer.TheVariants.{Opened, Taken, Refused}
+use Rattle.std.specs.Prelude.{Result, Ok, Err}
+use Rattle.desk.specs.declared.Done.{Done}
+use Rattle.desk.specs.declared.Done.TheVariants.{Opened, Taken}
 use Rattle.desk.specs.Table.{none, filled, outcome, flexes, table_ok, open_of, Outcome}
 use Rattle.desk.specs.Reason.{explanation_of}
 use Rattle.desk.specs.Request.{kept, find, dropping, taking, drops, request_of, Place, At, Nowhere}
@@ -29,22 +31,22 @@ use Rattle.desk.proofs.Still.{refused-same, taken-joined, still, all-since_openi
 open_leaves : OpenLeaves
 unfolding open_of
 open_leaves clock n l r e = cases (table_ok n l) e where
-  cases : (b : Bool) → (pick b (outcome (filled (flexes (take n l))) n 0 Opened) (outcome l n clock (Refused Rules))).answer ≡ Refused r
-      → pick b (outcome (filled (flexes (take n l))) n 0 Opened) (outcome l n clock (Refused Rules)) ≡ outcome l n clock (Refused Rules)
+  cases : (b : Bool) → (pick b (outcome (filled (flexes (take n l))) n 0 (Ok Opened)) (outcome l n clock (Err Rules))).answer ≡ Err r
+      → pick b (outcome (filled (flexes (take n l))) n 0 (Ok Opened)) (outcome l n clock (Err Rules)) ≡ outcome l n clock (Err Rules)
   cases true w = absurd (let z : ◌≡◌ {A = ℕ} 0 1 = cc in omega arith)
   cases false w = refl
 
 module _ (clock n : ℕ) (l : List Job) (t c d : ℕ) where
   -- a call that leaves what its refusal says, and the time where it takes the job in
   record Right (o : Outcome) : Type 0 where
-    refused : (r : Refusal) → o.answer ≡ Refused r
-        → o ≡ pick (drops r) (dropping t (kept t (take n l)) r) (outcome l n clock (Refused r))
-    taken : (i s : ℕ) → o.answer ≡ Taken i s → o.clock ≡ t
+    refused : (r : Refusal) → o.answer ≡ Err r
+        → o ≡ pick (drops r) (dropping t (kept t (take n l)) r) (outcome l n clock (Err r))
+    taken : (i s : ℕ) → o.answer ≡ Ok (Taken i s) → o.clock ≡ t
 
-  same-refused : (q r : Refusal) → Refused q ≡ Refused r → q ≡ r
+  same-refused : (q r : Refusal) → ◌≡◌ {A = Result Done Refusal} (Err q) (Err r) → q ≡ r
   same-refused q r e = cc
 
-  stays : (q : Refusal) → drops q ≡ false → Right (outcome l n clock (Refused q))
+  stays : (q : Refusal) → drops q ≡ false → Right (outcome l n clock (Err q))
   stays q h =
       record {
         refused = λ r e. let z = same-refused q r e in rw (← z, h);

@@ -11,7 +11,7 @@ use Rattle.rules.specs.Walk.{pick}
 use Rattle.rules.specs.Limits.{places, latest}
 use Rattle.rules.specs.declared.Refusal.TheVariants.{Rules, Numbers, Past, Busy, Full}
 use Rattle.desk.specs.declared.Job.{Job}
-use Rattle.desk.specs.declared.Answer.TheVariants.{Refused}
+use Rattle.std.specs.Prelude.{Err}
 use Rattle.desk.specs.Table.{desk_ok, outcome, Outcome}
 use Rattle.desk.specs.Request.{kept, busy, find, dropping, taking, numbers_ok, request_of, Place, At, Nowhere}
 use Rattle.desk.specs.Theorems.{NoLower, Ready, LowerExactly}
@@ -19,9 +19,9 @@ use Rattle.desk.proofs.Check.{numbers-small}
 
 -- how far a request comes: to the first test that refuses it, or through all of them to the search
 pub data Comes (clock n : ℕ) (l : List Job) (t c d : ℕ) : Outcome → Type 0 where
-  at_13 : desk_ok clock n l ≡ false → Comes clock n l t c d (outcome l n clock (Refused Rules))
-  at_14 : numbers_ok t c d ≡ false → Comes clock n l t c d (outcome l n clock (Refused Numbers))
-  at_15 : t < clock → Comes clock n l t c d (outcome l n clock (Refused Past))
+  at_13 : desk_ok clock n l ≡ false → Comes clock n l t c d (outcome l n clock (Err Rules))
+  at_14 : numbers_ok t c d ≡ false → Comes clock n l t c d (outcome l n clock (Err Numbers))
+  at_15 : t < clock → Comes clock n l t c d (outcome l n clock (Err Past))
   at_16 : clock ≤ t → t ≤ latest → busy t (kept t (take n l)) ≡ true → Comes clock n l t c d (dropping t (kept t (take n l)) Busy)
   at_17 : clock ≤ t → t ≤ latest → places ≤ length (kept t (take n l)) → Comes clock n l t c d (dropping t (kept t (take n l)) Full)
   through : Ready clock n l t c d
@@ -39,10 +39,10 @@ module _ (clock n : ℕ) (l : List Job) (t c d : ℕ) where
   behind_15 = pick (busy t js) (dropping t js Busy) behind_16
 
   abbrev behind_14 : Outcome
-  behind_14 = pick (ltb t clock) (outcome l n clock (Refused Past)) behind_15
+  behind_14 = pick (ltb t clock) (outcome l n clock (Err Past)) behind_15
 
   abbrev behind_13 : Outcome
-  behind_13 = pick (not (numbers_ok t c d)) (outcome l n clock (Refused Numbers)) behind_14
+  behind_13 = pick (not (numbers_ok t c d)) (outcome l n clock (Err Numbers)) behind_14
 
   pub comes : Comes clock n l t c d (request_of clock n l t c d)
   unfolding request_of
@@ -59,16 +59,16 @@ module _ (clock n : ℕ) (l : List Job) (t c d : ℕ) where
     by_16 false e r m h = by_17 (leb places (length js)) refl r m h e
 
     by_15 : (b : Bool) → ltb t clock ≡ b → desk_ok clock n l ≡ true → numbers_ok t c d ≡ true
-        → Comes clock n l t c d (pick b (outcome l n clock (Refused Past)) behind_15)
+        → Comes clock n l t c d (pick b (outcome l n clock (Err Past)) behind_15)
     by_15 true e r m = at_15 (ltb-true t clock e)
     by_15 false e r m = by_16 (busy t js) refl r m (ltb-false t clock e)
 
     by_14 : (b : Bool) → numbers_ok t c d ≡ b → desk_ok clock n l ≡ true
-        → Comes clock n l t c d (pick (not b) (outcome l n clock (Refused Numbers)) behind_14)
+        → Comes clock n l t c d (pick (not b) (outcome l n clock (Err Numbers)) behind_14)
     by_14 true e r = by_15 (ltb t clock) refl r e
     by_14 false e r = at_14 e
 
-    by_13 : (b : Bool) → desk_ok clock n l ≡ b → Comes clock n l t c d (pick (not b) (outcome l n clock (Refused Rules)) behind_13)
+    by_13 : (b : Bool) → desk_ok clock n l ≡ b → Comes clock n l t c d (pick (not b) (outcome l n clock (Err Rules)) behind_13)
     by_13 true e = by_14 (numbers_ok t c d) refl e
     by_13 false e = at_13 e
 

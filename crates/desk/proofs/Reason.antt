@@ -18,7 +18,8 @@ use Rattle.rules.specs.declared.Explanation.TheVariants as why
 use Rattle.rules.proofs.Tests.{and_parts}
 use Rattle.rules.proofs.Sum.{le-or-lt}
 use Rattle.desk.specs.declared.Job.{Job}
-use Rattle.desk.specs.declared.Answer.TheVariants.{Taken, Refused}
+use Rattle.std.specs.Prelude.{Ok, Err}
+use Rattle.desk.specs.declared.Done.TheVariants.{Taken}
 use Rattle.desk.specs.Table.{right_x, Outcome}
 use Rattle.desk.specs.Places.{early, start_at}
 use Rattle.desk.specs.Reason.{room_at, places_of, largest_room, roomiest, longer_end, late, binding_at, explanation_of}
@@ -41,12 +42,12 @@ module _ (clock n : ℕ) (l : List Job) (t c d : ℕ) where
   abbrev js : List Job
   js = kept t (take n l)
 
-  searched : (reason : Explanation) → Ready clock n l t c d → (p : Place) → find t c d js ≡ p → (taking t c d js p).answer ≡ Refused (NoPlace reason)
+  searched : (reason : Explanation) → Ready clock n l t c d → (p : Place) → find t c d js ≡ p → (taking t c d js p).answer ≡ Err (NoPlace reason)
       → Because clock n l t c d reason
   searched reason w Nowhere e q = record { ready = w; is = cc; nowhere = e }
   searched reason w (At i s) e q = absurd (let y : ◌≡◌ {A = ℕ} 0 1 = cc in omega arith)
 
-  because_by : (reason : Explanation) (o : Outcome) → Comes clock n l t c d o → o.answer ≡ Refused (NoPlace reason) → Because clock n l t c d reason
+  because_by : (reason : Explanation) (o : Outcome) → Comes clock n l t c d o → o.answer ≡ Err (NoPlace reason) → Because clock n l t c d reason
   because_by reason o (at_13 e) q = absurd (let y : ◌≡◌ {A = ℕ} 0 1 = cc in omega arith)
   because_by reason o (at_14 e) q = absurd (let y : ◌≡◌ {A = ℕ} 0 1 = cc in omega arith)
   because_by reason o (at_15 e) q = absurd (let y : ◌≡◌ {A = ℕ} 0 1 = cc in omega arith)
@@ -54,7 +55,7 @@ module _ (clock n : ℕ) (l : List Job) (t c d : ℕ) where
   because_by reason o (at_17 a b e) q = absurd (let y : ◌≡◌ {A = ℕ} 0 1 = cc in omega arith)
   because_by reason o (through w) q = searched reason w (find t c d js) refl q
 
-  because : (reason : Explanation) → (request_of clock n l t c d).answer ≡ Refused (NoPlace reason) → Because clock n l t c d reason
+  because : (reason : Explanation) → (request_of clock n l t c d).answer ≡ Err (NoPlace reason) → Because clock n l t c d reason
   because reason q = because_by reason (request_of clock n l t c d) (comes clock n l t c d) q
 
   ordered : Ready clock n l t c d → Chain t js
@@ -69,7 +70,7 @@ module _ (clock n : ℕ) (l : List Job) (t c d : ℕ) where
   request_ready w = rw (w.rules, w.numbers, le-ltb t clock w.not_past, w.not_busy, lt-leb places (length js) w.not_full)
 
   -- and finds a place there
-  request_taken : Ready clock n l t c d → (i s : ℕ) → find t c d js ≡ At i s → (request_of clock n l t c d).answer ≡ Taken i s
+  request_taken : Ready clock n l t c d → (i s : ℕ) → find t c d js ≡ At i s → (request_of clock n l t c d).answer ≡ Ok (Taken i s)
   request_taken w i s e = rw (request_ready w, e)
 
 -- ---- the definition says what it is to

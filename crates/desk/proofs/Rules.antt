@@ -14,8 +14,9 @@ use Rattle.rules.specs.declared.Explanation.{Explanation}
 use Rattle.rules.specs.declared.Refusal.TheVariants.{Rules, Numbers, Past, Busy, Full, NoPlace}
 use Rattle.rules.specs.Limits.{places, latest}
 use Rattle.desk.specs.declared.Job.{Job}
-use Rattle.desk.specs.declared.Answer.{Answer}
-use Rattle.desk.specs.declared.Answer.TheVariants.{Opened, Taken, Refused}
+use Rattle.std.specs.Prelude.{Result, Ok, Err}
+use Rattle.desk.specs.declared.Done.{Done}
+use Rattle.desk.specs.declared.Done.TheVariants.{Opened, Taken}
 use Rattle.rules.specs.Walk.{pick}
 use Rattle.desk.specs.Table.{job, none, filled, x_of, refit, flexes, all_zeros, right_x, table_ok, desk_ok, outcome, open_of, ends, Outcome}
 use Rattle.desk.specs.Call.{said}
@@ -97,12 +98,12 @@ pub data Why (t c d : ℕ) (js : List Job) : Refusal → Type 0 where
 
 -- how a request on a sound table ends
 pub data Ending (clock n : ℕ) (l : List Job) (t c d : ℕ) : Outcome → Type 0 where
-  same : (r : Refusal) → (13 < (told r).number) × ((told r).number < 16) → Ending clock n l t c d (outcome l n clock (Refused r))
+  same : (r : Refusal) → (13 < (told r).number) × ((told r).number < 16) → Ending clock n l t c d (outcome l n clock (Err r))
   dropped : (r : Refusal) → Why t c d (kept t (take n l)) r → clock ≤ t → t ≤ latest
       → Ending clock n l t c d (dropping t (kept t (take n l)) r)
   taken : (i s : ℕ) → clock ≤ t → t ≤ latest → 1 ≤ c → d ≤ latest → length (kept t (take n l)) < places → Chain t (kept t (take n l))
       → Spot c d t i (kept t (take n l)) s
-      → Ending clock n l t c d (outcome (filled (insert_at i (job s c d 0) (kept t (take n l)))) (length (kept t (take n l)) + 1) t (Taken i s))
+      → Ending clock n l t c d (outcome (filled (insert_at i (job s c d 0) (kept t (take n l)))) (length (kept t (take n l)) + 1) t (Ok (Taken i s)))
 
 module _ (clock n : ℕ) (l : List Job) (t c d : ℕ) (sound : Sound clock n l) where
   good : Good (length (kept t (take n l))) (kept t (take n l))
@@ -193,7 +194,7 @@ module _ (clock n : ℕ) (l : List Job) (table : table_ok n l ≡ true) where
         right = refit_right (take n l) [] refl;
       }
 
-  pub open_is : open_of clock n l ≡ outcome (filled (flexes (take n l))) n 0 Opened
+  pub open_is : open_of clock n l ≡ outcome (filled (flexes (take n l))) n 0 (Ok Opened)
   unfolding open_of
   open_is = rw table
 
@@ -201,14 +202,14 @@ module _ (clock n : ℕ) (l : List Job) (table : table_ok n l ≡ true) where
   pub open_sound : SoundAfter (open_of clock n l)
   open_sound = rw open_is (sound-filled 0 n (flexes (take n l)) (omega arith) open_good)
 
-pub open_refused : (clock n : ℕ) (l : List Job) → table_ok n l ≡ false → open_of clock n l ≡ outcome l n clock (Refused Rules)
+pub open_refused : (clock n : ℕ) (l : List Job) → table_ok n l ≡ false → open_of clock n l ≡ outcome l n clock (Err Rules)
 unfolding open_of
 open_refused clock n l z = rw z
 
-pub opened_table : (clock n : ℕ) (l : List Job) → (open_of clock n l).answer ≡ Opened → table_ok n l ≡ true
+pub opened_table : (clock n : ℕ) (l : List Job) → (open_of clock n l).answer ≡ Ok Opened → table_ok n l ≡ true
 unfolding open_of
 opened_table clock n l e = cases (table_ok n l) refl e where
-  cases : (b : Bool) → table_ok n l ≡ b → (pick b (outcome (filled (flexes (take n l))) n 0 Opened) (outcome l n clock (Refused Rules))).answer ≡ Opened → table_ok n l ≡ true
+  cases : (b : Bool) → table_ok n l ≡ b → (pick b (outcome (filled (flexes (take n l))) n 0 (Ok Opened)) (outcome l n clock (Err Rules))).answer ≡ Ok Opened → table_ok n l ≡ true
   cases true z w = z
   cases false z w = absurd (let y : ◌≡◌ {A = ℕ} 0 1 = cc in omega arith)
 
@@ -225,7 +226,7 @@ fresh (j ∷ js) r =
 pub afresh : (o : Outcome) → SoundAfter o → flexes (take o.count o.jobs) ≡ take o.count o.jobs
 afresh o s = fresh (take o.count o.jobs) (good_of o.clock o.count o.jobs s).right
 
-refuse_rules : (clock n : ℕ) (l : List Job) (t c d : ℕ) → desk_ok clock n l ≡ false → (request_of clock n l t c d).answer ≡ Refused Rules
+refuse_rules : (clock n : ℕ) (l : List Job) (t c d : ℕ) → desk_ok clock n l ≡ false → (request_of clock n l t c d).answer ≡ Err Rules
 unfolding request_of
 refuse_rules clock n l t c d z = rw z
 
@@ -234,12 +235,12 @@ pub sound-unless : (clock n : ℕ) (l : List Job) (t c d : ℕ) → ((said (requ
 sound-unless clock n l t c d h = cases (desk_ok clock n l) refl where
   cases : (b : Bool) → desk_ok clock n l ≡ b → Sound clock n l
   cases true z = record { test = z }
-  cases false z = absurd (h (ap (λ (a : Answer). (said a).number) (refuse_rules clock n l t c d z)))
+  cases false z = absurd (h (ap (λ (a : Result Done Refusal). (said a).number) (refuse_rules clock n l t c d z)))
 
 -- nor is one that is taken
-pub sound-taken : (clock n : ℕ) (l : List Job) (t c d i s : ℕ) → (request_of clock n l t c d).answer ≡ Taken i s → Sound clock n l
+pub sound-taken : (clock n : ℕ) (l : List Job) (t c d i s : ℕ) → (request_of clock n l t c d).answer ≡ Ok (Taken i s) → Sound clock n l
 sound-taken clock n l t c d i s e =
-    sound-unless clock n l t c d (λ f. let z : 0 ≡ 13 = sym (ap (λ (a : Answer). (said a).number) e) ∙ f in absurd (omega arith))
+    sound-unless clock n l t c d (λ f. let z : 0 ≡ 13 = sym (ap (λ (a : Result Done Refusal). (said a).number) e) ∙ f in absurd (omega arith))
 
 pub open_sound_unless : (clock n : ℕ) (l : List Job) → ((said (open_of clock n l).answer).number ≡ 13 → ⊥) → SoundAfter (open_of clock n l)
 open_sound_unless clock n l h = cases (table_ok n l) refl where

@@ -11,8 +11,9 @@ use borrow.Author.Tests.{ltb-true, ltb-false}
 use Rattle.rules.specs.declared.Refusal.{Refusal}
 use Rattle.desk.specs.declared.Job.{Job}
 use Rattle.desk.specs.declared.Asked.{Asked}
-use Rattle.desk.specs.declared.Answer.{Answer}
-use Rattle.desk.specs.declared.Answer.TheVariants.{Taken, Refused}
+use Rattle.std.specs.Prelude.{Result, Ok, Err}
+use Rattle.desk.specs.declared.Done.{Done}
+use Rattle.desk.specs.declared.Done.TheVariants.{Taken}
 use Rattle.desk.specs.Table.{job, filled, table_ok, open_of, Outcome}
 use Rattle.desk.specs.Places.{shift}
 use Rattle.desk.specs.Request.{kept, insert_at}
@@ -100,11 +101,11 @@ fixed_after t xs us vs g k h low = cases (ltb k (length xs)) refl where
       absurd (omega arith)
 
 -- all that is said of one request
-pub data Step (h : Story) (q : Asked) : Story → Answer → Type 0 where
-  refused : (n : Story) (r : Refusal) → h.desk.clock ≤ n.desk.clock → ever n ≡ ever h → Step h q n (Refused r)
+pub data Step (h : Story) (q : Asked) : Story → Result Done Refusal → Type 0 where
+  refused : (n : Story) (r : Refusal) → h.desk.clock ≤ n.desk.clock → ever n ≡ ever h → Step h q n (Err r)
   joined : (n : Story) (i s : ℕ) → h.desk.clock ≤ q.time → n.desk.clock ≡ q.time
       → Joined (ever h) (ever n) (length n.gone + i) (entry q.time q.budget q.deadline s)
-      → Fixed q.time (ever h) (ever n) → Step h q n (Taken i s)
+      → Fixed q.time (ever h) (ever n) → Step h q n (Ok (Taken i s))
 
 module _ (h : Story) (q : Asked) (k : Kept h) where
   step_ending : (o : Outcome) → Ending h.desk.clock h.desk.count h.desk.jobs q.time q.budget q.deadline o
@@ -146,11 +147,11 @@ module _ (h : Story) (q : Asked) (k : Kept h) where
   step = step_ending (next h q).desk (ending h.desk.clock h.desk.count h.desk.jobs q.time q.budget q.deadline k.sound)
 
 module _ (h : Story) (q : Asked) where
-  by_refusal : (n : Story) (a : Answer) (r : Refusal) → a ≡ Refused r → Step h q n a → ever n ≡ ever h
+  by_refusal : (n : Story) (a : Result Done Refusal) (r : Refusal) → a ≡ Err r → Step h q n a → ever n ≡ ever h
   by_refusal n a r e (refused m p late w) = w
   by_refusal n a r e (joined m i s late z w f) = absurd (let z : ◌≡◌ {A = ℕ} 0 1 = cc in omega arith)
 
-  by_taken : (n : Story) (a : Answer) (i s : ℕ) → a ≡ Taken i s → Step h q n a
+  by_taken : (n : Story) (a : Result Done Refusal) (i s : ℕ) → a ≡ Ok (Taken i s) → Step h q n a
       → Joined (ever h) (ever n) (length n.gone + i) (entry q.time q.budget q.deadline s)
   by_taken n a i s e (refused m p late w) = absurd (let z : ◌≡◌ {A = ℕ} 0 1 = cc in omega arith)
   by_taken n a i s e (joined m k u late z w f) =
@@ -158,25 +159,25 @@ module _ (h : Story) (q : Asked) where
       let es : u ≡ s = cc in
       rw (← ei, ← es) w
 
-  by_time : (n : Story) (a : Answer) → Step h q n a → Fixed q.time (ever h) (ever n)
+  by_time : (n : Story) (a : Result Done Refusal) → Step h q n a → Fixed q.time (ever h) (ever n)
   by_time n a (refused m p late w) = λ k g low. ap (λ (l : List Entry). get_or l k no_entry) w
   by_time n a (joined m i s late z w f) = f
 
-  by_clock : (n : Story) (a : Answer) → Step h q n a → (h.desk.clock ≤ n.desk.clock) × Fixed h.desk.clock (ever h) (ever n)
+  by_clock : (n : Story) (a : Result Done Refusal) → Step h q n a → (h.desk.clock ≤ n.desk.clock) × Fixed h.desk.clock (ever h) (ever n)
   by_clock n a (refused m p late w) = (late, λ k g low. ap (λ (l : List Entry). get_or l k no_entry) w)
   by_clock n a (joined m i s late z w f) = (omega arith, λ k g low. f k g (omega arith))
 
-  by_count : (n : Story) (a : Answer) (m : ℕ) → Step h q n a → length (ever n) + m ≡ length (ever h) + count_taken a m
+  by_count : (n : Story) (a : Result Done Refusal) (m : ℕ) → Step h q n a → length (ever n) + m ≡ length (ever h) + count_taken a m
   by_count n a m (refused u p late w) = ap (λ (l : List Entry). length l + m) w
   by_count n a m (joined u i s late z w f) = omega (arith, w.one_more)
 
   module _ (k : Kept h) where
     -- a refusal changes no entry
-    pub refused-same : (r : Refusal) → (next h q).desk.answer ≡ Refused r → ever (next h q) ≡ ever h
+    pub refused-same : (r : Refusal) → (next h q).desk.answer ≡ Err r → ever (next h q) ≡ ever h
     refused-same r e = by_refusal (next h q) (next h q).desk.answer r e (step h q k)
 
     -- a job taken in stands among the others with the start that was answered
-    pub taken-joined : (i s : ℕ) → (next h q).desk.answer ≡ Taken i s
+    pub taken-joined : (i s : ℕ) → (next h q).desk.answer ≡ Ok (Taken i s)
         → Joined (ever h) (ever (next h q)) (length (next h q).gone + i) (entry q.time q.budget q.deadline s)
     taken-joined i s e = by_taken (next h q) (next h q).desk.answer i s e (step h q k)
 

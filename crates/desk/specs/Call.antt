@@ -1,13 +1,14 @@
 -- One call of the desk, what it leaves in the caller's memory, and its answer as document 01 has it. Assumes nothing.
-use Rattle.std.specs.Prelude.{ℕ, ◌≡◌, List}
+use Rattle.std.specs.Prelude.{ℕ, ◌≡◌, List, Result, Ok, Err}
 use Rattle.rules.specs.Refusals.{placed, telling, told}
 use Rattle.rules.specs.declared.Told.{Told}
 use Rattle.desk.specs.declared.Job.{Job}
 use Rattle.desk.specs.declared.Desk.{Desk}
 use Rattle.desk.specs.declared.Ask.{Ask}
 use Rattle.desk.specs.declared.Ask.TheVariants.{Open, Request}
-use Rattle.desk.specs.declared.Answer.{Answer}
-use Rattle.desk.specs.declared.Answer.TheVariants.{Opened, Taken, Refused}
+use Rattle.desk.specs.declared.Done.{Done}
+use Rattle.desk.specs.declared.Done.TheVariants.{Opened, Taken}
+use Rattle.rules.specs.declared.Refusal.{Refusal}
 use Rattle.desk.specs.Table.{Outcome, open_of}
 use Rattle.desk.specs.Request.{request_of}
 
@@ -21,11 +22,11 @@ abbrev pub desk_of : Outcome → Desk
 desk_of o = record { clock = o.clock; count = o.count }
 
 -- "lent to each call and changed there": answer, record and table at exit are the outcome's
-abbrev pub Leaves : Outcome → Answer → Desk → List Job → Type 0
+abbrev pub Leaves : Outcome → Result Done Refusal → Desk → List Job → Type 0
 Leaves o r k l = (r ≡ o.answer) × (k ≡ desk_of o) × (l ≡ o.jobs)
 
 -- 0 and the values, or the refusal's number
-abbrev pub said : Answer → Told
-said Opened = placed 0 0
-said (Taken place start) = telling 0 place start 0 0
-said (Refused r) = told r
+abbrev pub said : Result Done Refusal → Told
+said (Ok Opened) = placed 0 0
+said (Ok (Taken place start)) = telling 0 place start 0 0
+said (Err r) = told r

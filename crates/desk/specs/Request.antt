@@ -1,13 +1,13 @@
 -- A request at time t, of budget c and deadline d: document 01, "The desk", with the range of document 02, ask 1, and refusals 13 to 18 in their order;
 -- clock, n and l are those at the call, js the jobs left. Assumes nothing.
-use Rattle.std.specs.Prelude.{ℕ, ◌+◌, Bool, false, not, ◌&&◌, List, [], ◌∷◌, ◌++◌, leb, ltb, length, take, drop}
+use Rattle.std.specs.Prelude.{ℕ, ◌+◌, Bool, false, not, ◌&&◌, List, [], ◌∷◌, ◌++◌, leb, ltb, length, take, drop, Ok, Err}
 use Rattle.rules.specs.Walk.{pick}
 use Rattle.rules.specs.Limits.{places, latest}
 use Rattle.rules.specs.Refusals.{told}
 use Rattle.rules.specs.declared.Refusal.{Refusal}
 use Rattle.rules.specs.declared.Refusal.TheVariants.{Rules, Numbers, Past, Busy, Full, NoPlace}
 use Rattle.desk.specs.declared.Job.{Job}
-use Rattle.desk.specs.declared.Answer.TheVariants.{Taken, Refused}
+use Rattle.desk.specs.declared.Done.TheVariants.{Taken}
 use Rattle.desk.specs.Table.{job, start, ends, filled, Outcome, outcome, refit, desk_ok}
 use Rattle.desk.specs.Places.{early, room, shift}
 use Rattle.desk.specs.Reason.{explanation_of}
@@ -47,20 +47,20 @@ numbers_ok t c d = leb 1 c && (leb c latest && (leb d latest && leb t latest))
 
 -- "16, 17, 18 set the clock to t and drop finished jobs .. nothing else changes."
 abbrev pub dropping : ℕ → List Job → Refusal → Outcome
-dropping t js r = outcome (filled js) (length js) t (Refused r)
+dropping t js r = outcome (filled js) (length js) t (Err r)
 
 -- 18 with its reason, or "A job taken in sets the clock too."
 abbrev pub taking : ℕ → ℕ → ℕ → List Job → Place → Outcome
 taking t c d js Nowhere = dropping t js (NoPlace (explanation_of t d js))
-taking t c d js (At i s) = outcome (filled (insert_at i (job s c d 0) js)) (length js + 1) t (Taken i s)
+taking t c d js (At i s) = outcome (filled (insert_at i (job s c d 0) js)) (length js + 1) t (Ok (Taken i s))
 
 -- "13, 14, 15 .. change nothing at the desk."
 unfoldable pub request_of : ℕ → ℕ → List Job → ℕ → ℕ → ℕ → Outcome
 request_of clock n l t c d =
     let js = kept t (take n l) in
-    pick (not (desk_ok clock n l)) (outcome l n clock (Refused Rules))
-    (pick (not (numbers_ok t c d)) (outcome l n clock (Refused Numbers))
-    (pick (ltb t clock) (outcome l n clock (Refused Past))
+    pick (not (desk_ok clock n l)) (outcome l n clock (Err Rules))
+    (pick (not (numbers_ok t c d)) (outcome l n clock (Err Numbers))
+    (pick (ltb t clock) (outcome l n clock (Err Past))
     (pick (busy t js) (dropping t js Busy)
     (pick (leb places (length js)) (dropping t js Full)
     (taking t c d js (find t c d js))))))

@@ -1,10 +1,11 @@
 -- A desk's whole story, kept beside the calls: document 01, "Over any requests after one opening, the caller changing nothing lent between them". Assumes nothing.
-use Rattle.std.specs.Prelude.{ℕ, suc, ◌+◌, ◌<◌, ◌≤◌, ◌≡◌, List, [], ◌∷◌, ◌++◌, leb, length, take, drop, get_or}
+use Rattle.std.specs.Prelude.{ℕ, suc, ◌+◌, ◌<◌, ◌≤◌, ◌≡◌, List, [], ◌∷◌, ◌++◌, leb, length, take, drop, get_or, Result, Ok, Err}
 use Rattle.rules.specs.Walk.{pick}
 use Rattle.desk.specs.declared.Job.{Job}
 use Rattle.desk.specs.declared.Asked.{Asked}
-use Rattle.desk.specs.declared.Answer.{Answer}
-use Rattle.desk.specs.declared.Answer.TheVariants.{Opened, Taken, Refused}
+use Rattle.desk.specs.declared.Done.{Done}
+use Rattle.desk.specs.declared.Done.TheVariants.{Opened, Taken}
+use Rattle.rules.specs.declared.Refusal.{Refusal}
 use Rattle.desk.specs.Table.{start, budget, deadline, Outcome, open_of}
 use Rattle.desk.specs.Request.{request_of}
 
@@ -62,10 +63,10 @@ abbrev pub begin : ℕ → ℕ → List Job → Story
 begin clock n l = record { desk = open_of clock n l; gone = []; listed = standing (take n l) }
 
 -- a job taken in is listed at its place
-abbrev pub with_new : Asked → Answer → List Entry → List Entry
-with_new q Opened rs = rs
-with_new q (Taken i s) rs = take i rs ++ (entry q.time q.budget q.deadline s ∷ drop i rs)
-with_new q (Refused r) rs = rs
+abbrev pub with_new : Asked → Result Done Refusal → List Entry → List Entry
+with_new q (Ok Opened) rs = rs
+with_new q (Ok (Taken i s)) rs = take i rs ++ (entry q.time q.budget q.deadline s ∷ drop i rs)
+with_new q (Err r) rs = rs
 
 -- a request that leaves o: the jobs that end by the desk's clock, which 13, 14 and 15 leave as it was, are gone
 abbrev pub after : Story → Asked → Outcome → Story
@@ -104,10 +105,10 @@ abbrev pub Fixed : ℕ → List Entry → List Entry → Type 0
 Fixed t rs us = (k : ℕ) → k < length rs → (get_or rs k no_entry).start < t → get_or us k no_entry ≡ get_or rs k no_entry
 
 -- how many of the requests are taken
-abbrev pub count_taken : Answer → ℕ → ℕ
-count_taken Opened n = n
-count_taken (Taken i s) n = suc n
-count_taken (Refused r) n = n
+abbrev pub count_taken : Result Done Refusal → ℕ → ℕ
+count_taken (Ok Opened) n = n
+count_taken (Ok (Taken i s)) n = suc n
+count_taken (Err r) n = n
 
 abbrev pub takens : List Asked → Story → ℕ
 takens [] h = 0

@@ -1,11 +1,12 @@
 -- The desk's table, its rules and its opening: document 01, "The desk". A table is a list of jobs, the first n of them listed. Assumes nothing.
-use Rattle.std.specs.Prelude.{ℕ, ◌+◌, ◌-◌, min, Bool, true, ◌&&◌, List, [], ◌∷◌, ◌++◌, leb, eqb, length, take, drop, replicate}
+use Rattle.std.specs.Prelude.{ℕ, ◌+◌, ◌-◌, min, Bool, true, ◌&&◌, List, [], ◌∷◌, ◌++◌, leb, eqb, length, take, drop, replicate, Result, Ok, Err}
 use Rattle.rules.specs.Walk.{pick}
 use Rattle.rules.specs.Limits.{places, latest}
 use Rattle.rules.specs.declared.Refusal.TheVariants.{Rules}
 use Rattle.desk.specs.declared.Job.{Job}
-use Rattle.desk.specs.declared.Answer.{Answer}
-use Rattle.desk.specs.declared.Answer.TheVariants.{Opened, Refused}
+use Rattle.desk.specs.declared.Done.{Done}
+use Rattle.desk.specs.declared.Done.TheVariants.{Opened}
+use Rattle.rules.specs.declared.Refusal.{Refusal}
 
 -- "start a, budget C, deadline d, flexibility x"
 abbrev pub job : ℕ → ℕ → ℕ → ℕ → Job
@@ -38,9 +39,9 @@ pub record Outcome : Type 0 where
   pub jobs : List Job
   pub count : ℕ
   pub clock : ℕ
-  pub answer : Answer
+  pub answer : Result Done Refusal
 
-abbrev pub outcome : List Job → ℕ → ℕ → Answer → Outcome
+abbrev pub outcome : List Job → ℕ → ℕ → Result Done Refusal → Outcome
 outcome l n clock r = record { jobs = l; count = n; clock = clock; answer = r }
 
 -- "The last x is d − a − C; any other is the smaller of its own d − a − C and (next x) + (next a) − a − C."
@@ -89,4 +90,4 @@ desk_ok clock n l = leb clock latest && (table_ok n l && right_x (take n l))
 
 -- "Opening takes any x of a listed job and any clock, works x out and sets the clock to 0."
 unfoldable pub open_of : ℕ → ℕ → List Job → Outcome
-open_of clock n l = pick (table_ok n l) (outcome (filled (flexes (take n l))) n 0 Opened) (outcome l n clock (Refused Rules))
+open_of clock n l = pick (table_ok n l) (outcome (filled (flexes (take n l))) n 0 (Ok Opened)) (outcome l n clock (Err Rules))

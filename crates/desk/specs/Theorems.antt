@@ -1,5 +1,5 @@
 -- What is proved of the desk's rules, each statement below the documents' words. `Proved` has a field for each. Assumes nothing.
-use Rattle.std.specs.Prelude.{ℕ, suc, ◌+◌, ◌-◌, ◌<◌, ◌≤◌, ◌≡◌, ◌↔◌, Bool, true, false, List, length, take, drop, get_or}
+use Rattle.std.specs.Prelude.{ℕ, suc, ◌+◌, ◌-◌, ◌<◌, ◌≤◌, ◌≡◌, ◌↔◌, Bool, true, false, List, length, take, drop, get_or, Ok, Err}
 use Rattle.rules.specs.Walk.{pick}
 use Rattle.rules.specs.Limits.{places}
 use Rattle.rules.specs.declared.Refusal.{Refusal}
@@ -10,7 +10,7 @@ use Rattle.rules.specs.declared.Explanation.{Explanation}
 use Rattle.rules.specs.declared.Explanation.TheVariants.{Nowhere, Roomiest}
 use Rattle.desk.specs.declared.Job.{Job}
 use Rattle.desk.specs.declared.Asked.{Asked}
-use Rattle.desk.specs.declared.Answer.TheVariants.{Opened, Taken, Refused}
+use Rattle.desk.specs.declared.Done.TheVariants.{Opened, Taken}
 use Rattle.desk.specs.Table.{job, start, budget, deadline, flex, ends, none, Outcome, outcome, flexes, desk_ok, open_of}
 use Rattle.desk.specs.Places.{early, start_at, shift}
 use Rattle.desk.specs.Reason.{room_at, places_of}
@@ -21,20 +21,20 @@ use Rattle.desk.specs.Story.{Entry, entry, no_entry, standing, Story, live, ever
 -- opening's refusal is 13, and "13, 14, 15 .. change nothing at the desk"
 abbrev pub OpenLeaves : Type 0
 OpenLeaves =
-    (clock n : ℕ) (l : List Job) (r : Refusal) → (open_of clock n l).answer ≡ Refused r
-    → open_of clock n l ≡ outcome l n clock (Refused Rules)
+    (clock n : ℕ) (l : List Job) (r : Refusal) → (open_of clock n l).answer ≡ Err r
+    → open_of clock n l ≡ outcome l n clock (Err Rules)
 
 -- "13, 14, 15 .. change nothing at the desk. 16, 17, 18 set the clock to t and drop finished jobs .. nothing else changes."
 abbrev pub RequestLeaves : Type 0
 RequestLeaves =
-    (clock n : ℕ) (l : List Job) (t c d : ℕ) (r : Refusal) → (request_of clock n l t c d).answer ≡ Refused r
+    (clock n : ℕ) (l : List Job) (t c d : ℕ) (r : Refusal) → (request_of clock n l t c d).answer ≡ Err r
     → request_of clock n l t c d
-    ≡ pick (drops r) (dropping t (kept t (take n l)) r) (outcome l n clock (Refused r))
+    ≡ pick (drops r) (dropping t (kept t (take n l)) r) (outcome l n clock (Err r))
 
 -- "A job taken in sets the clock too."
 abbrev pub TakenSetsClock : Type 0
 TakenSetsClock =
-    (clock n : ℕ) (l : List Job) (t c d i s : ℕ) → (request_of clock n l t c d).answer ≡ Taken i s → (request_of clock n l t c d).clock ≡ t
+    (clock n : ℕ) (l : List Job) (t c d i s : ℕ) → (request_of clock n l t c d).answer ≡ Ok (Taken i s) → (request_of clock n l t c d).clock ≡ t
 
 -- a call's answer is the refusal of that number
 abbrev pub Refuses : Outcome → ℕ → Type 0
@@ -45,7 +45,7 @@ abbrev pub sound : Outcome → Bool
 sound o = desk_ok o.clock o.count o.jobs
 
 abbrev pub OpenKeepsRules : Type 0
-OpenKeepsRules = (clock n : ℕ) (l : List Job) → (open_of clock n l).answer ≡ Opened → sound (open_of clock n l) ≡ true
+OpenKeepsRules = (clock n : ℕ) (l : List Job) → (open_of clock n l).answer ≡ Ok Opened → sound (open_of clock n l) ≡ true
 
 abbrev pub RequestKeepsRules : Type 0
 RequestKeepsRules =
@@ -87,7 +87,7 @@ RoomNeverTooFar =
 -- and the one that the search takes, from the jobs left to those that the call leaves
 abbrev pub NeverTooFar : Type 0
 NeverTooFar =
-    (clock n : ℕ) (l : List Job) (t c d i s : ℕ) → (request_of clock n l t c d).answer ≡ Taken i s
+    (clock n : ℕ) (l : List Job) (t c d i s : ℕ) → (request_of clock n l t c d).answer ≡ Ok (Taken i s)
     → MovesWithin (kept t (take n l)) i (request_of clock n l t c d).jobs
 
 -- "some place in the order, started at t or later, with earlier jobs unmoved and later ones only delayed, keeps every deadline": the jobs js with the request's
@@ -132,7 +132,7 @@ NoPlaceExactly =
 -- "The lowest place .. is taken, start s"
 abbrev pub TakenStart : Type 0
 TakenStart =
-    (clock n : ℕ) (l : List Job) (t c d i s : ℕ) → (request_of clock n l t c d).answer ≡ Taken i s → s ≡ start_at t (kept t (take n l)) i
+    (clock n : ℕ) (l : List Job) (t c d i s : ℕ) → (request_of clock n l t c d).answer ≡ Ok (Taken i s) → s ≡ start_at t (kept t (take n l)) i
 
 -- "the lowest place with the largest room, that room"
 pub record Roomy (t d : ℕ) (js : List Job) (place room : ℕ) : Type 0 where
@@ -145,13 +145,13 @@ pub record Roomy (t d : ℕ) (js : List Job) (place room : ℕ) : Type 0 where
 abbrev pub NoPlaceRoomiest : Type 0
 NoPlaceRoomiest =
     (clock n : ℕ) (l : List Job) (t c d place room : ℕ) (binding : Binding)
-    → (request_of clock n l t c d).answer ≡ Refused (NoPlace (Roomiest place room binding))
+    → (request_of clock n l t c d).answer ≡ Err (NoPlace (Roomiest place room binding))
     → Roomy t d (kept t (take n l)) place room × (room < c)
 
 -- "If there is none, as when t is past d, say so": then no job left has a ≤ d
 abbrev pub NoPlaceNowhere : Type 0
 NoPlaceNowhere =
-    (clock n : ℕ) (l : List Job) (t c d : ℕ) (why : Explanation) → (request_of clock n l t c d).answer ≡ Refused (NoPlace why)
+    (clock n : ℕ) (l : List Job) (t c d : ℕ) (why : Explanation) → (request_of clock n l t c d).answer ≡ Err (NoPlace why)
     → (why ≡ Nowhere) ↔ ((early d (kept t (take n l)) ≡ 0) × (d < t))
 
 -- a job at place i that ends at e keeps the deadline d, and of the later jobs, moved as it forces them, job k is the first to end after its own
@@ -172,15 +172,15 @@ TickBreaks t d js place room (Listed k) = Breaks (start_at t js place + (room + 
 abbrev pub NoPlaceBreaks : Type 0
 NoPlaceBreaks =
     (clock n : ℕ) (l : List Job) (t c d place room : ℕ) (binding : Binding)
-    → (request_of clock n l t c d).answer ≡ Refused (NoPlace (Roomiest place room binding))
+    → (request_of clock n l t c d).answer ≡ Err (NoPlace (Roomiest place room binding))
     → TickBreaks t d (kept t (take n l)) place room binding
 
 -- so many ticks as are told break none: they are taken, just there
 abbrev pub NoPlaceRoomTaken : Type 0
 NoPlaceRoomTaken =
     (clock n : ℕ) (l : List Job) (t c d place room : ℕ) (binding : Binding)
-    → (request_of clock n l t c d).answer ≡ Refused (NoPlace (Roomiest place room binding)) → 1 ≤ room
-    → (request_of clock n l t room d).answer ≡ Taken place (start_at t (kept t (take n l)) place)
+    → (request_of clock n l t c d).answer ≡ Err (NoPlace (Roomiest place room binding)) → 1 ≤ room
+    → (request_of clock n l t room d).answer ≡ Ok (Taken place (start_at t (kept t (take n l)) place))
 
 -- "it is running: busy": after 16 the first job in the table has begun and not ended, and a request when it ends is not refused with 16, whatever it asks for
 pub record Running (t : ℕ) (o : Outcome) : Type 0 where
@@ -196,12 +196,12 @@ BusyEnds =
 -- at opening every listed job stands at the start that was lent
 abbrev pub OpenTells : Type 0
 OpenTells =
-    (clock n : ℕ) (l : List Job) → (open_of clock n l).answer ≡ Opened
+    (clock n : ℕ) (l : List Job) → (open_of clock n l).answer ≡ Ok Opened
     → ever (begin clock n l) ≡ standing (take n l)
 
 -- "Over any requests after one opening, the caller changing nothing lent between them"
 abbrev pub InEveryStory : (Story → Type 0) → Type 0
-InEveryStory P = (clock n : ℕ) (l : List Job) → (open_of clock n l).answer ≡ Opened → (qs : List Asked) → P (many qs (begin clock n l))
+InEveryStory P = (clock n : ℕ) (l : List Job) → (open_of clock n l).answer ≡ Ok Opened → (qs : List Asked) → P (many qs (begin clock n l))
 
 -- its live entries are the listed jobs, one for one
 pub record Matches (h : Story) : Type 0 where
@@ -220,18 +220,18 @@ KeepsPromise = InEveryStory (λ h. Promise (ever h))
 -- no job is lost: there are those of the opening and one for each request taken
 abbrev pub LosesNone : Type 0
 LosesNone =
-    (clock n : ℕ) (l : List Job) → (open_of clock n l).answer ≡ Opened → (qs : List Asked)
+    (clock n : ℕ) (l : List Job) → (open_of clock n l).answer ≡ Ok Opened → (qs : List Asked)
     → length (ever (many qs (begin clock n l))) ≡ n + takens qs (begin clock n l)
 
 -- a refusal moves nothing
 abbrev pub RefusedMovesNone : Type 0
-RefusedMovesNone = InEveryStory (λ h. (q : Asked) (r : Refusal) → (next h q).desk.answer ≡ Refused r → ever (next h q) ≡ ever h)
+RefusedMovesNone = InEveryStory (λ h. (q : Asked) (r : Refusal) → (next h q).desk.answer ≡ Err r → ever (next h q) ≡ ever h)
 
 -- a job taken in stands at the start that was answered, those before it stay, "Later jobs move"
 abbrev pub TakenJoins : Type 0
 TakenJoins =
     InEveryStory
-    (λ h. (q : Asked) (i s : ℕ) → (next h q).desk.answer ≡ Taken i s
+    (λ h. (q : Asked) (i s : ℕ) → (next h q).desk.answer ≡ Ok (Taken i s)
     → Joined (ever h) (ever (next h q)) (length (next h q).gone + i) (entry q.time q.budget q.deadline s))
 
 -- nothing that has started by a request's time is moved by it

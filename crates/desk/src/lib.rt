@@ -2,11 +2,9 @@
 // The rules and what is proved of them are in specs/; there is no code here.
 #![tactic(auto)]
 
-use rules::Refusal;
-
 // A job: document 01's a, C, d, x.
 #[repr(C)]
-#[derive(Clone, Copy)]
+#[derive(Clone, Copy, PartialEq, Eq)]
 pub struct Job {
     pub start: u32,
     pub budget: u32,
@@ -37,10 +35,9 @@ pub enum Ask {
     Request(Asked),
 }
 
-// Taken: at this place, with this start.
+// What a call answers that doesn't refuse; taken: at this place, with this start.
 #[derive(Clone, Copy)]
-pub enum Answer {
+pub enum Done {
     Opened,
     Taken(usize, u32),
-    Refused(Refusal),
 }

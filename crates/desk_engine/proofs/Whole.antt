@@ -14,7 +14,8 @@ use Rattle.rules.specs.declared.Refusal.{Refusal}
 use Rattle.rules.specs.declared.Refusal.TheVariants.{Rules, Numbers, Past, Busy, Full, NoPlace}
 use Rattle.rules.specs.Limits.{places, latest}
 use Rattle.desk.specs.declared.Job.{Job}
-use Rattle.desk.specs.declared.Answer.TheVariants.{Opened, Refused}
+use Rattle.std.specs.Prelude.{Ok, Err}
+use Rattle.desk.specs.declared.Done.TheVariants.{Opened}
 use Rattle.desk.specs.Table.{job, x_of, filled, flexes, outcome, right_x, table_ok, desk_ok, open_of, ends, Outcome}
 use Rattle.desk.specs.Places.{early, shift}
 use Rattle.desk.specs.Reason.{explanation_of}
@@ -62,7 +63,7 @@ lows_drop (suc i) (j ∷ js) h = lows_drop i js h.1
 abbrev pub Made : List Job → Effect → Outcome → Type 0
 Made l p o = Leaves o p.answer p.desk (applied p l)
 
-keeps_made : (l : List Job) (s : Scan) (why : Refusal) → Made l (keep_effect why s) (outcome l s.desk.count s.desk.clock (Refused why))
+keeps_made : (l : List Job) (s : Scan) (why : Refusal) → Made l (keep_effect why s) (outcome l s.desk.count s.desk.clock (Err why))
 unfolding applied
 keeps_made l s why = (refl, refl, still_table l)
 
@@ -87,7 +88,7 @@ module _ (k : Desk) (l : List Job) where
   decides_opening = rw (opening_law k l, (same_stays (opening_of k (length l)) l).1)
 
   by_table : (v : Bool) → table_ok k.count l ≡ v
-      → Made l (effect_by (pick v Opens (Keeps Rules)) S₀) (pick v (outcome (filled (flexes (take k.count l))) k.count 0 Opened) (outcome l k.count k.clock (Refused Rules)))
+      → Made l (effect_by (pick v Opens (Keeps Rules)) S₀) (pick v (outcome (filled (flexes (take k.count l))) k.count 0 (Ok Opened)) (outcome l k.count k.clock (Err Rules)))
   unfolding applied
   by_table true h = (refl, refl, open_table k.count l h)
   by_table false h = keeps_made l S₀ Rules
@@ -230,14 +231,14 @@ module _ (k : Desk) (l : List Job) (t c d : ℕ) where
         rw (same.0, same.1, same.2, h₂, h₃)
 
     go : (v₂ v₃ : Bool) → numbers_ok t c d ≡ v₂ → ltb t k.clock ≡ v₃
-        → Made l (effect_by (request_decision S) S) (pick (not v₂) (outcome l n k.clock (Refused Numbers)) (pick v₃ (outcome l n k.clock (Refused Past)) (left (busy t ks))))
+        → Made l (effect_by (request_decision S) S) (pick (not v₂) (outcome l n k.clock (Err Numbers)) (pick v₃ (outcome l n k.clock (Err Past)) (left (busy t ks))))
     go false v₃ h₂ h₃ = at _ S _ (Keeps Numbers) (decides_request false v₃ h₂ h₃) (keeps_made l S Numbers)
     go true true h₂ h₃ = at _ S _ (Keeps Past) (decides_request true true h₂ h₃) (keeps_made l S Past)
     go true false h₂ h₃ = at _ S _ _ (decides_request true false h₂ h₃) (after_made w.whole w.few chain_js (desk_right k.clock n l h₁) (numbers-small t c d h₂).1)
 
   abbrev asked : Bool → Outcome
-  asked v = pick (not v) (outcome l n k.clock (Refused Rules))
-      (pick (not (numbers_ok t c d)) (outcome l n k.clock (Refused Numbers)) (pick (ltb t k.clock) (outcome l n k.clock (Refused Past)) (left (busy t ks))))
+  asked v = pick (not v) (outcome l n k.clock (Err Rules))
+      (pick (not (numbers_ok t c d)) (outcome l n k.clock (Err Numbers)) (pick (ltb t k.clock) (outcome l n k.clock (Err Past)) (left (busy t ks))))
 
   by_rules : (v : Bool) → desk_ok k.clock n l ≡ v → Made l (effect_by (decision_of (scan_with S₂.searching k)) (scan_with S₂.searching k)) (asked v)
   by_rules false h = at _ (scan_with S₂.searching k) _ (Keeps Rules) (decides_asked S₂.searching false h) (keeps_made l (scan_with S₂.searching k) Rules)

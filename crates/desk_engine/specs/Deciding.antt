@@ -1,11 +1,11 @@
 -- Words that only inner contracts use: no statement and no entry's contract cites them. Assumes nothing.
 -- What is decided at the end of the reading pass, and what the writing passes then make of the table; laws tie it to the desk's rules.
-use Rattle.std.specs.Prelude.{ℕ, ◌-◌, List, leb, ltb, eqb}
+use Rattle.std.specs.Prelude.{ℕ, ◌-◌, List, leb, ltb, eqb, Ok, Err}
 use Rattle.rules.specs.Walk.{pick}
 use Rattle.rules.specs.declared.Refusal.{Refusal}
 use Rattle.rules.specs.declared.Refusal.TheVariants.{Rules, Numbers, Past, Busy, Full, NoPlace}
 use Rattle.desk.specs.declared.Job.{Job}
-use Rattle.desk.specs.declared.Answer.TheVariants.{Opened, Taken, Refused}
+use Rattle.desk.specs.declared.Done.TheVariants.{Opened, Taken}
 use Rattle.rules.specs.Limits.{places}
 use Rattle.desk.specs.Table.{none}
 use Rattle.desk.specs.Request.{numbers_ok}
@@ -45,7 +45,7 @@ drop_from gone = pick (eqb gone 0) places gone
 -- "works x out and sets the clock to 0"
 abbrev pub open_effect : Scan → Effect
 open_effect s = record {
-  answer = Opened;
+  answer = Ok Opened;
   desk = record { clock = 0; count = s.desk.count };
   drop = places;
   shift = still_shift;
@@ -54,12 +54,12 @@ open_effect s = record {
 
 -- "13, 14, 15 .. change nothing at the desk"
 abbrev pub keep_effect : Refusal → Scan → Effect
-keep_effect why s = record { answer = Refused why; desk = s.desk; drop = 0; shift = still_shift; fit = still_fit }
+keep_effect why s = record { answer = Err why; desk = s.desk; drop = 0; shift = still_shift; fit = still_fit }
 
 -- "16, 17, 18 set the clock to t and drop finished jobs"
 abbrev pub drop_effect : Refusal → Scan → Effect
 drop_effect why s = record {
-  answer = Refused why;
+  answer = Err why;
   desk = record { clock = s.searching.time; count = rest_of s };
   drop = drop_from s.searching.gone;
   shift = shift_from (rest_of s) 0 none;
@@ -69,7 +69,7 @@ drop_effect why s = record {
 -- "A job taken in sets the clock too."
 abbrev pub take_effect : Scan → Effect
 take_effect s = record {
-  answer = Taken s.searching.place s.searching.start;
+  answer = Ok (Taken s.searching.place s.searching.start);
   desk = record { clock = s.searching.time; count = sum_to (rest_of s) 1 };
   drop = drop_from s.searching.gone;
   shift = shift_from s.searching.place (sum_to (rest_of s - s.searching.place) 1) (new_job s.searching);

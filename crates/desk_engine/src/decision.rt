@@ -4,7 +4,7 @@ ghost use Rattle.desk_engine.specs.Deciding.{rest_of, request_decision, decision
 
 use desk_reading::scan::{Scan, check_end};
 use desk_reading::searching::{explanation, search_end};
-use desk_records::numbers::{ALL_PLACES, less, numbers_ok};
+use desk_records::numbers::{ALL_PLACES, numbers_ok};
 use rules::Refusal;
 
 // A call opens the desk, refuses and keeps all, refuses and drops the finished jobs, or takes the job in.
@@ -22,7 +22,7 @@ pub fn rest_of(s: Scan) -> u32
 {
     let b = s.searching;
     let k = s.desk;
-    less(k.count, b.gone)
+    k.count.saturating_sub(b.gone)
 }
 
 // Of a request, on a table that keeps the rules.

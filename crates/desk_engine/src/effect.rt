@@ -4,10 +4,10 @@ ghost use Rattle.desk_engine.specs.Deciding.{drop_from, open_effect, keep_effect
 ghost use Rattle.desk_engine.specs.Deciding.{effect_by, effect_of};
 
 use crate::decision::{Decision, decide, rest_of};
-use desk::{Answer, Desk};
+use desk::{Desk, Done};
 use desk_reading::scan::Scan;
 use desk_reading::searching::new_job;
-use desk_records::numbers::{ALL_PLACES, FAR, less, sum};
+use desk_records::numbers::{ALL_PLACES, FAR};
 use desk_records::records::no_job;
 use desk_writing::fit::{Fit, still_fit};
 use desk_writing::shift::{Shift, still_shift};
@@ -17,7 +17,7 @@ use rules::limits::PLACES;
 // The answer, the record at exit, and what each writing pass begins with.
 #[derive(Clone, Copy)]
 pub struct Effect {
-    pub answer: Answer,
+    pub answer: Result<Done, Refusal>,
     pub desk: Desk,
     pub drop: usize,
     pub shift: Shift,
@@ -48,11 +48,11 @@ pub fn open_effect(s: Scan) -> Effect
     let k = s.desk;
     let fit = Fit {
         still: false,
-        wait: less(ALL_PLACES, k.count),
+        wait: ALL_PLACES.saturating_sub(k.count),
         behind: FAR,
     };
     Effect {
-        answer: Answer::Opened,
+        answer: Ok(Done::Opened),
         desk: Desk {
             clock: 0,
             count: k.count,
@@ -69,7 +69,7 @@ pub fn keep_effect(why: Refusal, s: Scan) -> Effect
 {
     let k = s.desk;
     Effect {
-        answer: Answer::Refused(why),
+        answer: Err(why),
         desk: k,
         drop: 0,
         shift: still_shift(),
@@ -91,7 +91,7 @@ pub fn drop_effect(why: Refusal, s: Scan) -> Effect
         carry: no_job(),
     };
     Effect {
-        answer: Answer::Refused(why),
+        answer: Err(why),
         desk: Desk {
             clock: left.time,
             count: rest,
@@ -108,21 +108,21 @@ pub fn take_effect(s: Scan) -> Effect
 {
     let q = s.searching;
     let rest = rest_of(s);
-    let count = sum(rest, 1);
+    let count = rest.saturating_add(1);
     let shift = Shift {
         still: false,
         before: q.place,
-        put: sum(less(rest, q.place), 1),
+        put: rest.saturating_sub(q.place).saturating_add(1),
         end: 0,
         carry: new_job(q),
     };
     let fit = Fit {
         still: false,
-        wait: less(ALL_PLACES, sum(q.place, 1)),
+        wait: ALL_PLACES.saturating_sub(q.place.saturating_add(1)),
         behind: q.behind,
     };
     Effect {
-        answer: Answer::Taken(wide_place(q.place), q.start),
+        answer: Ok(Done::Taken(wide_place(q.place), q.start)),
         desk: Desk {
             clock: q.time,
             count: count,
@@ -153,7 +153,7 @@ pub fn effect_of(s: Scan) -> Effect
 }
 
 // What the call answers.
-pub fn answer_of(p: Effect) -> Answer
+pub fn answer_of(p: Effect) -> Result<Done, Refusal>
     ensures { result ≡ p.answer }
 {
     p.answer

@@ -7,11 +7,12 @@ ghost use Rattle.desk.specs.Call.{call_of, Leaves};
 ghost use Rattle.desk_reading.specs.Reading.{scanned};
 ghost use Rattle.desk_engine.specs.Deciding.{effect_of, applied};
 
-use desk::{Answer, Ask, Desk, Job};
+use desk::{Ask, Desk, Done, Job};
 use desk_engine::begin::scan_for;
 use desk_engine::effect::{Effect, answer_of, desk_of, drop_of, effect_of, fit_of, shift_of};
 use desk_reading::scan::Scan;
 use desk_walks::{drop_pass, fit_pass, scan_pass, shift_pass};
+use rules::Refusal;
 
 // The three writing passes, one after the other.
 fn apply(jobs: &mut [Job], p: Effect)
@@ -37,7 +38,7 @@ fn serve(jobs: &mut [Job], s: Scan) -> Effect
 }
 
 // Opens the desk, or asks it to take a job in.
-pub fn call(desk: &mut Desk, jobs: &mut [Job], ask: Ask) -> Answer
+pub fn call(desk: &mut Desk, jobs: &mut [Job], ask: Ask) -> Result<Done, Refusal>
     ensures { Leaves
         (call_of desk.old.clock desk.old.count jobs.old ask)
         result desk.new jobs.new }

@@ -4,7 +4,6 @@ ghost use Rattle.desk.specs.Table.{start, flex};
 ghost use Rattle.desk_reading.specs.Best.{no_best, outdone, best_with, tight, sought_at, binding_of, explained};
 
 use desk::Job;
-use desk_records::numbers::{less, sum};
 use rules::{Binding, Explanation};
 
 // The lowest with its room, once a place has been gone past, and whether a listed job's deadline binds it. The first
@@ -60,7 +59,7 @@ pub fn best_with(b: Best, place: u32, room: u32, listed: bool) -> Best
 fn is_tight(j: Job) -> bool
     ensures { result ≡ tight j }
 {
-    j.flex == less(less(j.deadline, j.start), j.budget)
+    j.flex == j.deadline.saturating_sub(j.start).saturating_sub(j.budget)
 }
 
 // The job that binds, sought at one more job: a move beyond x breaks that job's own deadline or pushes the next one
@@ -74,7 +73,7 @@ pub fn sought_at(b: Best, j: Job) -> Best
             r.seeking = false;
             return r;
         }
-        r.job = sum(b.job, 1);
+        r.job = b.job.saturating_add(1);
         return r;
     }
     b
@@ -84,7 +83,7 @@ pub fn sought_at(b: Best, j: Job) -> Best
 pub fn listed_binds(d: u32, j: Job) -> bool
     ensures { result ≡ ltb (flex j) (d - start j) }
 {
-    j.flex < less(d, j.start)
+    j.flex < d.saturating_sub(j.start)
 }
 
 // As a number of an answer.

@@ -4,7 +4,6 @@ ghost use Rattle.desk.specs.Table.{deadline, ends};
 ghost use Rattle.desk_reading.specs.Reading.{follows, behind, last_ok};
 
 use desk::Job;
-use desk_records::numbers::{earlier, wide};
 use desk_records::records::{end_of, job_ok};
 
 // Of the job before: its end, its own d - a - C, and its x; zeros in front of all. An opening looks at no x.
@@ -20,24 +19,15 @@ pub struct Checking {
 fn right_x(s: Checking, room: u64) -> bool
     ensures { result ≡ (eqb s.flex (min s.own room) || s.opening) }
 {
-    if wide(s.flex) == earlier(s.own, room) {
-        return true;
-    }
-    s.opening
+    s.opening || u64::from(s.flex) == s.own.min(room)
 }
 
 // Whether j may stand behind the job before.
 pub fn follows_on(s: Checking, j: Job) -> bool
     ensures { result ≡ follows s j }
 {
-    if job_ok(j) {
-        let start = wide(j.start);
-        if s.end <= start {
-            return right_x(s, start - s.end + wide(j.flex));
-        }
-        return false;
-    }
-    false
+    let start = u64::from(j.start);
+    job_ok(j) && s.end <= start && right_x(s, start - s.end + u64::from(j.flex))
 }
 
 // j, which keeps the rules, as the job before.
@@ -45,20 +35,18 @@ pub fn behind_it(s: Checking, j: Job) -> Checking
     requires { ends j ≤ deadline j }
     ensures { result ≡ behind s j }
 {
-    let mut r = s;
     let end = end_of(j);
-    r.end = end;
-    r.own = wide(j.deadline) - end;
-    r.flex = j.flex;
-    r
+    Checking {
+        end,
+        own: u64::from(j.deadline) - end,
+        flex: j.flex,
+        ..s
+    }
 }
 
 // Whether the last job's x is the rule's.
 pub fn last_ok(s: Checking) -> bool
     ensures { result ≡ last_ok s }
 {
-    if wide(s.flex) == s.own {
-        return true;
-    }
-    s.opening
+    s.opening || u64::from(s.flex) == s.own
 }

@@ -7,7 +7,6 @@ ghost use Rattle.desk_reading.specs.Reading.{search_behind, new_job, search_end,
 
 use crate::best::{Best, best_with, explain, listed_binds, sought_at};
 use desk::Job;
-use desk_records::numbers::sum;
 use desk_records::records::{ends_by, last_start, room_at};
 use rules::Explanation;
 
@@ -52,8 +51,8 @@ fn goes_past(s: Searching, busy: bool, room: u32, j: Job) -> Searching
     let c = best_with(b, s.place, room, listed_binds(s.deadline, j));
     let mut r = s;
     r.busy = busy;
-    r.place = sum(s.place, 1);
-    r.start = sum(j.start, j.budget);
+    r.place = s.place.saturating_add(1);
+    r.start = j.start.saturating_add(j.budget);
     r.best = sought_at(c, j);
     r
 }
@@ -88,7 +87,7 @@ fn drops(s: Searching) -> Searching
     ensures { result ≡ search_dropped s }
 {
     let mut r = s;
-    r.gone = sum(s.gone, 1);
+    r.gone = s.gone.saturating_add(1);
     r
 }
 

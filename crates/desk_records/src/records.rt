@@ -3,7 +3,6 @@ ghost use Rattle.std.specs.Prelude.{◌≡◌, ◌+◌, ◌-◌, min, leb};
 ghost use Rattle.desk.specs.Table.{start, budget, deadline, flex, ends, none, job_ok, zeros};
 ghost use Rattle.desk.specs.Places.{room, moved};
 
-use crate::numbers::{earlier, larger, less, smaller, wide};
 use desk::Job;
 use rules::limits::LATEST;
 
@@ -22,28 +21,28 @@ pub fn no_job() -> Job
 pub fn end_of(j: Job) -> u64
     ensures { result ≡ ends j }
 {
-    wide(j.start) + wide(j.budget)
+    u64::from(j.start) + u64::from(j.budget)
 }
 
 // Whether j ends by the time t.
 pub fn ends_by(j: Job, t: u32) -> bool
     ensures { result ≡ leb (ends j) t }
 {
-    end_of(j) <= wide(t)
+    end_of(j) <= u64::from(t)
 }
 
 // When j starts at the latest.
 pub fn last_start(j: Job) -> u64
     ensures { result ≡ flex j + start j }
 {
-    wide(j.flex) + wide(j.start)
+    u64::from(j.flex) + u64::from(j.start)
 }
 
 // The flexibility of j before a job that starts at `behind` at the latest.
 pub fn x_before(j: Job, behind: u64) -> u32
     ensures { result ≡ min (deadline j - start j - budget j) (behind - start j - budget j) }
 {
-    let due = earlier(wide(j.deadline), behind);
+    let due = u64::from(j.deadline).min(behind);
     let end = end_of(j);
     if end < due { (due - end) as u32 } else { 0 }
 }
@@ -51,52 +50,31 @@ pub fn x_before(j: Job, behind: u64) -> u32
 pub fn job_ok(j: Job) -> bool
     ensures { result ≡ job_ok j }
 {
-    if j.budget == 0 {
-        return false;
-    }
-    if wide(j.deadline) < end_of(j) {
-        return false;
-    }
-    if LATEST < j.deadline {
-        return false;
-    }
-    true
+    j.budget != 0 && end_of(j) <= u64::from(j.deadline) && j.deadline <= LATEST
 }
 
 pub fn is_none(j: Job) -> bool
     ensures { result ≡ zeros j }
 {
-    if j.start != 0 {
-        return false;
-    }
-    if j.budget != 0 {
-        return false;
-    }
-    if j.deadline != 0 {
-        return false;
-    }
-    if j.flex != 0 {
-        return false;
-    }
-    true
+    j == no_job()
 }
 
 // The room at j for a deadline d, from s on.
 pub fn room_at(s: u32, d: u32, j: Job) -> u32
     ensures { result ≡ room s d j }
 {
-    less(j.start, s) + smaller(less(d, j.start), j.flex)
+    j.start.saturating_sub(s) + d.saturating_sub(j.start).min(j.flex)
 }
 
 // The job moved as far as e, the end of the job before, forces it.
 pub fn moved_to(e: u32, j: Job) -> Job
     ensures { result ≡ moved e j }
 {
-    let a = larger(e, j.start);
+    let a = e.max(j.start);
     Job {
         start: a,
         budget: j.budget,
         deadline: j.deadline,
-        flex: less(j.flex, a - j.start),
+        flex: j.flex.saturating_sub(a - j.start),
     }
 }

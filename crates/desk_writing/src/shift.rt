@@ -3,7 +3,6 @@ ghost use Rattle.std.specs.Prelude.{◌≡◌};
 ghost use Rattle.desk_writing.specs.Writing.{still_shift, shift_out, shift_step};
 
 use desk::Job;
-use desk_records::numbers::sum;
 use desk_records::records::{moved_to, no_job};
 
 // How far the pass is: jobs still to leave alone, then jobs still to put down, the first of which is the one carried,
@@ -63,7 +62,7 @@ pub fn shift_step(s: Shift, j: Job) -> Shift
         let k = s.carry;
         let m = moved_to(s.end, k);
         r.put = s.put - 1;
-        r.end = sum(m.start, m.budget);
+        r.end = m.start.saturating_add(m.budget);
         r.carry = j;
         return r;
     }
