@@ -1,21 +1,31 @@
 -- What is told of a part of a file. Assumes nothing.
-use Rattle.std.specs.Prelude.{ℕ, eqb}
+use Rattle.std.specs.Prelude.{ℕ, eqb, Option, None, Some, Result}
 use Rattle.rules.specs.Walk.{pick}
+use Rattle.rules.specs.declared.Refusal.{Refusal}
 use Rattle.rules.specs.declared.Told.{Told}
-use Rattle.rules.specs.Refusals.{telling, told}
-use Rattle.file_read.specs.declared.Reading.{Reading}
-use Rattle.file_read.specs.declared.Reading.TheVariants.{Contents, Refused}
+use Rattle.rules.specs.Refusals.{telling, told_by}
+use Rattle.file_read.specs.declared.Contents.{Contents}
 use Rattle.file_read.specs.declared.Stretch.{Stretch}
+use Rattle.file_read.specs.declared.Body.{Body}
 use Rattle.file_read.specs.declared.Body.TheVariants.{Partitions, Tasks, Runs}
-use Rattle.file_read.specs.Reader.{body_at}
+use Rattle.file_read.specs.Reader.{body_of}
 
--- the part of a file with these contents: 0 for partitions, 1 for tasks, 2 for runs; of any other the empty part
-abbrev pub part_at : ℕ → Reading → Stretch
-part_at which c =
-    pick (eqb which 0) (body_at c Partitions)
-    (pick (eqb which 1) (body_at c Tasks) (pick (eqb which 2) (body_at c Runs) (record { offset = 0; end = 0 })))
+-- 0 for partitions, 1 for tasks, 2 for runs
+abbrev pub named_part : ℕ → Option Body
+named_part which = pick (eqb which 0) (Some Partitions) (pick (eqb which 1) (Some Tasks) (pick (eqb which 2) (Some Runs) None))
 
--- 0 with where the part starts and ends, or the reader's refusal
-abbrev pub told_part : ℕ → Reading → Told
-told_part which (Contents e frame np nt nr) = let s = part_at which (Contents e frame np nt nr) in telling 0 s.offset s.end 0 0
-told_part which (Refused x) = told x
+abbrev pub lies_at : Contents → Option Body → Stretch
+lies_at c (Some body) = body_of c body
+lies_at c None = record { offset = 0; end = 0 }
+
+-- the part of a file with these contents that a number stands for; of any other number the empty part
+abbrev pub part_at : ℕ → Contents → Stretch
+part_at which c = lies_at c (named_part which)
+
+-- 0 with where the part starts and ends
+abbrev pub told_stretch : Stretch → Told
+told_stretch s = telling 0 s.offset s.end 0 0
+
+-- the same of a file that is read, or the reader's refusal
+abbrev pub told_part : ℕ → Result Contents Refusal → Told
+told_part which = told_by (λ c. told_stretch (part_at which c))

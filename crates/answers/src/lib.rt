@@ -1,23 +1,32 @@
-// The answers as C is told them: a number and five values, made of what each crate answers; and what the desk is asked.
+// The answers as C is told them: a number and five values, made of what each crate answers.
 #![tactic(auto)]
 
-ghost use Rattle.std.specs.Prelude.{◌≡◌};
-ghost use Rattle.rules.specs.Refusals.{told_done, told_count};
-ghost use Rattle.task_verdict.specs.Verdict.{told_judged};
-ghost use Rattle.task_page.specs.Page.{told_page};
-ghost use Rattle.file_read.specs.Reader.{told_reading};
+ghost use Rattle.std.specs.Prelude.{◌≡◌, IfOk};
+ghost use Rattle.rules.specs.declared.Told.{Told};
+ghost use Rattle.rules.specs.Refusals.{placed, told_by};
+ghost use Rattle.task_verdict.specs.Verdict.{told_pass};
+ghost use Rattle.task_page.specs.Page.{told_paged};
+ghost use Rattle.file_read.specs.Reader.{told_contents};
 ghost use Rattle.file_read.specs.Inner.{Few};
-ghost use Rattle.desk.specs.declared.Ask.TheVariants.{Open, Request};
-ghost use Rattle.desk.specs.Call.{said};
-ghost use Rattle.answers.specs.Parts.{part_at, told_part};
+ghost use Rattle.desk.specs.declared.Ask.TheVariants.{Request};
+ghost use Rattle.desk.specs.Call.{said_done};
+ghost use Rattle.answers.specs.Parts.{named_part, part_at, told_stretch, told_part};
 
-use desk::{Answer, Ask, Asked};
-use file_read::{Body, Reading, Stretch};
-use rules::{Filling, Finding, Holding, Told};
+use desk::{Ask, Asked, Done};
+use file_read::load::body_at;
+use file_read::{Body, Contents, Stretch};
+use rules::{Refusal, Told};
 use task_page::Paged;
-use task_verdict::Judged;
 
-fn answer(first: usize, second: usize) -> Told
+// What a call answers where it refuses nothing.
+pub trait Answer {
+    ghost told: { Self → Told };
+
+    fn tell(self) -> Told
+        ensures { result ≡ told self };
+}
+
+fn told(first: usize, second: usize) -> Told
     ensures { result ≡ record { number = 0; first = first; second = second; third = 0; fourth = 0; fifth = 0 } }
 {
     Told {
@@ -30,152 +39,141 @@ fn answer(first: usize, second: usize) -> Told
     }
 }
 
-pub fn tell_finding(found: Finding) -> Told
-    ensures { result ≡ told_done found }
-{
-    match found {
-        Finding::Good => answer(0, 0),
-        Finding::Refused(r) => rules::tell(r),
+// That nothing tells against a plan, or that a tick is changed.
+impl Answer for () {
+    ghost told = { λ _. placed 0 0 };
+
+    fn tell(self) -> Told {
+        told(0, 0)
     }
 }
 
-pub fn tell_filling(filled: Filling) -> Told
-    ensures { result ≡ told_count filled }
-{
-    match filled {
-        Filling::Fills(n) => answer(n, 0),
-        Filling::Refused(r) => rules::tell(r),
+// A count.
+impl Answer for usize {
+    ghost told = { placed 0 };
+
+    fn tell(self) -> Told {
+        told(self, 0)
     }
 }
 
-pub fn tell_holding(held: Holding) -> Told
-    ensures { result ≡ told_count held }
-{
-    match held {
-        Holding::Holds(n) => answer(n, 0),
-        Holding::Refused(r) => rules::tell(r),
+// Where a task passes, if it does.
+impl Answer for Option<usize> {
+    ghost told = { told_pass };
+
+    fn tell(self) -> Told {
+        match self {
+            Some(t) => told(t, 0),
+            None => told(0, 0),
+        }
     }
 }
 
-pub fn tell_judged(judged: Judged) -> Told
-    ensures { result ≡ told_judged judged }
-{
-    match judged {
-        Judged::Pass(t) => answer(t, 0),
-        Judged::Fail => answer(0, 0),
-        Judged::Refused(r) => rules::tell(r),
+impl Answer for Paged {
+    ghost told = { told_paged };
+
+    fn tell(self) -> Told {
+        match self {
+            Paged::Pass(t) => told(t, 0),
+            Paged::Fail {
+                rows,
+                tightest,
+                shortage,
+            } => Told {
+                number: 0,
+                first: 0,
+                second: rows,
+                third: tightest,
+                fourth: shortage,
+                fifth: 0,
+            },
+        }
     }
 }
 
-pub fn tell_page(paged: Paged) -> Told
-    ensures { result ≡ told_page paged }
-{
-    match paged {
-        Paged::Pass(t) => answer(t, 0),
-        Paged::Fail {
-            rows,
-            tightest,
-            shortage,
-        } => Told {
+impl Answer for Contents {
+    ghost told = { told_contents };
+
+    fn tell(self) -> Told {
+        Told {
             number: 0,
-            first: 0,
-            second: rows,
-            third: tightest,
-            fourth: shortage,
-            fifth: 0,
-        },
-        Paged::Refused(r) => rules::tell(r),
+            first: self.frame,
+            second: self.partitions,
+            third: self.tasks,
+            fourth: self.runs,
+            fifth: self.edition,
+        }
     }
 }
 
-pub fn tell_reading(reading: Reading) -> Told
-    ensures { result ≡ told_reading reading }
+// A part of a file.
+impl Answer for Stretch {
+    ghost told = { told_stretch };
+
+    fn tell(self) -> Told {
+        told(self.offset, self.end)
+    }
+}
+
+impl Answer for Done {
+    ghost told = { said_done };
+
+    fn tell(self) -> Told {
+        match self {
+            Done::Opened => told(0, 0),
+            Done::Taken(place, start) => told(place, start as usize),
+        }
+    }
+}
+
+// A call's answer, or why it refuses.
+pub fn tell<A: Answer>(answered: Result<A, Refusal>) -> Told
+    ensures { result ≡ told_by A.told answered }
 {
-    match reading {
-        Reading::Contents {
-            edition,
-            frame,
-            partitions,
-            tasks,
-            runs,
-        } => Told {
-            number: 0,
-            first: frame,
-            second: partitions,
-            third: tasks,
-            fourth: runs,
-            fifth: edition,
-        },
-        Reading::Refused(r) => rules::tell(r),
+    match answered {
+        Ok(answer) => answer.tell(),
+        Err(refusal) => Told::from(refusal),
     }
 }
 
-// The part of an accepted file that a number stands for; the empty part where it stands for none.
-fn part_at(which: usize, contents: Reading) -> Stretch
+// The part of a file that a number stands for.
+fn named_part(which: usize) -> Option<Body>
+    ensures { result ≡ named_part which }
+{
+    match which {
+        0 => Some(Body::Partitions),
+        1 => Some(Body::Tasks),
+        2 => Some(Body::Runs),
+        _ => None,
+    }
+}
+
+// Where that part lies in an accepted file; the empty part where the number stands for none.
+fn part_at(which: usize, contents: Contents) -> Stretch
     requires { Few contents }
     ensures { result ≡ part_at which contents }
 {
-    if which == 0 {
-        return file_read::load::body_at(contents, Body::Partitions);
+    match named_part(which) {
+        Some(body) => body_at(contents, body),
+        None => Stretch { offset: 0, end: 0 },
     }
-    if which == 1 {
-        return file_read::load::body_at(contents, Body::Tasks);
-    }
-    if which == 2 {
-        return file_read::load::body_at(contents, Body::Runs);
-    }
-    Stretch { offset: 0, end: 0 }
 }
 
 // Where that part lies in a file that is read, or why the file is refused.
-pub fn tell_part(which: usize, reading: Reading) -> Told
-    requires { Few reading }
-    ensures { result ≡ told_part which reading }
+pub fn tell_part(which: usize, read: Result<Contents, Refusal>) -> Told
+    requires { IfOk read Few }
+    ensures { result ≡ told_part which read }
 {
-    match reading {
-        Reading::Contents {
-            edition,
-            frame,
-            partitions,
-            tasks,
-            runs,
-        } => {
-            let contents = Reading::Contents {
-                edition,
-                frame,
-                partitions,
-                tasks,
-                runs,
-            };
-            let part = part_at(which, contents);
-            answer(part.offset, part.end)
-        }
-        Reading::Refused(r) => rules::tell(r),
-    }
+    tell(read.map(|contents| part_at(which, contents)))
 }
 
-pub fn tell_desk(answered: Answer) -> Told
-    ensures { result ≡ said answered }
-{
-    match answered {
-        Answer::Opened => answer(0, 0),
-        Answer::Taken(place, start) => answer(place, start as usize),
-        Answer::Refused(r) => rules::tell(r),
-    }
-}
-
-pub fn to_open() -> Ask
-    ensures { result ≡ Open }
-{
-    Ask::Open
-}
-
+// What a request asks the desk for.
 pub fn to_request(time: u32, budget: u32, deadline: u32) -> Ask
     ensures { result ≡ Request (record { time = time; budget = budget; deadline = deadline }) }
 {
     Ask::Request(Asked {
-        time: time,
-        budget: budget,
-        deadline: deadline,
+        time,
+        budget,
+        deadline,
     })
 }

@@ -1,6 +1,6 @@
 -- What each entry of the C surface tells, and what then stands in all that was lent: the entry's own rule, told as a number and five values; e is the call's edition, g its granule. (`wants` answers with
 -- the number itself: `WantsIs`.) Assumes nothing.
-use Rattle.std.specs.Prelude.{ℕ, List}
+use Rattle.std.specs.Prelude.{ℕ, List, Result}
 use Rattle.rules.specs.Terms.{given, granules}
 use Rattle.rules.specs.declared.Told.{Told}
 use Rattle.rules.specs.Refusals.{told_done, told_count, Tells}
@@ -16,7 +16,8 @@ use Rattle.file_write.specs.Writer.{Writes}
 use Rattle.file_listing.specs.Listing.{Lists}
 use Rattle.desk.specs.declared.Job.{Job}
 use Rattle.desk.specs.declared.Desk.{Desk}
-use Rattle.desk.specs.declared.Answer.{Answer}
+use Rattle.desk.specs.declared.Done.{Done}
+use Rattle.rules.specs.declared.Refusal.{Refusal}
 use Rattle.desk.specs.Table.{open_of}
 use Rattle.desk.specs.Request.{request_of}
 use Rattle.desk.specs.Call.{Leaves, said}
@@ -74,7 +75,7 @@ TellsList b out o = Tells told_count (Lists b out o)
 
 -- the record k and the table l, as lent, and k' and l' what they then hold
 abbrev pub TellsOpen : Desk → List Job → Desk → List Job → Told → Type 0
-TellsOpen k l k' l' = Tells said (λ (a : Answer). Leaves (open_of k.clock k.count l) a k' l')
+TellsOpen k l k' l' = Tells said (λ (a : Result Done Refusal). Leaves (open_of k.clock k.count l) a k' l')
 
 abbrev pub TellsRequest : Desk → List Job → ℕ → ℕ → ℕ → Desk → List Job → Told → Type 0
-TellsRequest k l t c d k' l' = Tells said (λ (a : Answer). Leaves (request_of k.clock k.count l t c d) a k' l')
+TellsRequest k l t c d k' l' = Tells said (λ (a : Result Done Refusal). Leaves (request_of k.clock k.count l t c d) a k' l')

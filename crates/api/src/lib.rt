@@ -4,7 +4,7 @@
 ghost use Rattle.rules.specs.Table.{WantsIs};
 ghost use Rattle.api.specs.Answers.{TellsHeld, TellsLeast, TellsCurve, TellsCheck, TellsBuild, TellsFill, TellsCounted, TellsMany, TellsChange, TellsVerdict, TellsPlain, TellsPage, TellsRead, TellsSection, TellsWrite, TellsList, TellsOpen, TellsRequest};
 
-use desk::{Desk, Job};
+use desk::{Ask, Desk, Job};
 use rules::{Terms, Told};
 
 pub fn merkazobi_wants(granule: usize, m: u16, num: u16, den: u16) -> usize
@@ -16,31 +16,31 @@ pub fn merkazobi_wants(granule: usize, m: u16, num: u16, den: u16) -> usize
 pub fn merkazobi_held(edition: usize, plan: &[u16], p: u16, s: u32, n: u32) -> Told
     ensures { TellsHeld edition plan.now p s n result }
 {
-    answers::tell_holding(plan_service::held(edition, plan, p, s, n))
+    answers::tell(plan_service::held(edition, plan, p, s, n))
 }
 
 pub fn merkazobi_least(edition: usize, plan: &[u16], p: u16, t: u32) -> Told
     ensures { TellsLeast edition plan.now p t result }
 {
-    answers::tell_holding(plan_service::least(edition, plan, p, t))
+    answers::tell(plan_service::least(edition, plan, p, t))
 }
 
 pub fn merkazobi_curve(edition: usize, plan: &[u16], p: u16, n: u32, list: &mut [u32]) -> Told
     ensures { TellsCurve edition plan.now p n list.old list.new result }
 {
-    answers::tell_filling(plan_curve::curve(edition, plan, p, n, list))
+    answers::tell(plan_curve::curve(edition, plan, p, n, list))
 }
 
 pub fn merkazobi_check(edition: usize, granule: usize, plan: &[u16], parts: &[u16]) -> Told
     ensures { TellsCheck edition granule plan.now parts.now result }
 {
-    answers::tell_finding(plan_check::check(Terms { edition, granule }, plan, parts))
+    answers::tell(plan_check::check(Terms { edition, granule }, plan, parts))
 }
 
 pub fn merkazobi_build(granule: usize, parts: &[u16], out: &mut [u16]) -> Told
     ensures { TellsBuild granule parts.now out.old out.new result }
 {
-    answers::tell_filling(plan_build::build(
+    answers::tell(plan_build::build(
         Terms {
             edition: 1,
             granule,
@@ -53,7 +53,7 @@ pub fn merkazobi_build(granule: usize, parts: &[u16], out: &mut [u16]) -> Told
 pub fn merkazobi_counts_fill(plan: &[u16], parts: &[u16], list: &mut [u16]) -> Told
     ensures { TellsFill plan.now parts.now list.old list.new result }
 {
-    answers::tell_filling(plan_counts::fill(plan, parts, list))
+    answers::tell(plan_counts::fill(plan, parts, list))
 }
 
 pub fn merkazobi_counts_held(
@@ -67,7 +67,7 @@ pub fn merkazobi_counts_held(
     ensures { TellsCounted plan.now parts.now list.now
         partition start length result }
 {
-    answers::tell_holding(plan_counts::held(plan, parts, list, partition, start, length))
+    answers::tell(plan_counts::held(plan, parts, list, partition, start, length))
 }
 
 pub fn merkazobi_counts_held_many(
@@ -80,7 +80,7 @@ pub fn merkazobi_counts_held_many(
     ensures { TellsMany plan.now parts.now list.now questions.now
         answers.old answers.new result }
 {
-    answers::tell_filling(plan_counts::held_many(plan, parts, list, questions, answers))
+    answers::tell(plan_counts::held_many(plan, parts, list, questions, answers))
 }
 
 pub fn merkazobi_counts_change(
@@ -93,7 +93,7 @@ pub fn merkazobi_counts_change(
     ensures { TellsChange plan.old parts.now list.old tick owner
         plan.new list.new result }
 {
-    answers::tell_finding(plan_counts::change(plan, parts, list, tick, owner))
+    answers::tell(plan_counts::change(plan, parts, list, tick, owner))
 }
 
 pub fn merkazobi_verdict(
@@ -107,7 +107,7 @@ pub fn merkazobi_verdict(
     ensures { TellsVerdict edition granule plan.now parts.now tasks.now
         place result }
 {
-    answers::tell_judged(task_verdict::verdict(
+    answers::tell(task_verdict::verdict(
         Terms { edition, granule },
         plan,
         parts,
@@ -127,7 +127,7 @@ pub fn merkazobi_plain(
     ensures { TellsPlain edition granule plan.now parts.now tasks.now
         place result }
 {
-    answers::tell_judged(task_verdict::plain(Terms { edition, granule }, plan, parts, tasks, place))
+    answers::tell(task_verdict::plain(Terms { edition, granule }, plan, parts, tasks, place))
 }
 
 pub fn merkazobi_page(
@@ -142,13 +142,13 @@ pub fn merkazobi_page(
     ensures { TellsPage edition granule plan.now parts.now tasks.now
         place rows.old rows.new result }
 {
-    answers::tell_page(task_page::page(Terms { edition, granule }, plan, parts, tasks, place, rows))
+    answers::tell(task_page::page(Terms { edition, granule }, plan, parts, tasks, place, rows))
 }
 
 pub fn merkazobi_read(file: &[u8]) -> Told
     ensures { TellsRead file.now result }
 {
-    answers::tell_reading(file_read::read(file))
+    answers::tell(file_read::read(file))
 }
 
 pub fn merkazobi_section(file: &[u8], which: usize) -> Told
@@ -168,28 +168,24 @@ pub fn merkazobi_write(
     ensures { TellsWrite edition frame parts.now tasks.now runs.now
         out.old out.new result }
 {
-    answers::tell_filling(file_write::write(edition, frame, parts, tasks, runs, out))
+    answers::tell(file_write::write(edition, frame, parts, tasks, runs, out))
 }
 
 pub fn merkazobi_list(file: &[u8], out: &mut [u8]) -> Told
     ensures { TellsList file.now out.old out.new result }
 {
-    answers::tell_filling(file_listing::listing(file, out))
+    answers::tell(file_listing::listing(file, out))
 }
 
 pub fn merkazobi_open(desk: &mut Desk, jobs: &mut [Job]) -> Told
     ensures { TellsOpen desk.old jobs.old desk.new jobs.new result }
 {
-    let ask = answers::to_open();
-    let answered = desk_lent::call(desk, jobs, ask);
-    answers::tell_desk(answered)
+    answers::tell(desk_lent::call(desk, jobs, Ask::Open))
 }
 
 pub fn merkazobi_request(desk: &mut Desk, jobs: &mut [Job], t: u32, c: u32, d: u32) -> Told
     ensures { TellsRequest desk.old jobs.old t c d
         desk.new jobs.new result }
 {
-    let ask = answers::to_request(t, c, d);
-    let answered = desk_lent::call(desk, jobs, ask);
-    answers::tell_desk(answered)
+    answers::tell(desk_lent::call(desk, jobs, answers::to_request(t, c, d)))
 }

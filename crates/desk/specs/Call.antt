@@ -1,6 +1,6 @@
 -- One call of the desk, what it leaves in the caller's memory, and its answer as document 01 has it. Assumes nothing.
 use Rattle.std.specs.Prelude.{ℕ, ◌≡◌, List, Result, Ok, Err}
-use Rattle.rules.specs.Refusals.{placed, telling, told}
+use Rattle.rules.specs.Refusals.{placed, telling, told_by}
 use Rattle.rules.specs.declared.Told.{Told}
 use Rattle.desk.specs.declared.Job.{Job}
 use Rattle.desk.specs.declared.Desk.{Desk}
@@ -26,7 +26,9 @@ abbrev pub Leaves : Outcome → Result Done Refusal → Desk → List Job → Ty
 Leaves o r k l = (r ≡ o.answer) × (k ≡ desk_of o) × (l ≡ o.jobs)
 
 -- 0 and the values, or the refusal's number
+abbrev pub said_done : Done → Told
+said_done Opened = placed 0 0
+said_done (Taken place start) = telling 0 place start 0 0
+
 abbrev pub said : Result Done Refusal → Told
-said (Ok Opened) = placed 0 0
-said (Ok (Taken place start)) = telling 0 place start 0 0
-said (Err r) = told r
+said = told_by said_done

@@ -4,7 +4,7 @@ use Rattle.rules.specs.Limits.{row_width}
 use Rattle.rules.specs.Walk.{pick, count, gathered}
 use Rattle.rules.specs.Table.{partition, deadline}
 use Rattle.rules.specs.Terms.{rule_in}
-use Rattle.rules.specs.Refusals.{placed, telling, told}
+use Rattle.rules.specs.Refusals.{placed, telling, told_by}
 use Rattle.rules.specs.declared.Told.{Told}
 use Rattle.rules.specs.declared.Terms.{Terms}
 use Rattle.rules.specs.declared.Rule.{Rule}
@@ -68,7 +68,9 @@ Pages terms plan ps ts place list o r =
     (r ≡ page_of terms plan ps ts place (length list)) × (o ≡ page_left r (rows_of (rule_in terms) plan ts (place - 1)) list)
 
 -- 0 and the point of a pass; of a fail how many rows, the tightest point and its shortage; or the refusal
+abbrev pub told_paged : Paged → Told
+told_paged (Pass t) = placed 0 t
+told_paged (Fail n t h) = telling 0 0 n t h
+
 abbrev pub told_page : Result Paged Refusal → Told
-told_page (Ok (Pass t)) = placed 0 t
-told_page (Ok (Fail n t h)) = telling 0 0 n t h
-told_page (Err r) = told r
+told_page = told_by told_paged

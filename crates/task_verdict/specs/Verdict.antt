@@ -5,7 +5,7 @@ use Rattle.rules.specs.Table.{tasks, deadline}
 use Rattle.rules.specs.Terms.{rule_in, wanted}
 use Rattle.rules.specs.declared.Terms.{Terms}
 use Rattle.tables.specs.Tables.{tables_of, unless}
-use Rattle.rules.specs.Refusals.{placed, told}
+use Rattle.rules.specs.Refusals.{placed, told_by}
 use Rattle.rules.specs.declared.Told.{Told}
 use Rattle.rules.specs.declared.Rule.{Rule}
 use Rattle.rules.specs.declared.Refusal.TheVariants.{Task}
@@ -46,7 +46,9 @@ abbrev pub JudgesPlainly : Terms → List ℕ → List ℕ → List ℕ → ℕ 
 JudgesPlainly terms plan ps ts place r = r ≡ plain_of terms plan ps ts place
 
 -- 0 and the point or the tick, or 0 for a fail
+abbrev pub told_pass : Option ℕ → Told
+told_pass (Some t) = placed 0 t
+told_pass None = placed 0 0
+
 abbrev pub told_judged : Result (Option ℕ) Refusal → Told
-told_judged (Ok (Some t)) = placed 0 t
-told_judged (Ok None) = placed 0 0
-told_judged (Err r) = told r
+told_judged = told_by told_pass
