@@ -47,8 +47,7 @@ use Rattle.task_verdict.proofs.Engines as verdict
 use Rattle.task_page.specs.Page.{Pages, told_page}
 use Rattle.task_page.proofs.Proved as page
 use Rattle.file_tables.proofs.Chain.{file_2, file_holds}
-use Rattle.file_read.specs.declared.Reading.{Reading}
-use Rattle.file_read.specs.declared.Reading.TheVariants as reading
+use Rattle.file_read.specs.declared.Contents.{Contents}
 use Rattle.file_read.specs.declared.Body.TheVariants.{Partitions, Tasks, Runs}
 use Rattle.file_read.specs.Reader.{table_by, judged_by, read_of, told_reading, Reads}
 use Rattle.file_read.proofs.Reader.{contents_hold}
@@ -62,8 +61,8 @@ use Rattle.why_page.proofs.Proved as page-texts
 use Rattle.share_plan.proofs.Proved as planner
 use Rattle.desk.specs.declared.Job.{Job}
 use Rattle.desk.specs.declared.Desk.{Desk}
-use Rattle.desk.specs.declared.Answer.{Answer}
-use Rattle.desk.specs.declared.Answer.TheVariants.{Opened, Taken, Refused}
+use Rattle.desk.specs.declared.Done.{Done}
+use Rattle.desk.specs.declared.Done.TheVariants.{Opened, Taken}
 use Rattle.desk.specs.Table.{job, start, ends, none, filled, flexes, Outcome, outcome, table_ok, open_of}
 use Rattle.desk.specs.Request.{kept, Place, At, Nowhere, find, insert_at, taking, dropping, drops, request_of}
 use Rattle.desk.specs.Call.{desk_of, Leaves, said}
@@ -116,7 +115,7 @@ list-told : (a : Bool) (n : ℕ) → Numbered (12 ∷ []) (told_count (pick a (E
 list-told true n = refl
 list-told false n = refl
 
-open_told : (a : Bool) (l l' : List Job) (n clock : ℕ) → Numbered (13 ∷ []) (said (pick a (outcome l n 0 Opened) (outcome l' n clock (Refused Rules))).answer)
+open_told : (a : Bool) (l l' : List Job) (n clock : ℕ) → Numbered (13 ∷ []) (said (pick a (outcome l n 0 (Ok Opened)) (outcome l' n clock (Err Rules))).answer)
 open_told true l l' n clock = refl
 open_told false l l' n clock = refl
 
@@ -126,10 +125,10 @@ module _ (P : Outcome → Type 0) (clock n : ℕ) (l : List Job) (t c d : ℕ) w
   js = kept t (take n l)
 
   abbrev stays : Refusal → Outcome
-  stays r = outcome l n clock (Refused r)
+  stays r = outcome l n clock (Err r)
 
   abbrev takes : ℕ → ℕ → Outcome
-  takes i s = outcome (filled (insert_at i (job s c d 0) js)) (length js + 1) t (Taken i s)
+  takes i s = outcome (filled (insert_at i (job s c d 0) js)) (length js + 1) t (Ok (Taken i s))
 
   taking-holds : (p : Place) → P (dropping t js (NoPlace (explanation_of t d js))) → ((i s : ℕ) → P (takes i s)) → P (taking t c d js p)
   taking-holds Nowhere none new = none
@@ -174,18 +173,18 @@ list_is : (b out o : List ℕ) (t : Told) → TellsList b out o t → t ≡ told
 list_is b out o t p = tells_one told_count (Lists b out o) (list_of b (length out)) (λ r e. e.0) t p
 
 -- the desk's two entries, whose outcome is o
-module _ (o : Outcome) (k' : Desk) (l' : List Job) (t : Told) (p : Tells said (λ (a : Answer). Leaves o a k' l') t) where
+module _ (o : Outcome) (k' : Desk) (l' : List Job) (t : Told) (p : Tells said (λ (a : Result Done Refusal). Leaves o a k' l') t) where
   desk_is : t ≡ said o.answer
-  desk_is = tells_one said (λ (a : Answer). Leaves o a k' l') o.answer (λ r e. e.0) t p
+  desk_is = tells_one said (λ (a : Result Done Refusal). Leaves o a k' l') o.answer (λ r e. e.0) t p
 
   -- a number from 1 on is a refusal's
-  refusal_is : ¬ (t.number ≡ 0) → (r : Refusal) × (o.answer ≡ Refused r) × (t.number ≡ (told r).number)
+  refusal_is : ¬ (t.number ≡ 0) → (r : Refusal) × (o.answer ≡ Err r) × (t.number ≡ (told r).number)
   refusal_is n = go o.answer refl
     where
-      go : (a : Answer) → o.answer ≡ a → (r : Refusal) × (o.answer ≡ Refused r) × (t.number ≡ (told r).number)
-      go Opened e = absurd (n (rw (desk_is, e)))
-      go (Taken i s) e = absurd (n (rw (desk_is, e)))
-      go (Refused r) e = (r, e, rw (desk_is, e))
+      go : (a : Result Done Refusal) → o.answer ≡ a → (r : Refusal) × (o.answer ≡ Err r) × (t.number ≡ (told r).number)
+      go (Ok Opened) e = absurd (n (rw (desk_is, e)))
+      go (Ok (Taken i s)) e = absurd (n (rw (desk_is, e)))
+      go (Err r) e = (r, e, rw (desk_is, e))
 
   left_is : (q : Outcome) → o ≡ q → (k' ≡ desk_of q) × (l' ≡ q.jobs)
   left_is q e = (p.1.1 ∙ ap desk_of e, p.1.2 ∙ ap (λ (x : Outcome). x.jobs) e)
@@ -262,7 +261,7 @@ module _ (k k' : Desk) (l l' : List Job) (time c d : ℕ) (t : Told) (p : TellsR
   left = kept time (take k.count l)
 
   abbrev Leaving : Bool → Type 0
-  Leaving b = (r : Refusal) × (asked ≡ pick b (dropping time left r) (outcome l k.count k.clock (Refused r)))
+  Leaving b = (r : Refusal) × (asked ≡ pick b (dropping time left r) (outcome l k.count k.clock (Err r)))
 
   leaving : (ms : List ℕ) (b : Bool) → ((n : ℕ) → among ms n ≡ true → drops_by n ≡ b) → ¬ (among ms 0 ≡ true) → ToldAs ms t → Leaving b
   leaving ms b which some e =
@@ -281,19 +280,19 @@ module _ (k k' : Desk) (l l' : List Job) (time c d : ℕ) (t : Told) (p : TellsR
       let q = left_is asked k' l' t p _ a.1 in
       (ap (λ (x : Desk). x.clock) q.0, ap (λ (x : Desk). x.count) q.0, q.1)
 
-  not_opened : ¬ (asked.answer ≡ Opened)
-  not_opened = request_holds (λ o. ¬ (o.answer ≡ Opened)) k.clock k.count l time c d other other other other other other (λ i s e. let z : ◌≡◌ {A = ℕ} 0 1 = cc in absurd (omega arith))
+  not_opened : ¬ (asked.answer ≡ Ok Opened)
+  not_opened = request_holds (λ o. ¬ (o.answer ≡ Ok Opened)) k.clock k.count l time c d other other other other other other (λ i s e. let z : ◌≡◌ {A = ℕ} 0 1 = cc in absurd (omega arith))
     where
-      other : {r : Refusal} → ¬ (◌≡◌ {A = Answer} (Refused r) Opened)
+      other : {r : Refusal} → ¬ (◌≡◌ {A = Result Done Refusal} (Err r) (Ok Opened))
       other e = let z : ◌≡◌ {A = ℕ} 0 1 = cc in absurd (omega arith)
 
   taken : t.number ≡ 0 → k'.clock ≡ time
   taken e = ap (λ (x : Desk). x.clock) p.1.1 ∙ go asked.answer refl
     where
-      go : (a : Answer) → asked.answer ≡ a → asked.clock ≡ time
-      go Opened f = absurd (not_opened f)
-      go (Taken i s) f = (desk.proved).taken_sets_clock k.clock k.count l time c d i s f
-      go (Refused r) f = absurd (not_0 r (rw (desk_is asked k' l' t p, f) at e))
+      go : (a : Result Done Refusal) → asked.answer ≡ a → asked.clock ≡ time
+      go (Ok Opened) f = absurd (not_opened f)
+      go (Ok (Taken i s)) f = (desk.proved).taken_sets_clock k.clock k.count l time c d i s f
+      go (Err r) f = absurd (not_0 r (rw (desk_is asked k' l' t p, f) at e))
 
   -- no number of the list is one for the desk's `NoLower`
   none-lower : ¬ ToldAs lower t → NoLower asked
@@ -312,18 +311,18 @@ module _ (k k' : Desk) (l l' : List Job) (time c d : ℕ) (t : Told) (p : TellsR
   start-told : t.number ≡ 0 → t.second ≡ start_at time left t.first
   start-told e = rw (desk_is asked k' l' t p) (go asked.answer refl)
     where
-      go : (a : Answer) → asked.answer ≡ a → (said a).second ≡ start_at time left (said a).first
-      go Opened f = absurd (not_opened f)
-      go (Taken i s) f = (desk.proved).taken_start k.clock k.count l time c d i s f
-      go (Refused r) f = absurd (not_0 r (rw (desk_is asked k' l' t p, f) at e))
+      go : (a : Result Done Refusal) → asked.answer ≡ a → (said a).second ≡ start_at time left (said a).first
+      go (Ok Opened) f = absurd (not_opened f)
+      go (Ok (Taken i s)) f = (desk.proved).taken_start k.clock k.count l time c d i s f
+      go (Err r) f = absurd (not_0 r (rw (desk_is asked k' l' t p, f) at e))
 
   near_told : t.number ≡ 0 → MovesWithin left t.first l'
   near_told e = rw (desk_is asked k' l' t p, p.1.2) (go asked.answer refl)
     where
-      go : (a : Answer) → asked.answer ≡ a → MovesWithin left (said a).first asked.jobs
-      go Opened f = absurd (not_opened f)
-      go (Taken i s) f = (desk.proved).never_too_far k.clock k.count l time c d i s f
-      go (Refused r) f = absurd (not_0 r (rw (desk_is asked k' l' t p, f) at e))
+      go : (a : Result Done Refusal) → asked.answer ≡ a → MovesWithin left (said a).first asked.jobs
+      go (Ok Opened) f = absurd (not_opened f)
+      go (Ok (Taken i s)) f = (desk.proved).never_too_far k.clock k.count l time c d i s f
+      go (Err r) f = absurd (not_0 r (rw (desk_is asked k' l' t p, f) at e))
 
   busy-told : t.number ≡ 16
       → (start (get_or l' 0 none) < time) × (time < ends (get_or l' 0 none))
@@ -349,27 +348,27 @@ module _ (k k' : Desk) (l l' : List Job) (time c d : ℕ) (t : Told) (p : TellsR
       )
 
   -- what holds of each reason that may be told with 18 holds of what is told
-  by_reason : (P : Told → Type 0) → ((reason : Explanation) → asked.answer ≡ Refused (NoPlace reason) → P (told (NoPlace reason))) → t.number ≡ 18 → P t
+  by_reason : (P : Told → Type 0) → ((reason : Explanation) → asked.answer ≡ Err (NoPlace reason) → P (told (NoPlace reason))) → t.number ≡ 18 → P t
   by_reason P by e = subst P (sym (desk_is asked k' l' t p)) (go asked.answer refl (rw (desk_is asked k' l' t p) at e))
     where
-      named_by : (r : Refusal) (reason : Explanation) → r ≡ NoPlace reason → asked.answer ≡ Refused r → P (told r)
-      named_by r reason z f = subst (λ (x : Refusal). P (told x)) (sym z) (by reason (f ∙ ap (λ (x : Refusal). Refused x) z))
+      named_by : (r : Refusal) (reason : Explanation) → r ≡ NoPlace reason → asked.answer ≡ Err r → P (told r)
+      named_by r reason z f = subst (λ (x : Refusal). P (told x)) (sym z) (by reason (f ∙ ap (λ (x : Refusal). Err x) z))
 
-      go : (a : Answer) → asked.answer ≡ a → (said a).number ≡ 18 → P (said a)
-      go Opened f z = absurd (not_opened f)
-      go (Taken i s) f z = absurd (omega arith)
-      go (Refused r) f z = named_by r _ (by_number r 18 (λ q. absurd (omega arith)) z) f
+      go : (a : Result Done Refusal) → asked.answer ≡ a → (said a).number ≡ 18 → P (said a)
+      go (Ok Opened) f z = absurd (not_opened f)
+      go (Ok (Taken i s)) f z = absurd (omega arith)
+      go (Err r) f z = named_by r _ (by_number r 18 (λ q. absurd (omega arith)) z) f
 
   explained-told : t.number ≡ 18 → Explains time c d left t
   explained-told = by_reason (Explains time c d left) by
     where
-      not_none : (i r : ℕ) (b : Binding) → asked.answer ≡ Refused (NoPlace (why.Roomiest i r b)) → ¬ ((early d left ≡ 0) × (d < time))
+      not_none : (i r : ℕ) (b : Binding) → asked.answer ≡ Err (NoPlace (why.Roomiest i r b)) → ¬ ((early d left ≡ 0) × (d < time))
       not_none i r b f z =
           let y = ((desk.proved).no_place_nowhere k.clock k.count l time c d (why.Roomiest i r b) f).1 z in
           let x : ◌≡◌ {A = ℕ} 0 1 = cc in
           omega arith
 
-      by : (reason : Explanation) → asked.answer ≡ Refused (NoPlace reason) → Explains time c d left (told (NoPlace reason))
+      by : (reason : Explanation) → asked.answer ≡ Err (NoPlace reason) → Explains time c d left (told (NoPlace reason))
       by why.Nowhere f = record {
         none = (λ z. ((desk.proved).no_place_nowhere k.clock k.count l time c d why.Nowhere f).0 refl, λ z. refl);
         roomiest = λ z. absurd (omega arith);
@@ -390,7 +389,7 @@ module _ (k k' : Desk) (l l' : List Job) (time c d : ℕ) (t : Told) (p : TellsR
       → (k₂ : Desk) (l₂ : List Job) (u : Told) → TellsRequest k l time t.second d k₂ l₂ u → u ≡ telling 0 t.first (start_at time left t.first) 0 0
   room-told = by_reason (λ x. 1 ≤ x.second → (k₂ : Desk) (l₂ : List Job) (u : Told) → TellsRequest k l time x.second d k₂ l₂ u → u ≡ telling 0 x.first (start_at time left x.first) 0 0) by
     where
-      by : (reason : Explanation) → asked.answer ≡ Refused (NoPlace reason) → 1 ≤ (told (NoPlace reason)).second
+      by : (reason : Explanation) → asked.answer ≡ Err (NoPlace reason) → 1 ≤ (told (NoPlace reason)).second
           → (k₂ : Desk) (l₂ : List Job) (u : Told) → TellsRequest k l time (told (NoPlace reason)).second d k₂ l₂ u
           → u ≡ telling 0 (told (NoPlace reason)).first (start_at time left (told (NoPlace reason)).first) 0 0
       by why.Nowhere f some k₂ l₂ u q = absurd (omega arith)
@@ -399,22 +398,22 @@ module _ (k k' : Desk) (l l' : List Job) (time c d : ℕ) (t : Told) (p : TellsR
 
 -- ---- sections
 
-abbrev Partly : Reading → ℕ → Type 0
+abbrev Partly : Result Contents Refusal → ℕ → Type 0
 Partly c which = ¬ ((told_reading c).number ≡ 0) → told_part which c ≡ told_reading c
 
 no_part : (b : List ℕ) (which : ℕ) → Partly (read_of b) which
 no_part b which = at (read_of b)
   where
-    at : (c : Reading) → Partly c which
-    at (reading.Contents i f p t r) n = absurd (n refl)
-    at (reading.Refused x) n = refl
+    at : (c : Result Contents Refusal) → Partly c which
+    at (Ok c) n = absurd (n refl)
+    at (Err x) n = refl
 
 a_part : (b : List ℕ) (which : ℕ) → (told_reading (read_of b)).number ≡ 0 → (told_part which (read_of b)).number ≡ 0
 a_part b which = at (read_of b)
   where
-    at : (c : Reading) → (told_reading c).number ≡ 0 → (told_part which c).number ≡ 0
-    at (reading.Contents i f p t r) e = refl
-    at (reading.Refused x) e = absurd (not_0 x e)
+    at : (c : Result Contents Refusal) → (told_reading c).number ≡ 0 → (told_part which c).number ≡ 0
+    at (Ok c) e = refl
+    at (Err x) e = absurd (not_0 x e)
 
 first : Demand1
 unfolding curve_of check_of build_of read_of write_of list_of open_of
@@ -439,9 +438,9 @@ first = record {
   page_numbers = paging.page_numbers;
   read_numbers = λ b t p.
       rw (read_is b t p)
-      (contents_hold b (λ (c : Reading). Numbered (1 ∷ 2 ∷ 3 ∷ 4 ∷ 5 ∷ 6 ∷ 7 ∷ 8 ∷ []) (told_reading (judged_by c b))) refl refl refl refl refl
-      (λ i f p t r. file_holds i f (table_by (reading.Contents i f p t r) b Partitions) (table_by (reading.Contents i f p t r) b Tasks) (table_by (reading.Contents i f p t r) b Runs)
-      (λ (c : Reading). Numbered (1 ∷ 2 ∷ 3 ∷ 4 ∷ 5 ∷ 6 ∷ 7 ∷ 8 ∷ []) (told_reading c)) reading.Refused (reading.Contents i f p t r) (λ e. refl) refl (λ k. refl) (λ j. refl) (λ r. refl) refl));
+      (contents_hold b (λ (c : Result Contents Refusal). Numbered (1 ∷ 2 ∷ 3 ∷ 4 ∷ 5 ∷ 6 ∷ 7 ∷ 8 ∷ []) (told_reading (judged_by c b))) refl refl refl refl refl
+      (λ c. file_holds c.edition c.frame (table_by (Ok c) b Partitions) (table_by (Ok c) b Tasks) (table_by (Ok c) b Runs)
+      (λ (r : Result Contents Refusal). Numbered (1 ∷ 2 ∷ 3 ∷ 4 ∷ 5 ∷ 6 ∷ 7 ∷ 8 ∷ []) (told_reading r)) Err (Ok c) (λ e. refl) refl (λ k. refl) (λ j. refl) (λ r. refl) refl));
   section_refused = λ b which t u p q n. section_is b which t p ∙ no_part b which (λ z. n (rw (read_is b u q) z)) ∙ sym (read_is b u q);
   section_good = λ b which t u p q e. rw (section_is b which t p) (a_part b which (rw (read_is b u q) at e));
   write_numbers = λ i f ps ts rs out o t p.
@@ -509,7 +508,7 @@ module _ {A : Type 0} (tell : A → Told) where
   same_left Answers one o o' t t' (r, p, e) (r', p', e') = let q = one o o' r r' p p' in (e ∙ ap tell q.0 ∙ sym e', q.1)
 
 desk-one : (o : Outcome) (k₁ k₂ : Desk) (l₁ l₂ : List Job) (t t' : Told)
-    → Tells said (λ (a : Answer). Leaves o a k₁ l₁) t → Tells said (λ (a : Answer). Leaves o a k₂ l₂) t' → (t ≡ t') × (k₁ ≡ k₂) × (l₁ ≡ l₂)
+    → Tells said (λ (a : Result Done Refusal). Leaves o a k₁ l₁) t → Tells said (λ (a : Result Done Refusal). Leaves o a k₂ l₂) t' → (t ≡ t') × (k₁ ≡ k₂) × (l₁ ≡ l₂)
 desk-one o k₁ k₂ l₁ l₂ t t' (r, p, e) (r', p', e') =
     let q = (lent.proved).lent_one o r r' k₁ k₂ l₁ l₂ p p' in (e ∙ ap said q.0 ∙ sym e', q.1, q.2)
 

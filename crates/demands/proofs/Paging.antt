@@ -19,7 +19,7 @@ use Rattle.theory.specs.Load.{asked, demand, multiple, point, holds, earliest, s
 use Rattle.theory.specs.Task.{rival, task_load, task_point}
 use Rattle.theory.specs.Theorems.{TightestPoint}
 use Rattle.plan_check.specs.Check.{short_at, scan_of, plan_check_of}
-use Rattle.std.specs.Prelude.{Option, Result}
+use Rattle.std.specs.Prelude.{Option, Result, Ok, Err}
 use Rattle.rules.specs.declared.Refusal.{Refusal}
 use Rattle.task_verdict.specs.Verdict.{place_of, answerable_of, pass_at, verdict_by, verdict_of, told_judged}
 use Rattle.task_page.specs.declared.Paged.{Paged}
@@ -68,14 +68,14 @@ module _ (i g : ℕ) (plan ps ts : List ℕ) (place : ℕ) (list o : List ℕ) (
   tells : TellsVerdict i g plan ps ts place u
   tells = (verdict, refl, refl)
 
-  abbrev answer : Paged
+  abbrev answer : Result Paged Refusal
   answer = page_of (given i g) plan ps ts place (length list)
 
   page_is : t ≡ told_page answer
   page_is = c.2 ∙ ap told_page c.1.0
 
   left_is : o ≡ page_left answer (rows_of (rule_of i) plan ts (place - 1)) list
-  left_is = c.1.1 ∙ ap (λ (r : Paged). page_left r (rows_of (rule_of i) plan ts (place - 1)) list) c.1.0
+  left_is = c.1.1 ∙ ap (λ (r : Result Paged Refusal). page_left r (rows_of (rule_of i) plan ts (place - 1)) list) c.1.0
 
   ways : PageBy (rule_of i) plan ts (place - 1) (length list) verdict answer
   ways = proved.page_answers (given i g) plan ps ts place (length list)
@@ -83,7 +83,7 @@ module _ (i g : ℕ) (plan ps ts : List ℕ) (place : ℕ) (list o : List ℕ) (
   pub page_numbers : Numbered (2 ∷ 3 ∷ 21 ∷ 6 ∷ 7 ∷ 8 ∷ 9 ∷ 12 ∷ []) t
   page_numbers = rw page_is (by verdict answer ways (judging.judged-numbers task_point i g plan ps ts place u tells))
     where
-      by : (j : Result (Option ℕ) Refusal) (r : Paged) → PageBy (rule_of i) plan ts (place - 1) (length list) j r → Numbered (2 ∷ 3 ∷ 21 ∷ 6 ∷ 7 ∷ 8 ∷ 9 ∷ []) (told_judged j)
+      by : (j : Result (Option ℕ) Refusal) (r : Result Paged Refusal) → PageBy (rule_of i) plan ts (place - 1) (length list) j r → Numbered (2 ∷ 3 ∷ 21 ∷ 6 ∷ 7 ∷ 8 ∷ 9 ∷ []) (told_judged j)
           → Numbered (2 ∷ 3 ∷ 21 ∷ 6 ∷ 7 ∷ 8 ∷ 9 ∷ 12 ∷ []) (told_page r)
       by j r (page_refused x) h = with_12 (told x).number h
       by j r (page_pass x) h = refl
@@ -94,7 +94,7 @@ module _ (i g : ℕ) (plan ps ts : List ℕ) (place : ℕ) (list o : List ℕ) (
   as_verdict : (n : ℕ) → ¬ (n ≡ 0) → ¬ (n ≡ 12) → (t.number ≡ n) ↔ (u.number ≡ n)
   as_verdict n zero twelve = subst (λ (x : Told). (x.number ≡ n) ↔ (u.number ≡ n)) (sym page_is) (by verdict answer ways)
     where
-      by : (j : Result (Option ℕ) Refusal) (r : Paged) → PageBy (rule_of i) plan ts (place - 1) (length list) j r → ((told_page r).number ≡ n) ↔ ((told_judged j).number ≡ n)
+      by : (j : Result (Option ℕ) Refusal) (r : Result Paged Refusal) → PageBy (rule_of i) plan ts (place - 1) (length list) j r → ((told_page r).number ≡ n) ↔ ((told_judged j).number ≡ n)
       by j r (page_refused x) = (λ e. e, λ e. e)
       by j r (page_pass x) = (λ e. e, λ e. e)
       by j r (page-short l) = (λ e. absurd (twelve (sym e)), λ e. absurd (zero (sym e)))
@@ -115,17 +115,17 @@ module _ (i g : ℕ) (plan ps ts : List ℕ) (place : ℕ) (list o : List ℕ) (
   pub refused_leaves : Refused t → o ≡ list
   refused_leaves h = left_is ∙ by answer (subst (λ (x : Told). Refused x) page_is h)
     where
-      by : (r : Paged) → Refused (told_page r) → page_left r (rows_of (rule_of i) plan ts (place - 1)) list ≡ list
-      by (paged.Pass x) n = refl
-      by (paged.Fail x y z) n = absurd (n refl)
-      by (paged.Refused x) n = refl
+      by : (r : Result Paged Refusal) → Refused (told_page r) → page_left r (rows_of (rule_of i) plan ts (place - 1)) list ≡ list
+      by (Ok (paged.Pass x)) n = refl
+      by (Ok (paged.Fail x y z)) n = absurd (n refl)
+      by (Err x) n = refl
 
   -- where it is neither refused nor passes
-  failing : t.number ≡ 0 → t.first ≡ 0 → answer ≡ paged.Fail t.second t.third t.fourth
-  failing e h = subst (λ (x : Told). answer ≡ paged.Fail x.second x.third x.fourth) (sym page_is) (by verdict refl answer ways (rw page_is at e) (rw page_is at h))
+  failing : t.number ≡ 0 → t.first ≡ 0 → answer ≡ Ok (paged.Fail t.second t.third t.fourth)
+  failing e h = subst (λ (x : Told). answer ≡ Ok (paged.Fail x.second x.third x.fourth)) (sym page_is) (by verdict refl answer ways (rw page_is at e) (rw page_is at h))
     where
-      by : (j : Result (Option ℕ) Refusal) → verdict ≡ j → (r : Paged) → PageBy (rule_of i) plan ts (place - 1) (length list) j r → (told_page r).number ≡ 0 → (told_page r).first ≡ 0
-          → r ≡ paged.Fail (told_page r).second (told_page r).third (told_page r).fourth
+      by : (j : Result (Option ℕ) Refusal) → verdict ≡ j → (r : Result Paged Refusal) → PageBy (rule_of i) plan ts (place - 1) (length list) j r → (told_page r).number ≡ 0 → (told_page r).first ≡ 0
+          → r ≡ Ok (paged.Fail (told_page r).second (told_page r).third (told_page r).fourth)
       by j v r (page_refused x) a b = absurd (not_0 x a)
       by j v r (page_pass x) a b = absurd (let z = judging.point-from_1 (given i g) plan ps ts place x v in omega arith)
       by j v r (page-short l) a b = absurd (omega arith)
@@ -134,7 +134,7 @@ module _ (i g : ℕ) (plan ps ts : List ℕ) (place : ℕ) (list o : List ℕ) (
   pub rows_told : t.number ≡ 0 → t.first ≡ 0 → Rows (rule_of i) plan ts (place - 1) t.second list o
   rows_told e h =
       proved.page_rows (given i g) plan ps ts place list o t.second t.third t.fourth
-      (subst (λ (r : Paged). Pages (given i g) plan ps ts place list o r) (c.1.0 ∙ failing e h) c.1)
+      (subst (λ (r : Result Paged Refusal). Pages (given i g) plan ps ts place list o r) (c.1.0 ∙ failing e h) c.1)
 
   pub tightest-told : t.number ≡ 0 → t.first ≡ 0
       → TightestPoint (task_load ts) (least (rule_of i) plan (partition ts (place - 1))) (place - 1) t.third
@@ -144,7 +144,7 @@ module _ (i g : ℕ) (plan ps ts : List ℕ) (place : ℕ) (list o : List ℕ) (
   pub refused_alike : Refused u → t ≡ u
   refused_alike h = page_is ∙ by verdict answer ways h
     where
-      by : (j : Result (Option ℕ) Refusal) (r : Paged) → PageBy (rule_of i) plan ts (place - 1) (length list) j r → Refused (told_judged j) → told_page r ≡ told_judged j
+      by : (j : Result (Option ℕ) Refusal) (r : Result Paged Refusal) → PageBy (rule_of i) plan ts (place - 1) (length list) j r → Refused (told_judged j) → told_page r ≡ told_judged j
       by j r (page_refused x) n = refl
       by j r (page_pass x) n = refl
       by j r (page-short l) n = absurd (n refl)
@@ -153,7 +153,7 @@ module _ (i g : ℕ) (plan ps ts : List ℕ) (place : ℕ) (list o : List ℕ) (
   pub short-told : t.number ≡ 12 → (u.number ≡ 0) × (u.first ≡ 0)
   short-told h = by verdict answer ways (judging.judged-numbers task_point i g plan ps ts place u tells) (rw page_is at h)
     where
-      by : (j : Result (Option ℕ) Refusal) (r : Paged) → PageBy (rule_of i) plan ts (place - 1) (length list) j r → Numbered (2 ∷ 3 ∷ 21 ∷ 6 ∷ 7 ∷ 8 ∷ 9 ∷ []) (told_judged j) → (told_page r).number ≡ 12
+      by : (j : Result (Option ℕ) Refusal) (r : Result Paged Refusal) → PageBy (rule_of i) plan ts (place - 1) (length list) j r → Numbered (2 ∷ 3 ∷ 21 ∷ 6 ∷ 7 ∷ 8 ∷ 9 ∷ []) (told_judged j) → (told_page r).number ≡ 12
           → ((told_judged j).number ≡ 0) × ((told_judged j).first ≡ 0)
       by j r (page_refused x) n e = absurd (let z : ◌≡◌ {A = Bool} false true = rw e at n in let y : ◌≡◌ {A = ℕ} 0 1 = cc in omega arith)
       by j r (page_pass x) n e = absurd (omega arith)
@@ -163,7 +163,7 @@ module _ (i g : ℕ) (plan ps ts : List ℕ) (place : ℕ) (list o : List ℕ) (
   pub pass-told : 1 ≤ u.first → u.number ≡ 0 → (t ≡ u) × (o ≡ list)
   pass-told h e = by verdict answer ways h e page_is left_is
     where
-      by : (j : Result (Option ℕ) Refusal) (r : Paged) → PageBy (rule_of i) plan ts (place - 1) (length list) j r → 1 ≤ (told_judged j).first → (told_judged j).number ≡ 0 → t ≡ told_page r
+      by : (j : Result (Option ℕ) Refusal) (r : Result Paged Refusal) → PageBy (rule_of i) plan ts (place - 1) (length list) j r → 1 ≤ (told_judged j).first → (told_judged j).number ≡ 0 → t ≡ told_page r
           → o ≡ page_left r (rows_of (rule_of i) plan ts (place - 1)) list → (t ≡ told_judged j) × (o ≡ list)
       by j r (page_refused x) n m a b = (a, b)
       by j r (page_pass x) n m a b = (a, b)
