@@ -1,5 +1,5 @@
 use mathlib.Core.Path.{◌≡◌, sym, ◌∙◌}
-use Rattle.std.proofs.Common.{rules, Result, Ok, Err}
+use Rattle.std.proofs.Common.{rules, Err}
 use Rattle.plan_build.proofs.Orders.{build_tables, build_laid, good-few}
 use Rattle.plan_build.proofs.build_answer.Goals as goal
 
