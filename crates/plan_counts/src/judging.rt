@@ -40,6 +40,7 @@ pub fn judge_plan(plan: &[u16], parts: &[u16]) -> Result<(), Refusal>
 }
 
 // 12 and 20.
+#[tactic(auto, unfolding(counts::specs::Counts::list_judged))]
 fn judge_list(plan: &[u16], parts: &[u16], list: &[u16], enough: bool) -> Result<(), Refusal>
     requires { Sized plan.now parts.now }
     ensures { result ≡ list_judged plan.now parts.now list.now enough }
