@@ -4,7 +4,7 @@ use mathlib.Core.Path.{◌≡◌, refl, sym, ap, ◌∙◌}
 use mathlib.Core.Logic.{◌⊎◌, inl, inr}
 use mathlib.Core.Bool.{Bool, true, false, not}
 use mathlib.Core.List.{List}
-use native.Mathlib.Nat.{zero-mul, mul-le-mul_right}
+use native.Mathlib.Nat.{mul-le-mul_right}
 use native.Mathlib.Omega.{arith}
 use lib.Dec.{eqb}
 use lib.ListN.{length, get_or}
@@ -46,9 +46,6 @@ differs_last plan list p some-p k h v row l m er eh ev e =
         go false h = rw (first_more t n e h) (le-ltb (n + 1) (n + 1) (omega arith)) ∙ sym h
 
 -- ---- row after row
-
-pub agree_none : (plan list : List ℕ) → Every (agrees_at plan list) (0 * row_width plan)
-agree_none plan list i h = absurd (omega (arith, zero-mul (row_width plan)))
 
 module _ (plan list : List ℕ) (p : ℕ) where
   row_next : row_of plan (p + 1) + row_width plan ≡ (p + 1) * row_width plan

@@ -1,14 +1,14 @@
 -- Filling, and asking for one stretch or many: the answers at the numbers that the code holds. Assumes nothing.
 use Prim.Native.Nat.{ℕ, ◌+◌, ◌*◌, ◌%◌, ◌≤◌, ◌<◌}
 use mathlib.Core.Path.{◌≡◌, refl, ap, ◌∙◌}
-use mathlib.Core.Bool.{Bool, true, not}
+use mathlib.Core.Bool.{true}
 use mathlib.Core.List.{List}
 use native.Mathlib.Nat.{le_refl, mul-le-mul_right}
 use native.Mathlib.Omega.{arith}
 use lib.Dec.{leb, eqb}
 use lib.ListN.{length}
-use borrow.Author.Tests.{eq-eqb, eqb-true, le-leb, leb-true, lt-leb, ne_eqb}
-use Rattle.rules.specs.Walk.{pick, fails}
+use borrow.Author.Tests.{eq-eqb, eqb-true, leb-true}
+use Rattle.rules.specs.Walk.{pick}
 use Rattle.rules.specs.Limits.{question_width}
 use Rattle.rules.specs.Table.{partitions}
 use Rattle.rules.specs.declared.Refusal.{Refusal}
@@ -29,19 +29,6 @@ use Rattle.counts.proofs.Orders.{name_is, stretch_is, tested, planned, sized, Ca
 -- ---- filling
 
 module _ (plan ps : List ℕ) (room : ℕ) where
-  pub fill_refused : (r : Refusal) → plan_judged plan ps ≡ Err r → Err r ≡ fill_of plan ps room
-  unfolding fill_of
-  fill_refused r e = rw e
-
-  module _ (e : plan_judged plan ps ≡ (Ok tt)) (n : ℕ) (en : n ≡ partitions ps) where
-    pub fill_short : room < n * row_width plan → Err Output ≡ fill_of plan ps room
-    unfolding fill_of
-    fill_short h = rw (e, ← en, lt-leb (n * row_width plan) room h)
-
-    pub fill_fits : n * row_width plan ≤ room → Ok (n * row_width plan) ≡ fill_of plan ps room
-    unfolding fill_of
-    fill_fits h = rw (e, ← en, le-leb (n * row_width plan) room h)
-
   -- what an answer says
   pub filled : (n : ℕ) → fill_of plan ps room ≡ Ok n → Planned plan ps × (n ≡ needed plan ps) × (needed plan ps ≤ room)
   unfolding fill_of
@@ -73,10 +60,6 @@ module _ (plan ps list : List ℕ) (p s n : ℕ) where
   abbrev pub one_found : Result (Unit {0}) Refusal
   one_found = counts_judged plan ps list (unless_good (good_name (partitions ps) p) (Asked 0)) true (unless_good (good_stretch (length plan) s n) (Beyond 0))
 
-  pub held-refused : (r : Refusal) → one_found ≡ Err r → Err r ≡ held_of plan ps list p s n
-  unfolding held_of
-  held-refused r e = rw e
-
   pub held-holds : one_found ≡ (Ok tt) → (h : ℕ) → h ≡ held Own plan p n s → Ok h ≡ held_of plan ps list p s n
   unfolding held_of
   held-holds e h q = rw (e, q)
@@ -90,14 +73,6 @@ module _ (plan ps list : List ℕ) (p s n : ℕ) where
 
 -- ---- many
 
-pub names_as : (parts : ℕ) (qs : List ℕ) (k a : ℕ) (r : Bool) → a ≡ asked qs k → r ≡ good_name parts a → fails (names_one parts qs) k ≡ not r
-unfolding names_one fails
-names_as parts qs k a r ea er = rw (← ea, ← er)
-
-pub within_as : (f : ℕ) (qs : List ℕ) (k s n : ℕ) (r : Bool) → s ≡ start qs k → n ≡ span qs k → r ≡ good_stretch f s n → fails (within_frame f qs) k ≡ not r
-unfolding within_frame fails
-within_as f qs k s n r es en er = rw (← es, ← en, ← er)
-
 pub answer_as : (plan qs : List ℕ) (k a s n h : ℕ) → a ≡ asked qs k → s ≡ start qs k → n ≡ span qs k → h ≡ held Own plan a n s → h ≡ answer_at plan qs k
 unfolding answer_at
 answer_as plan qs k a s n h ea es en eh = rw (← ea, ← es, ← en) eh
@@ -107,18 +82,9 @@ module _ (plan ps list qs : List ℕ) (room : ℕ) where
   abbrev pub many_found : ℕ → Result (Unit {0}) Refusal
   many_found n = counts_judged plan ps list (lowest Asked (names_one (partitions ps) qs) (questions qs)) (leb n room) (lowest Beyond (within_frame (length plan) qs) (questions qs))
 
-  pub many-whole : ¬ (length qs % question_width ≡ 0) → Err Limits ≡ many_of plan ps list qs room
+  pub many_fills : length qs % question_width ≡ 0 → (n : ℕ) → n ≡ questions qs → many_found n ≡ (Ok tt) → Ok n ≡ many_of plan ps list qs room
   unfolding many_of
-  many-whole h = rw (ne_eqb _ _ h)
-
-  module _ (whole : length qs % question_width ≡ 0) (n : ℕ) (en : n ≡ questions qs) where
-    pub many_refused : (r : Refusal) → many_found n ≡ Err r → Err r ≡ many_of plan ps list qs room
-    unfolding many_of
-    many_refused r e = let e' : many_found (questions qs) ≡ Err r = rw en at e in rw (eq-eqb _ _ whole, e')
-
-    pub many_fills : many_found n ≡ (Ok tt) → Ok n ≡ many_of plan ps list qs room
-    unfolding many_of
-    many_fills e = let e' : many_found (questions qs) ≡ (Ok tt) = rw en at e in rw (eq-eqb _ _ whole, e') (ap Ok en)
+  many_fills whole n en e = let e' : many_found (questions qs) ≡ (Ok tt) = rw en at e in rw (eq-eqb _ _ whole, e') (ap Ok en)
 
   -- what an answer says
   pub many_called : (n : ℕ) → many_of plan ps list qs room ≡ Ok n

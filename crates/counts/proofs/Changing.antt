@@ -99,13 +99,6 @@ module _ (plan : List ℕ) (tick new : ℕ) (inside : tick < length plan) where
       done i h (no n) (yes e) = w.rest i n ∙ v.row i e
       done i h (no n) (no o) = w.rest i n ∙ v.rest i o ∙ eqb-true _ _ (g.counts i h) ∙ sym (same_count i (rw wide at o) (rw wide at n))
 
--- an owner read from the plan, for the owner that it is
-pub owner-row : (plan before after : List ℕ) (q p : ℕ) → q ≡ p → Recounted plan q before after → Recounted plan p before after
-owner-row plan before after q p e r = rw (← e) r
-
-pub owner_fits : (w q p n : ℕ) → q ≡ p → p * w ≤ n → q * w ≤ n
-owner_fits w q p n e l = rw e l
-
 -- ---- what an accepted call says
 
 pub record Changeable (plan ps list : List ℕ) (tick new : ℕ) : Type 0 where

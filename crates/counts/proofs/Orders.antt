@@ -1,14 +1,14 @@
--- The order of the refusals, at the numbers that the code holds, and what it means that there is none. Assumes nothing.
+-- The order of the refusals, and what it means that there is none. Assumes nothing.
 use Prim.Native.Nat.{ℕ, ◌+◌, ◌*◌, ◌≤◌, ◌<◌}
 use mathlib.Core.Path.{◌≡◌, refl, sym, ◌∙◌}
 use mathlib.Core.Logic.{◌⊎◌, inl, inr}
-use mathlib.Core.Bool.{Bool, true, false, true≢false, not, ◌&&◌}
+use mathlib.Core.Bool.{Bool, true, false, true≢false, ◌&&◌}
 use mathlib.Core.List.{List, []}
 use native.Mathlib.Nat.{mul-le-mul}
 use native.Mathlib.Omega.{arith}
 use lib.Dec.{ltb, leb}
 use lib.ListN.{length}
-use borrow.Author.Tests.{lt-ltb, le-ltb, ltb-true, ltb-false, le-leb, lt-leb, leb-true, leb-false, not-true, not-false}
+use borrow.Author.Tests.{lt-ltb, ltb-true, ltb-false, le-leb, leb-true, leb-false}
 use Rattle.rules.specs.Walk.{pick, fails, some}
 use Rattle.rules.specs.Limits.{longest, most_partitions}
 use Rattle.rules.specs.Table.{partitions, good_tick}
@@ -21,20 +21,12 @@ use Rattle.rules.specs.Terms.{usual}
 use Rattle.tables.specs.Tables.{unless, tables_of, ticks_judged}
 use Rattle.tables.specs.Inner.{first_bad_tick}
 use Rattle.tables.proofs.Chain.{not_good, both_good, lowest-good, good-lowest, within, good_exactly, unless-parts_hold, not_2, usual-not_21}
-use Rattle.counts.specs.Counts.{row_width, needed, agrees_at, plan_judged, list_judged, counts_judged, unless_good, good_name, good_stretch}
+use Rattle.counts.specs.Counts.{needed, agrees_at, plan_judged, list_judged, counts_judged, unless_good, good_name, good_stretch}
 use Rattle.counts.specs.Inner.{Sized}
 use Rattle.counts.specs.Theorems.{Planned, Counted}
 use Rattle.counts.proofs.Agree.{all_agree}
 
 -- ---- one test
-
-pub name_none : (parts p : ℕ) → p < 1 → false ≡ good_name parts p
-unfolding good_name
-name_none parts p h = rw (lt-leb 1 p h)
-
-pub name_some : (parts p : ℕ) → 1 ≤ p → leb p parts ≡ good_name parts p
-unfolding good_name
-name_some parts p h = rw (le-leb 1 p h)
 
 pub name_is : (parts p : ℕ) → good_name parts p ≡ true → (1 ≤ p) × (p ≤ parts)
 unfolding good_name
@@ -43,14 +35,6 @@ name_is parts p e = let a = and_parts (leb 1 p) (leb p parts) e in (leb-true 1 p
 pub is_name : (parts p : ℕ) → 1 ≤ p → p ≤ parts → good_name parts p ≡ true
 unfolding good_name
 is_name parts p l m = rw (le-leb 1 p l, le-leb p parts m)
-
-pub stretch_none : (f s n : ℕ) → f ≤ s → false ≡ good_stretch f s n
-unfolding good_stretch
-stretch_none f s n h = rw (le-ltb s f h)
-
-pub stretch_some : (f s n : ℕ) → s < f → leb n f ≡ good_stretch f s n
-unfolding good_stretch
-stretch_some f s n h = rw (lt-ltb s f h)
 
 pub stretch_is : (f s n : ℕ) → good_stretch f s n ≡ true → (s < f) × (n ≤ f)
 unfolding good_stretch
@@ -66,15 +50,6 @@ tested true r e = refl
 tested false r e = absurd (not_good r e)
 
 -- ---- 3, 6 and 8
-
-module _ (plan ps : List ℕ) where
-  pub plan_refused : (r : Refusal) → tables_of usual (length plan) ps [] ≡ Err r → Err r ≡ plan_judged plan ps
-  unfolding plan_judged
-  plan_refused r e = rw e
-
-  pub plan_next : tables_of usual (length plan) ps [] ≡ (Ok tt) → (r : Result (Unit {0}) Refusal) → r ≡ ticks_judged plan ps → r ≡ plan_judged plan ps
-  unfolding plan_judged
-  plan_next e r h = rw e h
 
 pub planned : (plan ps : List ℕ) → plan_judged plan ps ≡ (Ok tt) → Planned plan ps
 unfolding plan_judged
@@ -95,29 +70,9 @@ small-list f n l m = let w : f + 1 ≤ longest + 1 = omega arith in mul-le-mul m
 
 -- ---- 12 and 20
 
--- n is the number of partitions
-module _ (plan ps list : List ℕ) (enough : Bool) (n : ℕ) (en : n ≡ partitions ps) where
-  pub list-short : length list < n * row_width plan → Err Output ≡ list_judged plan ps list enough
-  unfolding list_judged
-  list-short h = rw (← en, lt-leb (n * row_width plan) (length list) h)
-
-  module _ (long : n * row_width plan ≤ length list) where
-    pub list-room : not enough ≡ true → Err Output ≡ list_judged plan ps list enough
-    unfolding list_judged
-    list-room e = rw (← en, le-leb (n * row_width plan) (length list) long, not-true enough e)
-
-    module _ (full : not enough ≡ false) where
-      pub list-differs : some (fails (agrees_at plan list)) (n * row_width plan) ≡ true → Err Counts ≡ list_judged plan ps list enough
-      unfolding list_judged
-      list-differs e = rw (← en, le-leb (n * row_width plan) (length list) long, not-false enough full, e)
-
-      pub list_agrees : some (fails (agrees_at plan list)) (n * row_width plan) ≡ false → (Ok tt) ≡ list_judged plan ps list enough
-      unfolding list_judged
-      list_agrees e = rw (← en, le-leb (n * row_width plan) (length list) long, not-false enough full, e)
-
-module _ (plan ps list : List ℕ) (enough : Bool) where
-  pub is_listed : Counted plan ps list → enough ≡ true → list_judged plan ps list enough ≡ (Ok tt)
-  is_listed g e = sym (list_agrees plan ps list enough (partitions ps) refl g.long (rw e) (all_agree plan list (needed plan ps) g.counts))
+pub is_listed : (plan ps list : List ℕ) (enough : Bool) → Counted plan ps list → enough ≡ true → list_judged plan ps list enough ≡ (Ok tt)
+unfolding list_judged
+is_listed plan ps list enough g e = rw (le-leb (needed plan ps) (length list) g.long, e, all_agree plan list (needed plan ps) g.counts)
 
 -- ---- all of them
 
@@ -129,18 +84,6 @@ pub record Called (plan ps list : List ℕ) (named : Result (Unit {0}) Refusal) 
   pub insides : inside ≡ (Ok tt)
 
 module _ (plan ps list : List ℕ) (named : Result (Unit {0}) Refusal) (enough : Bool) (inside : Result (Unit {0}) Refusal) where
-  pub call_first : (r : Refusal) → unless Err (plan_judged plan ps) named ≡ Err r → Err r ≡ counts_judged plan ps list named enough inside
-  unfolding counts_judged
-  call_first r e = go (plan_judged plan ps) e
-    where
-      go : (a : Result (Unit {0}) Refusal) → unless Err a named ≡ Err r → Err r ≡ unless Err a (unless Err named (unless Err (list_judged plan ps list enough) inside))
-      go (Ok _) e = rw e
-      go (Err q) e = sym e
-
-  pub call_next : unless Err (plan_judged plan ps) named ≡ (Ok tt) → unless Err (list_judged plan ps list enough) inside ≡ counts_judged plan ps list named enough inside
-  unfolding counts_judged
-  call_next e = let a = both_good (plan_judged plan ps) named e in rw (a.0, a.1)
-
   pub is_called : Called plan ps list named enough inside → counts_judged plan ps list named enough inside ≡ (Ok tt)
   unfolding counts_judged
   is_called g = rw (is_planned plan ps g.plans, g.names, is_listed plan ps list enough g.list_is g.room) g.insides

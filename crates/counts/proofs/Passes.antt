@@ -3,7 +3,7 @@ use Prim.Native.Nat.{ℕ, suc, ◌+◌, ◌-◌, ◌*◌, ◌/◌, ◌%◌, ◌�
 use mathlib.Core.Path.{◌≡◌, refl, sym, ap, ◌∙◌}
 use mathlib.Core.Logic.{◌⊎◌, inl, inr}
 use mathlib.Core.List.{List}
-use native.Mathlib.Nat.{zero-add, suc-mul, mod-lt, mod-eq_of_lt, div-eq_of_lt, div-add-mod', mul-add-div_right, mul-add-mod_self_right, mul-le-mul_right}
+use native.Mathlib.Nat.{zero-add, suc-mul, mod-lt, mod-eq_of_lt, div-eq_of_lt, div-add-mod', mul-add-div_right, mul-add-mod_self_right}
 use native.Mathlib.Numerals.{add-one}
 use native.Mathlib.Omega.{arith}
 use lib.Dec.{ltb, eqb}
@@ -11,7 +11,7 @@ use lib.ListN.{length, get_or, set}
 use borrow.Author.Tests.{lt-ltb, le-ltb}
 use Rattle.rules.specs.Walk.{pick, only}
 use Rattle.rules.specs.Inner.{AsNamed}
-use Rattle.rules.proofs.Named.{named_none, named-turn}
+use Rattle.rules.proofs.Named.{named-turn}
 use Rattle.rules.proofs.Sum.{le-or-lt}
 use Rattle.rules.specs.declared.Rule.TheVariants.{Own}
 use Rattle.theory.specs.Plan.{held}
@@ -92,10 +92,6 @@ module _ (plan before : List ℕ) (p : ℕ) (some : 0 < p) where
       let e : k ≡ length plan = omega arith in
       row_done after (row-turn (length plan) h cur after long (omega arith) (rw e at w) (rw e at eh) ea)
 
--- no numbers are kept for idle
-pub row-idle : (plan l : List ℕ) (p : ℕ) → p ≡ 0 → Recounted plan p l l
-row-idle plan l p z = record { as_long = refl; row = λ i e. absurd (omega arith); rest = λ i h. refl }
-
 -- one row after another
 pub rows-turn : (plan before cur after : List ℕ) (p : ℕ) → AsNamed (count_at plan) (p * row_width plan) before cur → Recounted plan (p + 1) cur after → AsNamed (count_at plan) ((p + 1) * row_width plan) before after
 rows-turn plan before cur after p w r = record {
@@ -115,12 +111,3 @@ rows-turn plan before cur after p w r = record {
     done t h (inr l) =
         r.rest t (λ e. let b : (p + 1 - 1) * row_width plan ≤ t = (in_row (row_width plan) t (p + 1) (omega arith) e).0 in let b' : p * row_width plan ≤ t = rw one at b in absurd (omega arith))
         ∙ w.done t l
-
--- ---- row after row
-
-pub rows_none : (plan l : List ℕ) → AsNamed (count_at plan) (0 * row_width plan) l l
-rows_none plan l = let z : 0 * row_width plan ≡ 0 = omega arith in rw z (named_none (count_at plan) l)
-
--- the next row stands within the list
-pub rows_fit : (w p n l l₀ : ℕ) → p < n → l ≡ l₀ → n * w ≤ l₀ → (p + 1) * w ≤ l
-rows_fit w p n l l₀ h e m = let f : (p + 1) * w ≤ n * w = mul-le-mul_right w (omega arith) in omega arith

@@ -11,14 +11,20 @@ ghost use Rattle.theory.specs.Plan.{held};
 ghost use Rattle.counts.specs.Counts.{row_width, count_at, agrees_at};
 ghost use Rattle.counts.specs.Inner.{differs_at, Recounted, Kept};
 
-use rules::numbers::{one_if, wide};
-
 // Where p's numbers begin, in a list that has them.
 fn row_at(f: usize, p: usize) -> usize
     requires { (0 < p) × (p * (f + 1) < 2 ^ 63) }
     ensures { (result ≡ (p - 1) * (f + 1)) × (result + (f + 1) ≡ p * (f + 1)) }
 {
     (p - 1) * (f + 1)
+}
+
+// p's count before the tick behind k, from that before k.
+fn count_on(plan: &[u16], p: usize, k: usize, h: usize) -> usize
+    requires { (k < length plan.now) × (h ≤ k) × (h ≡ held Own plan.now p k 0) }
+    ensures { (result ≤ k + 1) × (result ≡ held Own plan.now p (k + 1) 0) }
+{
+    h + usize::from(usize::from(plan[k]) == p)
 }
 
 // p's numbers, counted from the plan; none are kept for idle.
@@ -32,11 +38,9 @@ pub fn fill_row(plan: &[u16], list: &mut [u16], p: usize)
     let f = plan.len();
     let row = row_at(f, p);
     let mut h = 0;
-    let mut k = 0;
-    while k < f {
+    for k in 0..f {
         list[row + k] = h as u16;
-        h = h + one_if(wide(plan[k]) == p);
-        k += 1;
+        h = count_on(plan, p, k, h);
     }
     list[row + f] = h as u16;
 }
@@ -47,10 +51,8 @@ pub fn fill_rows(plan: &[u16], list: &mut [u16], parts: usize)
     ensures { AsNamed (count_at plan.now) (parts * row_width plan.now)
         list.old list.new }
 {
-    let mut p = 0;
-    while p < parts {
+    for p in 0..parts {
         fill_row(plan, list, p + 1);
-        p += 1;
     }
 }
 
@@ -62,15 +64,13 @@ fn row_differs(plan: &[u16], list: &[u16], p: usize) -> bool
     let f = plan.len();
     let row = row_at(f, p);
     let mut h = 0;
-    let mut k = 0;
-    while k < f {
-        if wide(list[row + k]) != h {
+    for k in 0..f {
+        if usize::from(list[row + k]) != h {
             return true;
         }
-        h = h + one_if(wide(plan[k]) == p);
-        k += 1;
+        h = count_on(plan, p, k, h);
     }
-    wide(list[row + f]) != h
+    usize::from(list[row + f]) != h
 }
 
 // Whether one of any partition's.
@@ -79,12 +79,10 @@ pub fn differs(plan: &[u16], list: &[u16], parts: usize) -> bool
     ensures { result ≡ some (fails (agrees_at plan.now list.now))
         (parts * row_width plan.now) }
 {
-    let mut p = 0;
-    while p < parts {
+    for p in 0..parts {
         if row_differs(plan, list, p + 1) {
             return true;
         }
-        p += 1;
     }
     false
 }
@@ -96,9 +94,9 @@ pub fn look_up(plan: &[u16], list: &[u16], p: usize, s: usize, n: usize) -> usiz
 {
     let f = plan.len();
     let row = row_at(f, p);
-    let before = wide(list[row + s]);
+    let before = usize::from(list[row + s]);
     if s + n <= f {
-        return wide(list[row + (s + n)]) - before;
+        return usize::from(list[row + (s + n)]) - before;
     }
-    wide(list[row + f]) - before + wide(list[row + (s + n - f)])
+    usize::from(list[row + f]) - before + usize::from(list[row + (s + n - f)])
 }

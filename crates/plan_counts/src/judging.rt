@@ -31,6 +31,7 @@ pub fn good_stretch(f: usize, s: usize, n: usize) -> bool
 }
 
 // 3, 6 and 8: the ticks are walked only where the frame is within its limits.
+#[tactic(auto, using(tables::proofs::Chain::found_err, tables::proofs::Chain::found_ok), unfolding(counts::specs::Counts::plan_judged))]
 pub fn judge_plan(plan: &[u16], parts: &[u16]) -> Result<(), Refusal>
     ensures { result ≡ plan_judged plan.now parts.now }
 {
@@ -39,6 +40,7 @@ pub fn judge_plan(plan: &[u16], parts: &[u16]) -> Result<(), Refusal>
 }
 
 // 12 and 20.
+#[tactic(auto, unfolding(counts::specs::Counts::list_judged))]
 fn judge_list(plan: &[u16], parts: &[u16], list: &[u16], enough: bool) -> Result<(), Refusal>
     requires { Sized plan.now parts.now }
     ensures { result ≡ list_judged plan.now parts.now list.now enough }
@@ -58,6 +60,7 @@ fn judge_list(plan: &[u16], parts: &[u16], list: &[u16], enough: bool) -> Result
 
 // All of them: `named` is what is found of the partition or owner named, `within` of the tick or stretch, and `enough` says
 // whether the call's other output is long enough. The list is walked only where its length is known to be small.
+#[tactic(auto, using(tables::proofs::Chain::found_err, tables::proofs::Chain::found_ok), unfolding(counts::specs::Counts::counts_judged))]
 pub fn judge_call(
     plan: &[u16],
     parts: &[u16],

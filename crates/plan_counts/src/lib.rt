@@ -16,28 +16,23 @@ use rules::records::partitions;
 mod judging; // judging.rt: the one chain of refusals, 3, 6, 8, 8 with place 0, 12, 20 and 26
 mod questions; // questions.rt: many questions in one lent list
 
-// The answer for a list of so many numbers.
-fn fill_answer(plan: &[u16], parts: &[u16], room: usize) -> Result<usize, Refusal>
-    ensures { result ≡ fill_of plan.now parts.now room }
-{
-    judge_plan(plan, parts)?;
-    let needed = partitions(parts) * (plan.len() + 1);
-    if room < needed {
-        return Err(Refusal::Output);
-    }
-    Ok(needed)
-}
-
 // The plan's counts, written into the first numbers of the list.
+#[tactic(auto, using(tables::proofs::Chain::found_err, tables::proofs::Chain::found_ok), unfolding(counts::specs::Counts::fill_of))]
 pub fn fill(plan: &[u16], parts: &[u16], list: &mut [u16]) -> Result<usize, Refusal>
     ensures { FillsCounts plan.now parts.now list.old list.new result }
 {
-    let n = fill_answer(plan, parts, list.len())?;
-    fill_rows(plan, list, partitions(parts));
-    Ok(n)
+    judge_plan(plan, parts)?;
+    let n = partitions(parts);
+    let needed = n * (plan.len() + 1);
+    if list.len() < needed {
+        return Err(Refusal::Output);
+    }
+    fill_rows(plan, list, n);
+    Ok(needed)
 }
 
 // What a stretch holds, from two or three numbers of the list: p's ticks among the n from tick s on.
+#[tactic(auto, using(tables::proofs::Chain::found_err, tables::proofs::Chain::found_ok), unfolding(counts::specs::Counts::held_of))]
 pub fn held(
     plan: &[u16],
     parts: &[u16],
@@ -54,27 +49,8 @@ pub fn held(
     Ok(look_up(plan, list, p, s, n))
 }
 
-// The answer to many questions, for an output of so many answers.
-fn many_answer(
-    plan: &[u16],
-    parts: &[u16],
-    list: &[u16],
-    asked: &[u16],
-    room: usize,
-) -> Result<usize, Refusal>
-    ensures { result ≡ many_of plan.now parts.now list.now asked.now room }
-{
-    if asked.len() % QUESTION_WIDTH != 0 {
-        return Err(Refusal::Limits);
-    }
-    let n = questions(asked);
-    let named = judge_names(asked, partitions(parts));
-    let within = judge_stretches(asked, plan.len());
-    judge_call(plan, parts, list, named, n <= room, within)?;
-    Ok(n)
-}
-
 // What many stretches hold: the list is judged once, then each answer is two or three numbers of it.
+#[tactic(auto, using(tables::proofs::Chain::found_err, tables::proofs::Chain::found_ok), unfolding(counts::specs::Counts::many_of))]
 pub fn held_many(
     plan: &[u16],
     parts: &[u16],
@@ -85,24 +61,15 @@ pub fn held_many(
     ensures { HoldsMany plan.now parts.now list.now asked.now
         answers.old answers.new result }
 {
-    let n = many_answer(plan, parts, list, asked, answers.len())?;
+    if asked.len() % QUESTION_WIDTH != 0 {
+        return Err(Refusal::Limits);
+    }
+    let n = questions(asked);
+    let named = judge_names(asked, partitions(parts));
+    let within = judge_stretches(asked, plan.len());
+    judge_call(plan, parts, list, named, n <= answers.len(), within)?;
     answer_all(plan, list, asked, answers, n);
     Ok(n)
-}
-
-// What tells against a change.
-fn judge_change(
-    plan: &[u16],
-    parts: &[u16],
-    list: &[u16],
-    tick: usize,
-    owner: usize,
-) -> Result<(), Refusal>
-    ensures { result ≡ change_of plan.now parts.now list.now tick owner }
-{
-    let named = unless_good(owner <= partitions(parts), Refusal::Asked(0));
-    let within = unless_good(tick < plan.len(), Refusal::Beyond(0));
-    judge_call(plan, parts, list, named, true, within)
 }
 
 // The tick given to its new owner, and both owners' numbers counted again.
@@ -122,6 +89,7 @@ fn give(plan: &mut [u16], list: &mut [u16], tick: usize, owner: usize)
 }
 
 // One tick's owner, changed in plan and list.
+#[tactic(auto, using(tables::proofs::Chain::found_err, tables::proofs::Chain::found_ok), unfolding(counts::specs::Counts::change_of))]
 pub fn change(
     plan: &mut [u16],
     parts: &[u16],
@@ -132,7 +100,9 @@ pub fn change(
     ensures { Changes plan.old parts.now list.old tick owner
         plan.new list.new result }
 {
-    judge_change(plan, parts, list, tick, owner)?;
+    let named = unless_good(owner <= partitions(parts), Refusal::Asked(0));
+    let within = unless_good(tick < plan.len(), Refusal::Beyond(0));
+    judge_call(plan, parts, list, named, true, within)?;
     give(plan, list, tick, owner);
     Ok(())
 }

@@ -48,8 +48,8 @@ fn names_one(table: &[u16], parts: usize, k: usize) -> bool
 fn within_frame(table: &[u16], f: usize, k: usize) -> bool
     ensures { result ≡ within_frame f table.now k }
 {
-    let q = question_at(table, k);
-    good_stretch(f, q.start, q.span)
+    let stretch = question_at(table, k);
+    good_stretch(f, stretch.start, stretch.span)
 }
 
 // The lowest question that names no partition of the table: 8 with place 0.

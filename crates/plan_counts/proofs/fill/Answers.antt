@@ -1,15 +1,20 @@
 use mathlib.Core.Path.{sym, ◌∙◌}
+use native.Mathlib.Omega.{arith}
+use lib.ListN.{length}
 use Rattle.rules.proofs.Named.{named-list}
-use Rattle.counts.proofs.Orders.{sized}
-use Rattle.counts.proofs.Asking.{filled}
+use Rattle.tables.proofs.Chain.{found_ok}
+use Rattle.counts.specs.Counts.{fill_of}
+use Rattle.counts.proofs.Orders.{planned, sized, small-list}
 use Rattle.plan_counts.proofs.fill.Goals as goal
 
+pub overflow_mul-needed : goal.overflow_mul-needed
+overflow_mul-needed c =
+    let z = sized c.args.plan.now c.args.parts.now (planned _ _ (sym c.judge_plan.ensures ∙ c.in_ok-judge_plan.was)) in
+    omega (arith, small-list (length c.args.plan.now) c.partitions-n.result z.0 (rw c.partitions-n.ensures z.1))
+
 pub fill_rows-requires : goal.fill_rows-requires
-fill_rows-requires c =
-    let a = filled c.args.plan.now c.args.parts.now _ _ (sym c.fill_answer.ensures ∙ c.in_ok-n.was) in
-    ((sized _ _ a.0).0, rw c.partitions.ensures a.2)
+fill_rows-requires c = ((sized _ _ (planned _ _ (sym c.judge_plan.ensures ∙ c.in_ok-judge_plan.was))).0, c.if-list-needed.false)
 
 pub returns : goal.returns
-returns c =
-    let a = filled c.args.plan.now c.args.parts.now _ _ (sym c.fill_answer.ensures ∙ c.in_ok-n.was) in
-    (sym c.in_ok-n.was ∙ c.fill_answer.ensures, rw a.1 (named-list _ _ _ _ a.2 (rw c.partitions.ensures at c.fill_rows.ensures)))
+unfolding fill_of
+returns c = (grind (arith, found_ok), rw (← c.partitions-n.ensures) (named-list _ _ _ _ c.if-list-needed.false c.fill_rows.ensures))
