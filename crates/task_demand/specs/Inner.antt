@@ -1,7 +1,7 @@
 -- Words that only inner contracts use: no statement and no entry's contract cites them. Assumes nothing.
-use Rattle.std.specs.Prelude.{ℕ, ◌+◌, ◌*◌, ◌^◌, ◌≤◌, ◌<◌, ◌≡◌, Bool, List, eqb, leb, length, get_or}
+use Rattle.std.specs.Prelude.{ℕ, ◌+◌, ◌*◌, ◌^◌, ◌≤◌, ◌<◌, ◌≡◌, Bool, true, false, List, eqb, leb, length, get_or, Option, None, Some}
 use Rattle.rules.specs.Limits.{longest, most_tasks}
-use Rattle.rules.specs.Walk.{only, sum, round_up}
+use Rattle.rules.specs.Walk.{pick, only, sum, round_up}
 use Rattle.rules.specs.Table.{partition, budget, deadline, period}
 use Rattle.rules.specs.declared.Rule.{Rule}
 use Rattle.theory.specs.Inner.{least_for}
@@ -63,3 +63,16 @@ pub record Drawn (rule : Rule) (plan ts : List ℕ) (i : ℕ) (curve asks : List
   pub asks_long : deadline ts i < length asks
   pub least_is : (t : ℕ) → t ≤ deadline ts i → get_or curve t 0 ≡ least_for rule plan ts i t
   pub asked_is : (t : ℕ) → t ≤ deadline ts i → get_or asks t 0 ≡ all_asked ts (partition ts i) i t
+
+-- a test may be asked at each tick from 1 to d
+unfoldable pub TriesTo : (ℕ → Type 0) → ℕ → Type 0
+TriesTo May d = (t : ℕ) → 1 ≤ t → t ≤ d → May t
+
+-- the lowest tick from 1 to d that a test passes, or none: it answers at every tick up to there
+unfoldable pub Earliest : (ℕ → Bool → Type 0) → ℕ → Option ℕ → Type 0
+Earliest Answers d (Some t) = (1 ≤ t) × (t ≤ d) × Answers t true × ((u : ℕ) → 1 ≤ u → u < t → Answers u false)
+Earliest Answers d None = (u : ℕ) → 1 ≤ u → u ≤ d → Answers u false
+
+-- t, unless it is past d
+unfoldable pub in_time : ℕ → ℕ → Option ℕ
+in_time d t = pick (leb t d) (Some t) None

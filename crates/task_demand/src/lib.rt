@@ -7,7 +7,7 @@ ghost use Rattle.std.specs.Prelude.{◌≡◌, ◌+◌, ◌^◌, ◌≤◌, ◌<
 ghost use Rattle.rules.specs.Inner.{AsNamed};
 ghost use Rattle.rules.specs.Limits.{longest};
 ghost use Rattle.rules.specs.Table.{partition};
-ghost use Rattle.task_demand.specs.Inner.{Added, with_task, with_asked, all_asked, Small, SmallFrom, Zeros, InOrder, Judgeable, fits_at, Drawn};
+ghost use Rattle.task_demand.specs.Inner.{Added, with_task, with_asked, all_asked, Small, SmallFrom, Zeros, InOrder, Judgeable, fits_at, Drawn, TriesTo, Earliest};
 
 use rules::Rule;
 use rules::limits::LONGEST;
@@ -91,4 +91,18 @@ pub fn fits(curve: &[u32], asks: &[u32], c: u16, t: usize) -> bool
     ensures { result ≡ fits_at curve.now asks.now c t }
 {
     usize::from(c) + asks[t] as usize <= curve[t] as usize
+}
+
+// The lowest tick from 1 to d that passes a test.
+#[tactic(auto, unfolding(crate::specs::Inner::TriesTo, crate::specs::Inner::Earliest))]
+pub fn earliest<G: Fn(usize) -> bool>(d: u16, passes: G) -> Option<usize>
+    requires { TriesTo (G.pre passes) d }
+    ensures { Earliest (G.post passes) d result }
+{
+    for t in 1..usize::from(d) + 1 {
+        if passes(t) {
+            return Some(t);
+        }
+    }
+    None
 }

@@ -10,7 +10,7 @@ use borrow.Author.Tests.{le-leb, lt-leb}
 use Rattle.rules.specs.Walk.{first}
 use Rattle.rules.specs.Table.{budget, deadline}
 use Rattle.rules.specs.declared.Rule.{Rule}
-use Rattle.rules.proofs.First.{first-zero, first_more, first_ext}
+use Rattle.rules.proofs.First.{first_ext}
 use Rattle.theory.specs.Load.{holds}
 use Rattle.theory.specs.Task.{task_tick}
 use Rattle.theory.specs.Inner.{least_for}
@@ -24,12 +24,9 @@ module _ (curve asks : List ℕ) (c : ℕ) where
   unfolding tick_fits
   tick_fits_lem t b l e = rw (le-leb 1 t l) e
 
-  no_tick_0 : tick_fits curve asks c 0 ≡ false
+  pub no_tick_0 : tick_fits curve asks c 0 ≡ false
   unfolding tick_fits
   no_tick_0 = rw (lt-leb 1 0 (omega arith))
-
-  pub from_1 : first (tick_fits curve asks c) 1 ≡ 1
-  from_1 = first_more _ 0 (first-zero _) no_tick_0
 
 pub tick_is : (rule : Rule) (plan ts : List ℕ) (i c d : ℕ) (curve asks : List ℕ) → Drawn rule plan ts i curve asks → c ≡ budget ts i → d ≡ deadline ts i
     → first (tick_fits curve asks c) (d + 1) ≡ task_tick rule plan ts i

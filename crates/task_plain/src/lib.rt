@@ -4,33 +4,25 @@
 ghost use Rattle.std.specs.Prelude.{◌≡◌, ◌+◌, ◌<◌, length};
 ghost use Rattle.rules.specs.Walk.{first};
 ghost use Rattle.theory.specs.Task.{task_tick};
-ghost use Rattle.task_demand.specs.Inner.{Judgeable};
+ghost use Rattle.rules.specs.Table.{deadline};
+ghost use Rattle.task_demand.specs.Inner.{Judgeable, in_time};
 ghost use Rattle.task_plain.specs.Inner.{tick_fits};
 
 use rules::Rule;
-use rules::numbers::wide;
-use task_demand::{TICKS, draw_task, fits};
+use task_demand::{TICKS, draw_task, earliest, fits};
 
-// By the lists: the smallest tick that holds, of a task with budget c and deadline d, or one past the deadline.
-pub fn tick_in(curve: &[u32], asks: &[u32], c: u16, d: u16) -> usize
+// By the lists: the smallest tick that holds, of a task with budget c and deadline d.
+pub fn tick_in(curve: &[u32], asks: &[u32], c: u16, d: u16) -> Option<usize>
     requires { (d < length curve.now) × (d < length asks.now) }
-    ensures { result ≡ first (tick_fits curve.now asks.now c) (d + 1) }
+    ensures { result ≡ in_time d (first (tick_fits curve.now asks.now c) (d + 1)) }
 {
-    let end = wide(d);
-    let mut t = 1;
-    while t <= end {
-        if fits(curve, asks, c, t) {
-            return t;
-        }
-        t += 1;
-    }
-    end + 1
+    earliest(d, |t| fits(curve, asks, c, t))
 }
 
-// The smallest tick that holds, or one past the deadline.
-pub fn first_tick(rule: Rule, plan: &[u16], tasks: &[u16], i: usize) -> usize
+// The smallest tick that holds.
+pub fn first_tick(rule: Rule, plan: &[u16], tasks: &[u16], i: usize) -> Option<usize>
     requires { Judgeable tasks.now i }
-    ensures { result ≡ task_tick rule plan.now tasks.now i }
+    ensures { result ≡ in_time (deadline tasks.now i) (task_tick rule plan.now tasks.now i) }
 {
     let mut curve = [0u32; TICKS];
     let mut asks = [0u32; TICKS];

@@ -12,7 +12,7 @@ use borrow.Author.Tests.{le-leb, lt-leb, eq-eqb, ne_eqb}
 use Rattle.rules.specs.Walk.{first, some}
 use Rattle.rules.specs.Table.{budget, deadline}
 use Rattle.rules.specs.declared.Rule.{Rule}
-use Rattle.rules.proofs.First.{first-zero, first_more, first_ext}
+use Rattle.rules.proofs.First.{first_ext}
 use Rattle.rules.proofs.Tests.{and_none}
 use Rattle.theory.specs.Load.{multiple, point, holds}
 use Rattle.theory.specs.Task.{task_load, task_point}
@@ -45,12 +45,9 @@ module _ (curve asks : List ℕ) (c d : ℕ) where
   unfolding point_fits
   no_fit t e = sym (and_none (leb 1 t && point_at asks d t) (fits_at curve asks c t) e)
 
-  no_point_0 : point_fits curve asks c d 0 ≡ false
+  pub no_point_0 : point_fits curve asks c d 0 ≡ false
   unfolding point_fits
   no_point_0 = rw (lt-leb 1 0 (omega arith))
-
-  pub from_1 : first (point_fits curve asks c d) 1 ≡ 1
-  from_1 = first_more _ 0 (first-zero _) no_point_0
 
 -- ---- by the lists of a task
 

@@ -4,12 +4,12 @@
 ghost use Rattle.std.specs.Prelude.{◌≡◌, ◌+◌, ◌≤◌, ◌<◌, length};
 ghost use Rattle.rules.specs.Walk.{first};
 ghost use Rattle.theory.specs.Task.{task_point};
-ghost use Rattle.task_demand.specs.Inner.{Judgeable};
+ghost use Rattle.rules.specs.Table.{deadline};
+ghost use Rattle.task_demand.specs.Inner.{Judgeable, in_time};
 ghost use Rattle.task_points.specs.Inner.{point_at, point_fits};
 
 use rules::Rule;
-use rules::numbers::wide;
-use task_demand::{TICKS, draw_task, fits};
+use task_demand::{TICKS, draw_task, earliest, fits};
 
 // Whether t is a scheduling point, of a task with deadline d: t is d itself, or a multiple of a higher task's period. Behind
 // these alone more is asked.
@@ -34,26 +34,18 @@ fn point_fits(curve: &[u32], asks: &[u32], c: u16, d: usize, t: usize) -> bool
     false
 }
 
-// By the lists: the smallest scheduling point that holds, of a task with budget c and deadline d, or one past the deadline.
-pub fn point_in(curve: &[u32], asks: &[u32], c: u16, d: u16) -> usize
+// By the lists: the smallest scheduling point that holds, of a task with budget c and deadline d.
+pub fn point_in(curve: &[u32], asks: &[u32], c: u16, d: u16) -> Option<usize>
     requires { (d < length curve.now) × (d < length asks.now) }
-    ensures { result ≡ first (point_fits curve.now asks.now c d) (d + 1) }
+    ensures { result ≡ in_time d (first (point_fits curve.now asks.now c d) (d + 1)) }
 {
-    let end = wide(d);
-    let mut t = 1;
-    while t <= end {
-        if point_fits(curve, asks, c, end, t) {
-            return t;
-        }
-        t += 1;
-    }
-    end + 1
+    earliest(d, |t| point_fits(curve, asks, c, usize::from(d), t))
 }
 
-// The smallest scheduling point that holds, or one past the deadline.
-pub fn first_point(rule: Rule, plan: &[u16], tasks: &[u16], i: usize) -> usize
+// The smallest scheduling point that holds.
+pub fn first_point(rule: Rule, plan: &[u16], tasks: &[u16], i: usize) -> Option<usize>
     requires { Judgeable tasks.now i }
-    ensures { result ≡ task_point rule plan.now tasks.now i }
+    ensures { result ≡ in_time (deadline tasks.now i) (task_point rule plan.now tasks.now i) }
 {
     let mut curve = [0u32; TICKS];
     let mut asks = [0u32; TICKS];

@@ -1,7 +1,7 @@
 -- The order of the verdict's refusals, and what is said of a task, at the numbers that the code holds. Assumes nothing.
 use Prim.Native.Nat.{ℕ, ◌-◌, ◌≤◌, ◌<◌}
-use mathlib.Core.Path.{◌≡◌, sym, ◌∙◌}
-use mathlib.Core.Bool.{◌&&◌}
+use mathlib.Core.Path.{◌≡◌, refl, sym, ◌∙◌}
+use mathlib.Core.Bool.{Bool, true, false, ◌&&◌}
 use mathlib.Core.List.{List, []}
 use native.Mathlib.Omega.{arith}
 use lib.Dec.{leb}
@@ -12,15 +12,17 @@ use Rattle.rules.proofs.Tests.{pick_first, and_parts}
 use Rattle.rules.specs.Terms.{rule_in, wanted}
 use Rattle.rules.specs.declared.Rule.{Rule}
 use Rattle.rules.specs.declared.Terms.{Terms}
-use Rattle.tables.specs.Tables.{tables_of, GoodTables}
+use Rattle.rules.specs.Walk.{pick}
+use Rattle.tables.specs.Tables.{tables_of, unless, GoodTables}
 use Rattle.rules.specs.declared.Refusal.{Refusal}
 use Rattle.rules.specs.declared.Refusal.TheVariants.{Edition, Limits, Granule, Partition, Task}
 use Rattle.tables.proofs.Chain.{within, not_good, without_tasks, unless_given, unless_good_lem}
 use Rattle.std.specs.Prelude.{Option, None, Some, Result, Ok, Err}
 use Rattle.plan_check.specs.Check.{plan_check_of, check_of}
-use Rattle.task_demand.specs.Inner.{Judgeable}
+use Rattle.task_demand.specs.Inner.{Judgeable, in_time}
 use Rattle.task_demand.proofs.Lists.{judgeable}
 use Rattle.task_verdict.specs.Verdict.{place_of, answerable_of, pass_at, verdict_by}
+use Rattle.task_verdict.specs.Inner.{Found}
 use Rattle.task_verdict.specs.Theorems.{Answered}
 
 module _ (d t : ℕ) where
@@ -31,6 +33,28 @@ module _ (d t : ℕ) where
   pub is_fail : d < t → pass_at d t ≡ (Ok None)
   unfolding pass_at
   is_fail h = rw (lt-leb t d h)
+
+-- a tick that is in time passes
+said : (d t : ℕ) (r : Option ℕ) → r ≡ in_time d t → ◌≡◌ {A = Result (Option ℕ) Refusal} (Ok r) (pass_at d t)
+unfolding pass_at in_time
+said d t r e = rw e (go (leb t d))
+  where
+    go : (b : Bool) → ◌≡◌ {A = Result (Option ℕ) Refusal} (Ok (pick b (Some t) None)) (pick b (Ok (Some t)) (Ok None))
+    go true = refl
+    go false = refl
+
+-- ---- what an engine finds, unless something is refused
+
+module _ (c : Result (Unit {0}) Refusal) (Finds : Option ℕ → Type 0) (z : Result (Option ℕ) Refusal) where
+  pub found_none : (r : Refusal) → c ≡ Err r → z ≡ Err r → Found c Finds z
+  unfolding Found
+  found_none r e f = rw e f
+
+  pub found_by : (t : Option ℕ) → c ≡ (Ok tt) → z ≡ Ok t → Finds t → Found c Finds z
+  unfolding Found
+  found_by t e f w = rw e (t, w, f)
+
+-- ---- the order
 
 module _ (rule : Rule) (q : ℕ → ℕ) (plan ps ts : List ℕ) (place : ℕ) where
   pub place_none : place < 1 → Err (Task 0) ≡ place_of rule q plan ps ts place
@@ -98,11 +122,17 @@ module _ (terms : Terms) (plan ps ts : List ℕ) (place : ℕ) where
     unfolding verdict_by
     judged_refused r e = rw e
 
-    pub judged-task :
-        (j : Result (Option ℕ) Refusal) (d t : ℕ) → answerable_of terms plan ps ts place ≡ (Ok tt) → d ≡ deadline ts (place - 1) → t ≡ engine (rule_in terms) plan ts (place - 1)
-        → j ≡ pass_at d t → j ≡ verdict_by engine terms plan ps ts place
-    unfolding verdict_by
-    judged-task j d t e ed et f = rw (e, ← ed, ← et) f
+    -- a refusal, or what the engine finds
+    pub judged_by :
+        (Finds : Option ℕ → Type 0) (z : Result (Option ℕ) Refusal) → Found (answerable_of terms plan ps ts place) Finds z
+        → ((t : Option ℕ) → Finds t → t ≡ in_time (deadline ts (place - 1)) (engine (rule_in terms) plan ts (place - 1)))
+        → z ≡ verdict_by engine terms plan ps ts place
+    unfolding verdict_by Found
+    judged_by Finds z w finds = at (answerable_of terms plan ps ts place) w
+      where
+        at : (c : Result (Unit {0}) Refusal) → Found c Finds z → z ≡ unless Err c (pass_at (deadline ts (place - 1)) (engine (rule_in terms) plan ts (place - 1)))
+        at (Ok _) (t, f, e) = e ∙ said _ _ t (finds t f)
+        at (Err r) e = e
 
     pub answer : Answered terms plan ps ts place → verdict_by engine terms plan ps ts place ≡ pass_at (deadline ts (place - 1)) (engine (rule_in terms) plan ts (place - 1))
     unfolding verdict_by

@@ -1,11 +1,12 @@
 // The verdict: whether a task passes, by either engine. One that passes meets its deadline in every legal run.
 #![tactic(auto)]
 
-ghost use Rattle.std.specs.Prelude.{◌≡◌};
+ghost use Rattle.std.specs.Prelude.{◌≡◌, ◌-◌};
 ghost use Rattle.rules.specs.Terms.{rule_in, wanted};
-ghost use Rattle.task_verdict.specs.Verdict.{place_of, answerable_of, pass_at, Judges, JudgesPlainly};
+ghost use Rattle.task_verdict.specs.Verdict.{place_of, answerable_of, Judges, JudgesPlainly};
+ghost use Rattle.task_verdict.specs.Inner.{Asked, Found};
 
-use rules::{Refusal, Terms};
+use rules::{Refusal, Rule, Terms};
 
 // What is found for a place counted from 1, in tables whose records are good.
 fn at_place(
@@ -41,14 +42,22 @@ pub fn answerable(
     at_place(terms, plan, parts, table, place)
 }
 
-// What is said of a task with deadline d, the smallest that holds being t.
-fn pass_at(d: u16, t: usize) -> Result<Option<usize>, Refusal>
-    ensures { result ≡ pass_at d t }
+// What an engine finds for the task at a place, counted from 1, by the rule of the edition.
+fn judge<E: Fn(Rule, usize) -> Option<usize>>(
+    terms: Terms,
+    plan: &[u16],
+    parts: &[u16],
+    table: &[u16],
+    place: usize,
+    engine: E,
+) -> Result<Option<usize>, Refusal>
+    requires { Asked table.now (E.pre engine (rule_in terms)) }
+    ensures { Found (answerable_of terms plan.now parts.now table.now place)
+        (E.post engine (rule_in terms) (place - 1)) result }
 {
-    if t <= usize::from(d) {
-        return Ok(Some(t));
-    }
-    Ok(None)
+    answerable(terms, plan, parts, table, place)?;
+    let rule = rules::rule_of(terms.edition);
+    Ok(engine(rule, place - 1))
 }
 
 // Whether the task at a place, counted from 1, passes: by its scheduling points.
@@ -61,10 +70,9 @@ pub fn verdict(
 ) -> Result<Option<usize>, Refusal>
     ensures { Judges terms plan.now parts.now table.now place result }
 {
-    answerable(terms, plan, parts, table, place)?;
-    let rule = rules::rule_of(terms.edition);
-    let point = task_points::first_point(rule, plan, table, place - 1);
-    pass_at(rules::records::deadline(table, place - 1), point)
+    judge(terms, plan, parts, table, place, |rule, i| {
+        task_points::first_point(rule, plan, table, i)
+    })
 }
 
 // The same by the plain engine, tick by tick.
@@ -77,8 +85,7 @@ pub fn plain(
 ) -> Result<Option<usize>, Refusal>
     ensures { JudgesPlainly terms plan.now parts.now table.now place result }
 {
-    answerable(terms, plan, parts, table, place)?;
-    let rule = rules::rule_of(terms.edition);
-    let tick = task_plain::first_tick(rule, plan, table, place - 1);
-    pass_at(rules::records::deadline(table, place - 1), tick)
+    judge(terms, plan, parts, table, place, |rule, i| {
+        task_plain::first_tick(rule, plan, table, i)
+    })
 }

@@ -2,6 +2,7 @@ use Prim.Native.Nat.{◌+◌}
 use mathlib.Core.Path.{◌∙◌}
 use Rattle.rules.specs.Limits.{longest}
 use Rattle.task_demand.proofs.Asking.{zeros-all}
+use Rattle.task_demand.proofs.Walking.{in_time_of}
 use Rattle.task_plain.proofs.Ticks.{tick_is}
 use borrow.Author.Rules.{rules}
 use Rattle.task_plain.proofs.first_tick.Goals as goal
@@ -10,4 +11,4 @@ pub draw_task-requires : goal.draw_task-requires
 draw_task-requires c = (search rules, zeros-all (longest + 1), search rules, search rules)
 
 pub returns : goal.returns
-returns c = c.tick_in.ensures ∙ tick_is _ _ _ _ _ _ _ _ c.draw_task.ensures c.budget-c.ensures c.deadline-d.ensures
+returns c = c.tick_in.ensures ∙ in_time_of _ _ _ _ c.deadline-d.ensures (tick_is _ _ _ _ _ _ _ _ c.draw_task.ensures c.budget-c.ensures c.deadline-d.ensures)
