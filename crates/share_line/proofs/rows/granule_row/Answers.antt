@@ -1,15 +1,16 @@
+use Rattle.std.proofs.Common.{rules}
+use Rattle.share_line.specs.Inner.{BeginsWithNumber, Ends}
 use Rattle.share_line.specs.Rows.{granule_row}
-use borrow.Author.Tests.{lt-ltb, le-ltb}
 use Rattle.share_line.proofs.rows.granule_row.Goals as goal
 
-pub returns-then-granule-gt-HIGHEST : goal.returns-then-granule-gt-HIGHEST
-unfolding granule_row
-returns-then-granule-gt-HIGHEST c = rw (← c.first_number-granule.ensures, lt-ltb _ _ c.if-granule-gt-HIGHEST.true)
+pub returns-in_err-granule : goal.returns-in_err-granule
+unfolding granule_row BeginsWithNumber Ends
+returns-in_err-granule c = rw (c.in_err-granule.ensures.0) (search rules)
 
-pub returns-then-no_word : goal.returns-then-no_word
-unfolding granule_row
-returns-then-no_word c = rw (← c.first_number-granule.ensures, ← c.after_word.ensures, ← c.no_word.ensures, le-ltb _ _ c.if-granule-gt-HIGHEST.false, c.if-no_word.true)
+pub returns-in_err-end : goal.returns-in_err-end
+unfolding granule_row BeginsWithNumber Ends
+returns-in_err-end c = rw (c.in_ok-granule.ensures.0, ← c.in_ok-granule.ensures.1, c.in_err-end.ensures.0) (search rules)
 
 pub returns : goal.returns
-unfolding granule_row
-returns c = rw (← c.first_number-granule.ensures, ← c.after_word.ensures, ← c.no_word.ensures, le-ltb _ _ c.if-granule-gt-HIGHEST.false, c.if-no_word.false)
+unfolding granule_row BeginsWithNumber Ends
+returns c = rw (c.in_ok-granule.ensures.0, ← c.in_ok-granule.ensures.1, c.in_ok-end.ensures) (search rules)

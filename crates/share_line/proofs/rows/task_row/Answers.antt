@@ -1,16 +1,28 @@
+use Rattle.std.proofs.Common.{rules}
+use Rattle.share_line.specs.Inner.{BeginsWithNumber, Ends}
 use Rattle.share_line.specs.Rows.{task_row}
-use Rattle.share_line.specs.Inner.{times_row}
-use borrow.Author.Tests.{lt-ltb, le-ltb}
 use Rattle.share_line.proofs.rows.task_row.Goals as goal
 
-pub returns-then-partition-gt-HIGHEST : goal.returns-then-partition-gt-HIGHEST
-unfolding task_row times_row
-returns-then-partition-gt-HIGHEST c = rw (← c.first_number-partition.ensures, lt-ltb _ _ c.if-partition-gt-HIGHEST.true)
+pub returns-in_err-partition : goal.returns-in_err-partition
+unfolding task_row BeginsWithNumber Ends
+returns-in_err-partition c = rw (c.in_err-partition.ensures.0) (search rules)
 
-pub returns-then-budget-gt-HIGHEST : goal.returns-then-budget-gt-HIGHEST
-unfolding task_row times_row
-returns-then-budget-gt-HIGHEST c = rw (← c.first_number-partition.ensures, ← c.after_word-a.ensures, ← c.first_number-budget.ensures, le-ltb _ _ c.if-partition-gt-HIGHEST.false, lt-ltb _ _ c.if-budget-gt-HIGHEST.true)
+pub returns-in_err-budget : goal.returns-in_err-budget
+unfolding task_row BeginsWithNumber Ends
+returns-in_err-budget c = rw (c.in_ok-partition.ensures.0, ← c.in_ok-partition.ensures.1, c.in_err-budget.ensures.0) (search rules)
+
+pub returns-in_err-deadline : goal.returns-in_err-deadline
+unfolding task_row BeginsWithNumber Ends
+returns-in_err-deadline c = rw (c.in_ok-partition.ensures.0, ← c.in_ok-partition.ensures.1, c.in_ok-budget.ensures.0, ← c.in_ok-budget.ensures.1, c.in_err-deadline.ensures.0) (search rules)
+
+pub returns-in_err-period : goal.returns-in_err-period
+unfolding task_row BeginsWithNumber Ends
+returns-in_err-period c = rw (c.in_ok-partition.ensures.0, ← c.in_ok-partition.ensures.1, c.in_ok-budget.ensures.0, ← c.in_ok-budget.ensures.1, c.in_ok-deadline.ensures.0, ← c.in_ok-deadline.ensures.1, c.in_err-period.ensures.0) (search rules)
+
+pub returns-in_err-end : goal.returns-in_err-end
+unfolding task_row BeginsWithNumber Ends
+returns-in_err-end c = rw (c.in_ok-partition.ensures.0, ← c.in_ok-partition.ensures.1, c.in_ok-budget.ensures.0, ← c.in_ok-budget.ensures.1, c.in_ok-deadline.ensures.0, ← c.in_ok-deadline.ensures.1, c.in_ok-period.ensures.0, ← c.in_ok-period.ensures.1, c.in_err-end.ensures.0) (search rules)
 
 pub returns : goal.returns
-unfolding task_row times_row
-returns c = rw (← c.first_number-partition.ensures, ← c.after_word-a.ensures, ← c.first_number-budget.ensures, ← c.after_word.ensures, le-ltb _ _ c.if-partition-gt-HIGHEST.false, le-ltb _ _ c.if-budget-gt-HIGHEST.false) c.times_row.ensures
+unfolding task_row BeginsWithNumber Ends
+returns c = rw (c.in_ok-partition.ensures.0, ← c.in_ok-partition.ensures.1, c.in_ok-budget.ensures.0, ← c.in_ok-budget.ensures.1, c.in_ok-deadline.ensures.0, ← c.in_ok-deadline.ensures.1, c.in_ok-period.ensures.0, ← c.in_ok-period.ensures.1, c.in_ok-end.ensures) (search rules)
