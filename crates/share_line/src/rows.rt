@@ -38,6 +38,7 @@ fn end(l: &[u8]) -> Result<(), What>
 }
 
 // `G`, behind the word `granule`.
+#[tactic(auto, unfolding(crate::specs::Inner::BeginsWithNumber, crate::specs::Inner::Ends, crate::specs::Rows::granule_row))]
 fn granule_row(l: &[u8]) -> Result<Row, What>
     ensures { result ≡ granule_row l.now }
 {
@@ -47,6 +48,7 @@ fn granule_row(l: &[u8]) -> Result<Row, What>
 }
 
 // `CYCLE NUM/DEN`, behind the word `partition`.
+#[tactic(auto, unfolding(crate::specs::Inner::BeginsWithNumber, crate::specs::Inner::BeginsWithSlash, crate::specs::Inner::Ends, crate::specs::Rows::part_row))]
 fn part_row(l: &[u8]) -> Result<Row, What>
     ensures { result ≡ part_row l.now }
 {
@@ -59,6 +61,7 @@ fn part_row(l: &[u8]) -> Result<Row, What>
 }
 
 // `PARTITION C D T`, behind the word `task`.
+#[tactic(auto, unfolding(crate::specs::Inner::BeginsWithNumber, crate::specs::Inner::Ends, crate::specs::Rows::task_row))]
 fn task_row(l: &[u8]) -> Result<Row, What>
     ensures { result ≡ task_row l.now }
 {
@@ -76,6 +79,7 @@ fn task_row(l: &[u8]) -> Result<Row, What>
 }
 
 // A line of words: none, or the record that its first word names.
+#[tactic(auto, unfolding(crate::specs::Rows::record_of))]
 fn record_of(l: &[u8]) -> Result<Row, What>
     ensures { result ≡ record_of l.now }
 {
@@ -94,6 +98,7 @@ fn record_of(l: &[u8]) -> Result<Row, What>
     Err(What::Record)
 }
 
+#[tactic(auto, unfolding(share_words::specs::Words::comment, crate::specs::Rows::row_of))]
 pub fn row_of(line: &[u8]) -> Result<Row, What>
     ensures { result ≡ row_of line.now }
 {
