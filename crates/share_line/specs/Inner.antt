@@ -1,25 +1,29 @@
 -- Words that only inner contracts use: no statement and no entry's contract cites them. Assumes nothing.
-use Rattle.std.specs.Prelude.{ℕ, List, not}
+use Rattle.std.specs.Prelude.{◌≡◌, ℕ, List, Bool, true, false, ◌||◌, bytes_eq, Some, None, Result, Ok, Err}
+use Rattle.std.specs.Borrow.{Bor}
 use Rattle.rules.specs.Walk.{pick}
 use Rattle.output.specs.Text.{bytes}
+use Rattle.share_line.specs.declared.What.{What}
 use Rattle.share_line.specs.declared.What.TheVariants.{Number, Slash, End}
 use Rattle.share_line.specs.declared.Row.{Row}
-use Rattle.share_line.specs.declared.Row.TheVariants.{Partition, Task, Wrong}
-use Rattle.share_words.specs.Words.{word_at, same}
-use Rattle.share_words.specs.Words.{ends_at}
-use Rattle.share_line.specs.Rows.{number_at, none_at}
+use Rattle.share_words.specs.Words.{word_of, rest_of, ends_at, numeral}
+use Rattle.share_line.specs.Rows.{closes, is_wrong, what_of}
 
--- `NUM/DEN`, behind a cycle
-unfoldable pub share_row : ℕ → List ℕ → Row
-share_row m l =
-    pick (none_at l 0) (Wrong Number)
-    (pick (not (same (word_at l 1) (bytes "/"))) (Wrong Slash)
-    (pick (none_at l 2) (Wrong Number)
-    (pick (ends_at l 3) (Partition m (number_at l 0) (number_at l 2)) (Wrong End))))
+-- the number that l begins with, and what stands behind it
+unfoldable pub BeginsWithNumber : List ℕ → Result (ℕ × Bor (List ℕ)) What → Type 0
+BeginsWithNumber l (Ok p) = (numeral (word_of l) ≡ Some p.0) × (p.1.now ≡ rest_of l)
+BeginsWithNumber l (Err w) = (numeral (word_of l) ≡ None) × (w ≡ Number)
 
--- `D T`, behind a partition and C
-unfoldable pub times_row : ℕ → ℕ → List ℕ → Row
-times_row p c l =
-    pick (none_at l 0) (Wrong Number)
-    (pick (none_at l 1) (Wrong Number)
-    (pick (ends_at l 2) (Task p c (number_at l 0) (number_at l 1)) (Wrong End)))
+-- what stands behind the slash that l begins with
+unfoldable pub BeginsWithSlash : List ℕ → Result (Bor (List ℕ)) What → Type 0
+BeginsWithSlash l (Ok r) = (bytes_eq (word_of l) (bytes "/") ≡ true) × (r.now ≡ rest_of l)
+BeginsWithSlash l (Err w) = (bytes_eq (word_of l) (bytes "/") ≡ false) × (w ≡ Slash)
+
+-- nothing stands in l any more
+unfoldable pub Ends : List ℕ → Result (Unit {0}) What → Type 0
+Ends l (Ok u) = ends_at l 0 ≡ true
+Ends l (Err w) = (ends_at l 0 ≡ false) × (w ≡ End)
+
+-- a row behind others: what was expected in it, where it is wrong; else whether a granule comes too late behind it
+unfoldable pub judged : Bool → Result Row What → Result Bool What
+judged closed row = pick (is_wrong closed row) (Err (what_of row)) (Ok (closes row || closed))

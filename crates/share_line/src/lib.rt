@@ -6,7 +6,7 @@ pub mod expected; // expected.rt: the line that says what was expected where
 
 // What was expected in a line: `granule`, `partition` or `task`, a number, `/`, or the line's end; or that a granule, where
 // it is given, comes once and before the partitions.
-#[derive(Clone, Copy)]
+#[derive(Clone, Copy, PartialEq, Eq)]
 pub enum What {
     Record,
     Number,
@@ -15,7 +15,7 @@ pub enum What {
     EarlyGranule,
 }
 
-#[derive(Clone, Copy)]
+#[derive(Clone, Copy, PartialEq, Eq)]
 pub enum Row {
     Nothing,
     Granule(u16),
@@ -30,5 +30,4 @@ pub enum Row {
         deadline: u16,
         period: u16,
     },
-    Wrong(What),
 }

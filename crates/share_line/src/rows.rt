@@ -1,109 +1,90 @@
 // The record that a line says, or what was expected in it first.
-ghost use Rattle.std.specs.Prelude.{◌≡◌, ◌||◌};
-ghost use Rattle.share_line.specs.Rows.{granule_row, part_row, task_row, record_of, row_of, closes, is_wrong, what_of};
-ghost use Rattle.share_line.specs.Inner.{share_row, times_row};
+ghost use Rattle.std.specs.Prelude.{◌≡◌};
+ghost use Rattle.share_line.specs.Rows.{granule_row, part_row, task_row, record_of, row_of};
+ghost use Rattle.share_line.specs.Inner.{BeginsWithNumber, BeginsWithSlash, Ends, judged};
 
 use crate::{Row, What};
-use share_words::Mark;
-use share_words::numbers::{HIGHEST, first_number};
+use share_words::numbers::first_number;
 use share_words::words::{after_word, begins_with, find, no_word};
 
+// The number that words begin with, and what stands behind it.
+#[tactic(auto, unfolding(crate::specs::Inner::BeginsWithNumber))]
+fn number(l: &[u8]) -> Result<(u16, &[u8]), What>
+    ensures { BeginsWithNumber l.now result }
+{
+    let n = first_number(l).ok_or(What::Number)?;
+    Ok((n, after_word(l)))
+}
+
+// What stands behind the slash that words begin with.
+#[tactic(auto, unfolding(crate::specs::Inner::BeginsWithSlash))]
+fn slash(l: &[u8]) -> Result<&[u8], What>
+    ensures { BeginsWithSlash l.now result }
+{
+    if begins_with(l, b"/") {
+        return Ok(after_word(l));
+    }
+    Err(What::Slash)
+}
+
+#[tactic(auto, unfolding(crate::specs::Inner::Ends))]
+fn end(l: &[u8]) -> Result<(), What>
+    ensures { Ends l.now result }
+{
+    if no_word(l) {
+        return Ok(());
+    }
+    Err(What::End)
+}
+
 // `G`, behind the word `granule`.
-fn granule_row(l: &[u8]) -> Row
+#[tactic(auto, unfolding(crate::specs::Inner::BeginsWithNumber, crate::specs::Inner::Ends, crate::specs::Rows::granule_row))]
+fn granule_row(l: &[u8]) -> Result<Row, What>
     ensures { result ≡ granule_row l.now }
 {
-    let granule = first_number(l);
-    if HIGHEST < granule {
-        return Row::Wrong(What::Number);
-    }
-    if no_word(after_word(l)) {
-        return Row::Granule(granule as u16);
-    }
-    Row::Wrong(What::End)
+    let (granule, l) = number(l)?;
+    end(l)?;
+    Ok(Row::Granule(granule))
 }
 
-// `NUM/DEN`, behind a cycle.
-fn share_row(cycle: u16, l: &[u8]) -> Row
-    ensures { result ≡ share_row cycle l.now }
-{
-    let num = first_number(l);
-    if HIGHEST < num {
-        return Row::Wrong(What::Number);
-    }
-    let a = after_word(l);
-    if !begins_with(a, b"/") {
-        return Row::Wrong(What::Slash);
-    }
-    let b = after_word(a);
-    let den = first_number(b);
-    if HIGHEST < den {
-        return Row::Wrong(What::Number);
-    }
-    if no_word(after_word(b)) {
-        return Row::Partition {
-            cycle,
-            num: num as u16,
-            den: den as u16,
-        };
-    }
-    Row::Wrong(What::End)
-}
-
-fn part_row(l: &[u8]) -> Row
+// `CYCLE NUM/DEN`, behind the word `partition`.
+#[tactic(auto, unfolding(crate::specs::Inner::BeginsWithNumber, crate::specs::Inner::BeginsWithSlash, crate::specs::Inner::Ends, crate::specs::Rows::part_row))]
+fn part_row(l: &[u8]) -> Result<Row, What>
     ensures { result ≡ part_row l.now }
 {
-    let cycle = first_number(l);
-    if HIGHEST < cycle {
-        return Row::Wrong(What::Number);
-    }
-    share_row(cycle as u16, after_word(l))
+    let (cycle, l) = number(l)?;
+    let (num, l) = number(l)?;
+    let l = slash(l)?;
+    let (den, l) = number(l)?;
+    end(l)?;
+    Ok(Row::Partition { cycle, num, den })
 }
 
-// `D T`, behind a partition and C.
-fn times_row(partition: u16, budget: u16, l: &[u8]) -> Row
-    ensures { result ≡ times_row partition budget l.now }
-{
-    let deadline = first_number(l);
-    if HIGHEST < deadline {
-        return Row::Wrong(What::Number);
-    }
-    let a = after_word(l);
-    let period = first_number(a);
-    if HIGHEST < period {
-        return Row::Wrong(What::Number);
-    }
-    if no_word(after_word(a)) {
-        return Row::Task {
-            partition,
-            budget,
-            deadline: deadline as u16,
-            period: period as u16,
-        };
-    }
-    Row::Wrong(What::End)
-}
-
-fn task_row(l: &[u8]) -> Row
+// `PARTITION C D T`, behind the word `task`.
+#[tactic(auto, unfolding(crate::specs::Inner::BeginsWithNumber, crate::specs::Inner::Ends, crate::specs::Rows::task_row))]
+fn task_row(l: &[u8]) -> Result<Row, What>
     ensures { result ≡ task_row l.now }
 {
-    let partition = first_number(l);
-    if HIGHEST < partition {
-        return Row::Wrong(What::Number);
-    }
-    let a = after_word(l);
-    let budget = first_number(a);
-    if HIGHEST < budget {
-        return Row::Wrong(What::Number);
-    }
-    times_row(partition as u16, budget as u16, after_word(a))
+    let (partition, l) = number(l)?;
+    let (budget, l) = number(l)?;
+    let (deadline, l) = number(l)?;
+    let (period, l) = number(l)?;
+    end(l)?;
+    Ok(Row::Task {
+        partition,
+        budget,
+        deadline,
+        period,
+    })
 }
 
 // A line of words: none, or the record that its first word names.
-fn record_of(l: &[u8]) -> Row
+#[tactic(auto, unfolding(crate::specs::Rows::record_of))]
+fn record_of(l: &[u8]) -> Result<Row, What>
     ensures { result ≡ record_of l.now }
 {
     if no_word(l) {
-        return Row::Nothing;
+        return Ok(Row::Nothing);
     }
     if begins_with(l, b"granule") {
         return granule_row(after_word(l));
@@ -114,77 +95,26 @@ fn record_of(l: &[u8]) -> Row
     if begins_with(l, b"task") {
         return task_row(after_word(l));
     }
-    Row::Wrong(What::Record)
+    Err(What::Record)
 }
 
-pub fn row_of(line: &[u8]) -> Row
+#[tactic(auto, unfolding(share_words::specs::Words::comment, crate::specs::Rows::row_of))]
+pub fn row_of(line: &[u8]) -> Result<Row, What>
     ensures { result ≡ row_of line.now }
 {
-    let e = find(line, Mark::Comment);
+    let e = find(line, |b| b == b'#');
     record_of(&line[..e])
 }
 
-// Whether a granule comes too late behind this row: so it was before it, or the row closes it.
-pub fn closed_behind(closed: bool, row: Row) -> bool
-    ensures { result ≡ closes row || closed }
+// What was expected in a row that is wrong behind others; else whether a granule comes too late behind it: so it was before it,
+// or the row closes it.
+#[tactic(auto, unfolding(crate::specs::Inner::judged))]
+pub fn closed_behind(closed: bool, row: Result<Row, What>) -> Result<bool, What>
+    ensures { result ≡ judged closed row }
 {
-    match row {
-        Row::Nothing => closed,
-        Row::Granule(_) => true,
-        Row::Partition {
-            cycle: _,
-            num: _,
-            den: _,
-        } => true,
-        Row::Task {
-            partition: _,
-            budget: _,
-            deadline: _,
-            period: _,
-        } => closed,
-        Row::Wrong(_) => closed,
-    }
-}
-
-pub fn is_wrong(closed: bool, row: Row) -> bool
-    ensures { result ≡ is_wrong closed row }
-{
-    match row {
-        Row::Nothing => false,
-        Row::Granule(_) => closed,
-        Row::Partition {
-            cycle: _,
-            num: _,
-            den: _,
-        } => false,
-        Row::Task {
-            partition: _,
-            budget: _,
-            deadline: _,
-            period: _,
-        } => false,
-        Row::Wrong(_) => true,
-    }
-}
-
-// What was expected in a wrong row.
-pub fn what_of(row: Row) -> What
-    ensures { result ≡ what_of row }
-{
-    match row {
-        Row::Nothing => What::End,
-        Row::Granule(_) => What::EarlyGranule,
-        Row::Partition {
-            cycle: _,
-            num: _,
-            den: _,
-        } => What::End,
-        Row::Task {
-            partition: _,
-            budget: _,
-            deadline: _,
-            period: _,
-        } => What::End,
-        Row::Wrong(what) => what,
+    match row? {
+        Row::Granule(_) if closed => Err(What::EarlyGranule),
+        Row::Granule(_) | Row::Partition { .. } => Ok(true),
+        Row::Nothing | Row::Task { .. } => Ok(closed),
     }
 }
