@@ -3,7 +3,8 @@ use Prim.Native.Nat.{ℕ}
 use mathlib.Core.Path.{◌≡◌}
 use mathlib.Core.List.{List}
 use borrow.Author.Tests.{eq-eqb, ne_eqb}
-use Rattle.share_words.specs.Words.{no_number, numeral}
+use Rattle.share_words.specs.Words.{numeral}
+use Rattle.std.specs.Prelude.{unwrap_or}
 use Rattle.why_page.specs.Why.{place_asked}
 
 module _ (words : ℕ) (w : List ℕ) where
@@ -11,11 +12,6 @@ module _ (words : ℕ) (w : List ℕ) where
   unfolding place_asked
   asked_other h = rw (ne_eqb words 2 h)
 
-  module _ (n : ℕ) (one : words ≡ 2) (en : n ≡ numeral w) where
-    pub asked-none : n ≡ no_number → 0 ≡ place_asked words w
-    unfolding place_asked
-    asked-none h = rw (eq-eqb words 2 one, ← en, eq-eqb n no_number h)
-
-    pub asked-one : (r : ℕ) → ¬ (n ≡ no_number) → r ≡ n → r ≡ place_asked words w
-    unfolding place_asked
-    asked-one r h e = rw (eq-eqb words 2 one, ← en, ne_eqb n no_number h) e
+  pub asked-one : (r : ℕ) → words ≡ 2 → r ≡ unwrap_or (numeral w) 0 → r ≡ place_asked words w
+  unfolding place_asked
+  asked-one r one e = rw (eq-eqb words 2 one) e

@@ -21,8 +21,7 @@ use Rattle.task_page.specs.declared.Paged.TheVariants.{Pass, Fail}
 use Rattle.task_page.specs.Page.{rows_of, points_of, tightest_of, page_of, Pages}
 use Rattle.task_page.specs.Theorems.{PageBy, page_refused, page_pass, page-short, page_fail}
 use Rattle.task_page.proofs.Proved as pages
-use Rattle.file_read.specs.declared.Reading.{Reading}
-use Rattle.file_read.specs.declared.Reading.TheVariants.{Contents}
+use Rattle.file_read.specs.declared.Contents.{Contents}
 use Rattle.file_read.specs.declared.Body.TheVariants.{Partitions, Tasks, Runs}
 use Rattle.file_read.specs.Reader.{read_of, table_of}
 use Rattle.file_runs.specs.Ticks.{ticks_of}
@@ -32,7 +31,7 @@ use Rattle.why_page.proofs.Rows.{point_in_time, rows_long, lines-front}
 
 -- ---- what was judged
 
-by_pass : {rule : Rule} {plan ts : List ℕ} {i room : ℕ} {j : Result (Option ℕ) Refusal} {x : Paged} (t : ℕ) → PageBy rule plan ts i room j x → x ≡ Pass t → j ≡ Ok (Some t)
+by_pass : {rule : Rule} {plan ts : List ℕ} {i room : ℕ} {j : Result (Option ℕ) Refusal} {x : Result Paged Refusal} (t : ℕ) → PageBy rule plan ts i room j x → x ≡ Ok (Pass t) → j ≡ Ok (Some t)
 by_pass t (page_refused r) e = let z : ◌≡◌ {A = ℕ} 0 1 = cc in absurd (omega arith)
 by_pass t (page_pass u) e = let z : u ≡ t = cc e in rw z
 by_pass t (page-short l) e = let z : ◌≡◌ {A = ℕ} 0 1 = cc in absurd (omega arith)
@@ -44,7 +43,7 @@ pub record Failing (rule : Rule) (plan ts : List ℕ) (i room : ℕ) (j : Result
   pub tight : u ≡ tightest_of rule plan ts i
   pub fits : row_width * n ≤ room
 
-by_fail : {rule : Rule} {plan ts : List ℕ} {i room : ℕ} {j : Result (Option ℕ) Refusal} {x : Paged} (n u h : ℕ) → PageBy rule plan ts i room j x → x ≡ Fail n u h → Failing rule plan ts i room j n u
+by_fail : {rule : Rule} {plan ts : List ℕ} {i room : ℕ} {j : Result (Option ℕ) Refusal} {x : Result Paged Refusal} (n u h : ℕ) → PageBy rule plan ts i room j x → x ≡ Ok (Fail n u h) → Failing rule plan ts i room j n u
 by_fail n u h (page_refused r) e = let z : ◌≡◌ {A = ℕ} 0 1 = cc in absurd (omega arith)
 by_fail n u h (page_pass t) e = let z : ◌≡◌ {A = ℕ} 0 1 = cc in absurd (omega arith)
 by_fail n u h (page-short l) e = let z : ◌≡◌ {A = ℕ} 0 1 = cc in absurd (omega arith)
@@ -53,10 +52,10 @@ by_fail {rule} {plan} {ts} {i} n u h (page_fail l) e =
     record { judged_so = refl; rows = en; tight = cc e; fits = rw en l }
 
 module _ (terms : Terms) (plan ps ts : List ℕ) (place room : ℕ) where
-  pub pass-judged : (t : ℕ) → page_of terms plan ps ts place room ≡ Pass t → verdict_of terms plan ps ts place ≡ Ok (Some t)
+  pub pass-judged : (t : ℕ) → page_of terms plan ps ts place room ≡ Ok (Pass t) → verdict_of terms plan ps ts place ≡ Ok (Some t)
   pass-judged t e = by_pass t ((pages.proved).page_answers terms plan ps ts place room) e
 
-  pub fail_judged : (n u h : ℕ) → page_of terms plan ps ts place room ≡ Fail n u h → Failing (rule_in terms) plan ts (place - 1) room (verdict_of terms plan ps ts place) n u
+  pub fail_judged : (n u h : ℕ) → page_of terms plan ps ts place room ≡ Ok (Fail n u h) → Failing (rule_in terms) plan ts (place - 1) room (verdict_of terms plan ps ts place) n u
   fail_judged n u h e = by_fail n u h ((pages.proved).page_answers terms plan ps ts place room) e
 
   -- ---- the task can be judged
@@ -70,24 +69,24 @@ module _ (terms : Terms) (plan ps ts : List ℕ) (place room : ℕ) where
         in_time = l;
       }
 
-  pub pass_answered : (t : ℕ) → page_of terms plan ps ts place room ≡ Pass t → Answered terms plan ps ts place
+  pub pass_answered : (t : ℕ) → page_of terms plan ps ts place room ≡ Ok (Pass t) → Answered terms plan ps ts place
   pass_answered t e = (((verdicts.proved).by_points.pass_exactly terms plan ps ts place).0 (t, pass-judged t e)).0
 
-  pub fail_answered : (n u h : ℕ) → page_of terms plan ps ts place room ≡ Fail n u h → Answered terms plan ps ts place
+  pub fail_answered : (n u h : ℕ) → page_of terms plan ps ts place room ≡ Ok (Fail n u h) → Answered terms plan ps ts place
   fail_answered n u h e = (((verdicts.proved).by_points.fail_exactly terms plan ps ts place).0 (fail_judged n u h e).judged_so).0
 
-  pub pass_reach : (t : ℕ) → page_of terms plan ps ts place room ≡ Pass t → InReach plan ts (place - 1) t
+  pub pass_reach : (t : ℕ) → page_of terms plan ps ts place room ≡ Ok (Pass t) → InReach plan ts (place - 1) t
   pass_reach t e = answered_reach t (pass_answered t e) (point_in_time ts (place - 1) t ((verdicts.proved).pass_point terms plan ps ts place t (pass-judged t e)).0)
 
-  pub fail_reach : (n u h : ℕ) → page_of terms plan ps ts place room ≡ Fail n u h → InReach plan ts (place - 1) u
+  pub fail_reach : (n u h : ℕ) → page_of terms plan ps ts place room ≡ Ok (Fail n u h) → InReach plan ts (place - 1) u
   fail_reach n u h e = answered_reach u (fail_answered n u h e) (point_in_time ts (place - 1) u ((pages.proved).page_tightest terms plan ps ts place room n u h e).0.a_point)
 
 -- ---- what the page left
 
-pub paged_so : (e : ℕ) (plan ps ts : List ℕ) (place : ℕ) (list o : List ℕ) (r : Paged) → length list ≡ most_numbers → length o ≡ length list → Pages (filed e) plan ps ts place list o r → PagedSo e plan ps ts place o r
+pub paged_so : (e : ℕ) (plan ps ts : List ℕ) (place : ℕ) (list o : List ℕ) (r : Result Paged Refusal) → length list ≡ most_numbers → length o ≡ length list → Pages (filed e) plan ps ts place list o r → PagedSo e plan ps ts place o r
 paged_so e plan ps ts place list o r l z p = record { answer = rw l at p.0; long = z ∙ l; list = list; left = p.1 }
 
-pub rowed : (e : ℕ) (plan ps ts : List ℕ) (place : ℕ) (rows : List ℕ) (n u h : ℕ) → PagedSo e plan ps ts place rows (Fail n u h) → Rowed (rule_of e) plan ts (place - 1) rows n u
+pub rowed : (e : ℕ) (plan ps ts : List ℕ) (place : ℕ) (rows : List ℕ) (n u h : ℕ) → PagedSo e plan ps ts place rows (Ok (Fail n u h)) → Rowed (rule_of e) plan ts (place - 1) rows n u
 rowed e plan ps ts place rows n u h p =
     let f = fail_judged (filed e) plan ps ts place most_numbers n u h (sym p.answer) in
     record {
@@ -102,6 +101,6 @@ rowed e plan ps ts place rows n u h p =
 
 -- ---- the text
 
-pub text_of : (b : List ℕ) (place ed frame np nt nr : ℕ) → read_of b ≡ Contents ed frame np nt nr → tables_text ed (ticks_of (table_of b Runs)) (table_of b Partitions) (table_of b Tasks) place ≡ why_of b place
+pub text_of : (b : List ℕ) (place : ℕ) (c : Contents) → read_of b ≡ Ok c → tables_text c.edition (ticks_of (table_of b Runs)) (table_of b Partitions) (table_of b Tasks) place ≡ why_of b place
 unfolding why_of
-text_of b place ed frame np nt nr e = sym (ap (λ (c : Reading). read_text c b place) e)
+text_of b place c e = sym (ap (λ (r : Result Contents Refusal). read_text r b place) e)

@@ -27,8 +27,7 @@ use Rattle.output.specs.Text.{bytes}
 use Rattle.output.specs.Decimal.{decimal}
 use Rattle.output.proofs.Decimal.{decimal-one, decimal_more}
 use Rattle.output.proofs.Proved as output
-use Rattle.file_read.specs.declared.Reading.{Reading}
-use Rattle.file_read.specs.declared.Reading.TheVariants as reading
+use Rattle.file_read.specs.declared.Contents.{Contents}
 use Rattle.file_read.specs.Reader.{read_of}
 use Rattle.file_read.proofs.Reader.{accepted, contents-short}
 use Rattle.file_read.proofs.Proved as reader
@@ -154,7 +153,7 @@ fail_lines : FailLines
 unfolding tables_text
 fail_lines e plan ps ts place n u h p =
     let f = fail_judged (filed e) plan ps ts place most_numbers n u h p in
-    (f.rows, ap (λ (x : Paged). lines_in (paged_text (rule_of e) plan ts place x)) p ∙ fail_text-lines (rule_of e) plan ts place ∙ ap (λ (k : ℕ). k + 3) (sym f.rows))
+    (f.rows, ap (λ (x : Result Paged Refusal). lines_in (paged_text (rule_of e) plan ts place x)) p ∙ fail_text-lines (rule_of e) plan ts place ∙ ap (λ (k : ℕ). k + 3) (sym f.rows))
 
 -- ---- the sentences
 
@@ -187,7 +186,7 @@ one_mark e plan ps ts place n u h p =
 pass_spare : PassSpare
 unfolding tables_text pass_text spare_of
 pass_spare e plan ps ts place t p = (
-  ap (λ (x : Paged). paged_text (rule_of e) plan ts place x) p,
+  ap (λ (x : Result Paged Refusal). paged_text (rule_of e) plan ts place x) p,
   omega (arith, ((verdicts.proved).pass_point (filed e) plan ps ts place t (pass-judged (filed e) plan ps ts place most_numbers t p)).1),
 )
 
@@ -206,9 +205,9 @@ why_first : WhyFirst
 unfolding why_of
 why_first b place n h = step (read_of b) refl
   where
-    step : (c : Reading) → read_of b ≡ c → read_text (read_of (take n b)) (take n b) place ≡ read_text (read_of b) b place
-    step (reading.Refused x) e = rw ((reader.proved).read_first b n h, e)
-    step (reading.Contents ed f np nt nr) e = rw (take_all n b (omega (arith, contents-short b ed f np nt nr (accepted b ed f np nt nr e).contents)))
+    step : (c : Result Contents Refusal) → read_of b ≡ c → read_text (read_of (take n b)) (take n b) place ≡ read_text (read_of b) b place
+    step (Err x) e = rw ((reader.proved).read_first b n h, e)
+    step (Ok c) e = rw (take_all n b (omega (arith, contents-short b c (accepted b c e).contents)))
 
 pub proved : Proved
 proved = record {

@@ -1,5 +1,5 @@
 -- Words that only inner contracts use: no statement and no entry's contract cites them. Assumes nothing.
-use Rattle.std.specs.Prelude.{ℕ, ◌-◌, ◌^◌, ◌≤◌, ◌<◌, ◌≡◌, List, length}
+use Rattle.std.specs.Prelude.{ℕ, ◌-◌, ◌^◌, ◌≤◌, ◌<◌, ◌≡◌, List, length, Result}
 use Rattle.rules.specs.Limits.{longest}
 use Rattle.rules.specs.Table.{partition, deadline}
 use Rattle.rules.specs.Terms.{filed, rule_of}
@@ -9,6 +9,7 @@ use Rattle.theory.specs.Plan.{least}
 use Rattle.theory.specs.Load.{demand}
 use Rattle.theory.specs.Task.{task_load}
 use Rattle.task_demand.specs.Inner.{Judgeable}
+use Rattle.rules.specs.declared.Refusal.{Refusal}
 use Rattle.task_page.specs.declared.Paged.{Paged}
 use Rattle.task_page.specs.Page.{rows_of, points_of, tightest_of, page_of, page_left}
 use Rattle.why_page.specs.Why.{line_of, most_numbers}
@@ -35,7 +36,7 @@ pub record Rowed (rule : Rule) (plan ts : List ℕ) (i : ℕ) (rows : List ℕ) 
   pub lines : gathered (line_of u rows) n ≡ gathered (line_of (tightest_of rule plan ts i) (rows_of rule plan ts i)) (points_of ts i)
 
 -- r is what the page answers, and rows what a list of so many numbers held then
-pub record PagedSo (e : ℕ) (plan ps ts : List ℕ) (place : ℕ) (rows : List ℕ) (r : Paged) : Type 0 where
+pub record PagedSo (e : ℕ) (plan ps ts : List ℕ) (place : ℕ) (rows : List ℕ) (r : Result Paged Refusal) : Type 0 where
   pub answer : r ≡ page_of (filed e) plan ps ts place most_numbers
   pub long : length rows ≡ most_numbers
   pub list : List ℕ

@@ -25,7 +25,7 @@ lines_in (b ∷ s) = only (eqb b (code "\n")) 1 + lines_in s
 -- a fail has a line for each scheduling point, and three more: the task's, that of the columns' names, and the sentence
 abbrev pub FailLines : Type 0
 FailLines =
-    (e : ℕ) (plan ps ts : List ℕ) (place n u h : ℕ) → page_of (filed e) plan ps ts place most_numbers ≡ Fail n u h
+    (e : ℕ) (plan ps ts : List ℕ) (place n u h : ℕ) → page_of (filed e) plan ps ts place most_numbers ≡ Ok (Fail n u h)
     → (n ≡ points_of ts (place - 1)) × (lines_in (tables_text e plan ps ts place) ≡ n + 3)
 
 -- the line of the point t: what the task needs there by the rules, what it can be sure of, and the lowest worst start
@@ -50,21 +50,21 @@ FailRows = (rule : Rule) (plan ts : List ℕ) (i u : ℕ) → LineForEach rule p
 -- a fail's sentence is about the point that ask 7 names, and something is short there
 abbrev pub FailShort : Type 0
 FailShort =
-    (e : ℕ) (plan ps ts : List ℕ) (place n u h : ℕ) → page_of (filed e) plan ps ts place most_numbers ≡ Fail n u h
+    (e : ℕ) (plan ps ts : List ℕ) (place n u h : ℕ) → page_of (filed e) plan ps ts place most_numbers ≡ Ok (Fail n u h)
     → TightestPoint (task_load ts) (least (rule_of e) plan (partition ts (place - 1))) (place - 1) u
     × (least (rule_of e) plan (partition ts (place - 1)) u < demand (task_load ts) (place - 1) u)
 
 -- and one line has the mark: that of the tightest point
 abbrev pub OneMark : Type 0
 OneMark =
-    (e : ℕ) (plan ps ts : List ℕ) (place n u h : ℕ) → page_of (filed e) plan ps ts place most_numbers ≡ Fail n u h
+    (e : ℕ) (plan ps ts : List ℕ) (place n u h : ℕ) → page_of (filed e) plan ps ts place most_numbers ≡ Ok (Fail n u h)
     → (k : ℕ) × (k < n) × (point_of (rule_of e) plan ts (place - 1) k ≡ u)
     × ((j : ℕ) → j < n → point_of (rule_of e) plan ts (place - 1) j ≡ u → j ≡ k)
 
 -- a pass's text, and that what it says to be to spare is what its need leaves of what it can be sure of
 abbrev pub PassSpare : Type 0
 PassSpare =
-    (e : ℕ) (plan ps ts : List ℕ) (place t : ℕ) → page_of (filed e) plan ps ts place most_numbers ≡ Pass t
+    (e : ℕ) (plan ps ts : List ℕ) (place t : ℕ) → page_of (filed e) plan ps ts place most_numbers ≡ Ok (Pass t)
     → (tables_text e plan ps ts place
     ≡ passes_line place (partition ts (place - 1)) ++ spare_line t (demand (task_load ts) (place - 1) t) (least (rule_of e) plan (partition ts (place - 1)) t))
     × (demand (task_load ts) (place - 1) t
@@ -76,7 +76,7 @@ abbrev pub RoomEnough : Type 0
 RoomEnough =
     (e : ℕ) (plan ps ts : List ℕ) (place : ℕ) → verdict_of (filed e) plan ps ts place ≡ (Ok None)
     → page_of (filed e) plan ps ts place most_numbers
-    ≡ Fail (points_of ts (place - 1)) (tightest_of (rule_of e) plan ts (place - 1)) (shortage_of (rule_of e) plan ts (place - 1))
+    ≡ Ok (Fail (points_of ts (place - 1)) (tightest_of (rule_of e) plan ts (place - 1)) (shortage_of (rule_of e) plan ts (place - 1)))
 
 -- the text of a file is that of its first bytes, where these are more than any plan file has: a program that reads one byte more than the longest file
 -- answers to what came in, however long that is

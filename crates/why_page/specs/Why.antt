@@ -1,5 +1,5 @@
 -- The page of a task of a plan file, as text: a function of the file's bytes and the task's place, which counts from 1. Assumes nothing.
-use Rattle.std.specs.Prelude.{ℕ, ◌-◌, ◌*◌, List, ◌++◌, eqb}
+use Rattle.std.specs.Prelude.{ℕ, ◌-◌, ◌*◌, List, ◌++◌, eqb, unwrap_or, Result, Ok, Err}
 use Rattle.rules.specs.Limits.{longest, row_width}
 use Rattle.rules.specs.Walk.{pick, gathered}
 use Rattle.rules.specs.Table.{field_at, partition}
@@ -11,13 +11,13 @@ use Rattle.theory.specs.Task.{task_load}
 use Rattle.task_page.specs.declared.Paged.{Paged}
 use Rattle.task_page.specs.declared.Paged.TheVariants as paged
 use Rattle.task_page.specs.Page.{rows_of, points_of, tightest_of, page_of}
-use Rattle.file_read.specs.declared.Reading.{Reading}
-use Rattle.file_read.specs.declared.Reading.TheVariants as reading
+use Rattle.file_read.specs.declared.Contents.{Contents}
+use Rattle.rules.specs.declared.Refusal.{Refusal}
 use Rattle.file_read.specs.declared.Body.TheVariants.{Partitions, Tasks, Runs}
 use Rattle.file_read.specs.Reader.{read_of, table_of}
 use Rattle.file_runs.specs.Ticks.{ticks_of}
 use Rattle.output.specs.Refused.{refused_line}
-use Rattle.share_words.specs.Words.{no_number, numeral}
+use Rattle.share_words.specs.Words.{numeral}
 use Rattle.why_lines.specs.Lines.{passes_line, fails_line, names_line, row_line, spare_line, short_line}
 
 -- the line of row k, where the tightest point is u
@@ -44,10 +44,10 @@ fail_text rule plan ts place =
     ++ short_of rule plan ts (place - 1) (tightest_of rule plan ts (place - 1))
 
 -- by what the page answers
-abbrev pub paged_text : Rule → List ℕ → List ℕ → ℕ → Paged → List ℕ
-paged_text rule plan ts place (paged.Pass t) = pass_text rule plan ts place t
-paged_text rule plan ts place (paged.Fail n u h) = fail_text rule plan ts place
-paged_text rule plan ts place (paged.Refused r) = refused_line r
+abbrev pub paged_text : Rule → List ℕ → List ℕ → ℕ → Result Paged Refusal → List ℕ
+paged_text rule plan ts place (Ok (paged.Pass t)) = pass_text rule plan ts place t
+paged_text rule plan ts place (Ok (paged.Fail n u h)) = fail_text rule plan ts place
+paged_text rule plan ts place (Err r) = refused_line r
 
 -- how many numbers a page may have: a row for each tick up to the longest deadline
 abbrev pub most_numbers : ℕ
@@ -57,9 +57,9 @@ most_numbers = row_width * longest
 unfoldable pub tables_text : ℕ → List ℕ → List ℕ → List ℕ → ℕ → List ℕ
 tables_text e plan ps ts place = paged_text (rule_of e) plan ts place (page_of (filed e) plan ps ts place most_numbers)
 
-abbrev pub read_text : Reading → List ℕ → ℕ → List ℕ
-read_text (reading.Contents e frame np nt nr) b place = tables_text e (ticks_of (table_of b Runs)) (table_of b Partitions) (table_of b Tasks) place
-read_text (reading.Refused r) b place = refused_line r
+abbrev pub read_text : Result Contents Refusal → List ℕ → ℕ → List ℕ
+read_text (Ok c) b place = tables_text c.edition (ticks_of (table_of b Runs)) (table_of b Partitions) (table_of b Tasks) place
+read_text (Err r) b place = refused_line r
 
 -- the text for a file's bytes and a task's place
 unfoldable pub why_of : List ℕ → ℕ → List ℕ
@@ -67,4 +67,4 @@ why_of b place = read_text (read_of b) b place
 
 -- the place that a program is asked for, of so many words with its own name, w the one behind that: the number that one word says, else none
 unfoldable pub place_asked : ℕ → List ℕ → ℕ
-place_asked words w = pick (eqb words 2) (pick (eqb (numeral w) no_number) 0 (numeral w)) 0
+place_asked words w = pick (eqb words 2) (unwrap_or (numeral w) 0) 0

@@ -10,14 +10,12 @@ ghost use Rattle.file_runs.specs.Inner.{Framed};
 ghost use Rattle.why_page.specs.Why.{line_of, spare_of, short_of, pass_text, fail_text, most_numbers, tables_text, why_of, place_asked};
 ghost use Rattle.why_page.specs.Inner.{InReach, Sized, Rowed, PagedSo};
 
-use file_read::Reading;
 use file_read::load::load_file;
-use rules::Rule;
 use rules::limits::{
     LONGEST, PART_NUMBERS, PART_WIDTH, ROW_WIDTH, RUN_NUMBERS, RUN_WIDTH, TASK_NUMBERS, TASK_WIDTH,
 };
-use rules::numbers::{wide, wide32};
-use share_words::numbers::NO_NUMBER;
+use rules::{Refusal, Rule};
+use share_words::numbers::numeral;
 use task_demand::TICKS;
 use task_page::Paged;
 
@@ -31,10 +29,10 @@ fn put_line(rows: &[u32], k: usize, tightest: usize, out: &mut [u8], at: usize) 
         × (result ≤ at + longest_line) }
 {
     let row = ROW_WIDTH * k;
-    let point = wide32(rows[row]);
-    let needs = wide32(rows[row + 1]);
-    let has = wide32(rows[row + 2]);
-    let start = wide32(rows[row + 3]);
+    let point = rows[row] as usize;
+    let needs = rows[row + 1] as usize;
+    let has = rows[row + 2] as usize;
+    let start = rows[row + 3] as usize;
     why_lines::put_row(out, at, tightest, point, needs, has, start)
 }
 
@@ -45,10 +43,8 @@ fn put_lines(rows: &[u32], n: usize, tightest: usize, out: &mut [u8], start: usi
         × (result ≤ start + longest_line * n) }
 {
     let mut at = start;
-    let mut k = 0;
-    while k < n {
+    for k in 0..n {
         at = put_line(rows, k, tightest, out, at);
-        k += 1;
     }
     at
 }
@@ -67,8 +63,8 @@ fn size_at(rule: Rule, plan: &[u16], table: &[u16], i: usize, t: usize) -> Size
     let mut curve = [0u32; TICKS];
     let mut asks = [0u32; TICKS];
     task_demand::draw_task(rule, plan, table, i, &mut curve, &mut asks);
-    let needs = wide(rules::records::budget(table, i)) + wide32(asks[t]);
-    let has = wide32(curve[t]);
+    let needs = usize::from(rules::records::budget(table, i)) + asks[t] as usize;
+    let has = curve[t] as usize;
     Size { needs, has }
 }
 
@@ -107,7 +103,7 @@ fn put_short(
         × (result ≤ at + longest_line) }
 {
     let size = size_at(rule, plan, table, i, t);
-    let p = wide(rules::records::partition(table, i));
+    let p = usize::from(rules::records::partition(table, i));
     let start = plan_service::worst_start(rule, plan, p, t, size.has);
     why_lines::put_short(out, at, t, size.needs, size.has, start)
 }
@@ -126,7 +122,7 @@ fn put_passing(
         × (result ≤ longest_why) }
 {
     let i = place - 1;
-    let partition = wide(rules::records::partition(table, i));
+    let partition = usize::from(rules::records::partition(table, i));
     let a = why_lines::put_passes(out, 0, place, partition);
     put_spare(rule, plan, table, i, point, out, a)
 }
@@ -147,7 +143,7 @@ fn put_failing(
         × (result ≤ longest_why) }
 {
     let i = place - 1;
-    let partition = wide(rules::records::partition(table, i));
+    let partition = usize::from(rules::records::partition(table, i));
     let a = why_lines::put_fails(out, 0, place, partition);
     let b = why_lines::put_names(out, a);
     let c = put_lines(rows, n, tightest, out, b);
@@ -162,7 +158,7 @@ fn put_paged(
     table: &[u16],
     place: usize,
     rows: &[u32],
-    paged: Paged,
+    paged: Result<Paged, Refusal>,
     out: &mut [u8],
 ) -> usize
     requires { PagedSo edition plan.now parts.now table.now place rows.now paged }
@@ -172,13 +168,15 @@ fn put_paged(
 {
     let rule = rules::rule_of(edition);
     match paged {
-        Paged::Refused(r) => output::put_refusal(out, r),
-        Paged::Pass(point) => put_passing(rule, plan, table, place, point, out),
-        Paged::Fail {
-            rows: n,
-            tightest,
-            shortage: _,
-        } => put_failing(rule, plan, table, place, rows, n, tightest, out),
+        Err(r) => output::put_refusal(out, r),
+        Ok(Paged::Pass(point)) => put_passing(rule, plan, table, place, point, out),
+        Ok(
+            Paged::Fail {
+                rows: n,
+                tightest,
+                ..
+            },
+        ) => put_failing(rule, plan, table, place, rows, n, tightest, out),
     }
 }
 
@@ -231,22 +229,14 @@ pub fn compose(file: &[u8], place: usize, out: &mut [u8]) -> usize
     let mut parts = [0u16; PART_NUMBERS];
     let mut tasks = [0u16; TASK_NUMBERS];
     let mut runs = [0u16; RUN_NUMBERS];
-    let c = load_file(file, &mut parts, &mut tasks, &mut runs);
-    match c {
-        Reading::Refused(r) => output::put_refusal(out, r),
-        Reading::Contents {
-            edition,
-            frame,
-            partitions: np,
-            tasks: nt,
-            runs: nr,
-        } => {
-            let p = PART_WIDTH * np;
-            let t = TASK_WIDTH * nt;
-            let r = RUN_WIDTH * nr;
+    match load_file(file, &mut parts, &mut tasks, &mut runs) {
+        Ok(c) => {
+            let p = PART_WIDTH * c.partitions;
+            let t = TASK_WIDTH * c.tasks;
+            let r = RUN_WIDTH * c.runs;
             put_tables(
-                edition,
-                frame,
+                c.edition,
+                c.frame,
                 &parts[..p],
                 &tasks[..t],
                 &runs[..r],
@@ -254,6 +244,7 @@ pub fn compose(file: &[u8], place: usize, out: &mut [u8]) -> usize
                 out,
             )
         }
+        Err(r) => output::put_refusal(out, r),
     }
 }
 
@@ -265,9 +256,5 @@ pub fn place_asked(words: usize, word: &[u8]) -> usize
     if words != 2 {
         return 0;
     }
-    let n = share_words::numbers::numeral(word);
-    if n == NO_NUMBER {
-        return 0;
-    }
-    wide32(n)
+    numeral(word).map_or(0, usize::from)
 }

@@ -10,9 +10,9 @@ put_passing-requires c = let e = sym c.requires.answer ∙ c.in-Pass.is in ((pas
 pub put_failing-requires : goal.put_failing-requires
 put_failing-requires c = let e = sym c.requires.answer ∙ c.in-Fail.is in ((fail_answered _ _ _ _ _ _ _ _ _ e).from_1, rw c.rule_of-rule.ensures (rowed _ _ _ _ _ _ _ _ _ (rw c.in-Fail.is at c.requires)))
 
-pub returns-in-Refused : goal.returns-in-Refused
+pub returns-in-Err : goal.returns-in-Err
 unfolding tables_text
-returns-in-Refused c = (rw (← c.requires.answer, c.in-Refused.is) c.put_refusal.ensures.0, search rules)
+returns-in-Err c = (rw (← c.requires.answer, c.in-Err.is) c.put_refusal.ensures.0, search rules)
 
 pub returns-in-Pass : goal.returns-in-Pass
 unfolding tables_text

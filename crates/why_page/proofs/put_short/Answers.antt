@@ -4,11 +4,11 @@ use borrow.Author.Rules.{rules}
 use Rattle.why_page.proofs.put_short.Goals as goal
 
 pub worst_start-start-requires : goal.worst_start-start-requires
-worst_start-start-requires c = let t = in_lists c.requires.0 in (search rules, rw (c.wide-p.ensures, c.partition.ensures) c.size_at-size.ensures.has_is)
+worst_start-start-requires c = let t = in_lists c.requires.0 in (search rules, rw (c.from-p.ensures, c.partition.ensures) c.size_at-size.ensures.has_is)
 
 pub put_short-requires : goal.put_short-requires
 put_short-requires c = let s = c.size_at-size.ensures in let t = in_lists c.requires.0 in let f = c.requires.0.few_ticks in (search rules, search rules, s.needs_small, s.has_small, search rules)
 
 pub returns : goal.returns
 unfolding short_of
-returns c = let s = c.size_at-size.ensures in let z = rw (c.wide-p.ensures, c.partition.ensures) at c.worst_start-start.ensures.1 in (rw (s.needs_is, s.has_is, z) at c.put_short.ensures.0, search rules)
+returns c = let s = c.size_at-size.ensures in let z = rw (c.from-p.ensures, c.partition.ensures) at c.worst_start-start.ensures.1 in (rw (s.needs_is, s.has_is, z) at c.put_short.ensures.0, search rules)

@@ -1,3 +1,4 @@
+use mathlib.Core.Path.{refl}
 use Prim.Native.Nat.{◌+◌}
 use Rattle.rules.specs.Limits.{longest}
 use Rattle.task_demand.proofs.Asking.{zeros-all}
@@ -9,4 +10,4 @@ pub draw_task-requires : goal.draw_task-requires
 draw_task-requires c = (c.requires.judgeable, zeros-all (longest + 1), search rules, search rules)
 
 pub returns : goal.returns
-returns c = sized _ _ _ _ _ c.args.i c.args.t _ _ _ _ c.requires c.draw_task.ensures c.budget.ensures c.wide.ensures c.wide32.ensures.1 c.wide32-has.ensures.1 (search rules) (search rules) (search rules)
+returns c = sized _ _ _ _ _ c.args.i c.args.t _ _ _ _ c.requires c.draw_task.ensures c.budget.ensures c.from.ensures refl refl (search rules) (search rules) (search rules)
