@@ -40,6 +40,7 @@ fn put_task(out: &mut [u8], at: usize, place: usize, partition: usize, verdict: 
     put_text(out, b, verdict)
 }
 
+#[tactic(auto, unfolding(crate::specs::Lines::passes_line))]
 pub fn put_passes(out: &mut [u8], at: usize, place: usize, partition: usize) -> usize
     requires { at < 2 ^ 40 }
     ensures { Put out.old at (passes_line place partition) result out.new
@@ -48,6 +49,7 @@ pub fn put_passes(out: &mut [u8], at: usize, place: usize, partition: usize) -> 
     put_task(out, at, place, partition, b" passes\n")
 }
 
+#[tactic(auto, unfolding(crate::specs::Lines::fails_line))]
 pub fn put_fails(out: &mut [u8], at: usize, place: usize, partition: usize) -> usize
     requires { at < 2 ^ 40 }
     ensures { Put out.old at (fails_line place partition) result out.new
@@ -56,6 +58,7 @@ pub fn put_fails(out: &mut [u8], at: usize, place: usize, partition: usize) -> u
     put_task(out, at, place, partition, b" fails\n")
 }
 
+#[tactic(auto, unfolding(crate::specs::Lines::names_line))]
 pub fn put_names(out: &mut [u8], at: usize) -> usize
     requires { at < 2 ^ 40 }
     ensures { Put out.old at names_line result out.new
