@@ -1,6 +1,9 @@
 -- How many digits a number has, the column that it ends, and how long the lines are. Assumes nothing.
-use Prim.Native.Nat.{ℕ, zero, suc, ◌+◌, ◌-◌, ◌/◌, ◌%◌, ◌≤◌, ◌<◌, ◌^◌}
-use mathlib.Core.Path.{◌≡◌, refl, ap}
+use Prim.Native.Nat.{ℕ, zero, suc, ◌+◌, ◌-◌, ◌*◌, ◌/◌, ◌%◌, ◌≤◌, ◌<◌, ◌^◌, max}
+use mathlib.Core.Path.{◌≡◌, refl, sym, ap, ◌∙◌}
+use mathlib.Core.Logic.{◌⊎◌, inl, inr}
+use Rattle.std.proofs.Math.Nat.{pow-succ'}
+use Rattle.rules.proofs.Sum.{le-or-lt}
 use mathlib.Core.Bool.{Bool, true, false}
 use mathlib.Core.List.{List, [], ◌∷◌, ◌++◌}
 use native.Mathlib.Omega.{arith}
@@ -12,11 +15,33 @@ use Rattle.output.proofs.Decimal.{decimal-one, decimal_more, decimal_ten, decima
 use Rattle.rules.specs.Limits.{longest_line}
 use Rattle.why_lines.specs.Lines.{column_width, padded, columns, window, mark, row_line, tick_words, spare_line, short_line}
 
-pub digits_last : (n : ℕ) → n < 10 → length (decimal n) ≡ 1
+digits_last : (n : ℕ) → n < 10 → length (decimal n) ≡ 1
 digits_last n h = rw (decimal-one n h)
 
-pub digits_more : (n : ℕ) → 10 ≤ n → length (decimal n) ≡ length (decimal (n / 10)) + 1
+digits_more : (n : ℕ) → 10 ≤ n → length (decimal n) ≡ length (decimal (n / 10)) + 1
 digits_more n h = rw (decimal_more n h, length-append (decimal (n / 10)) ((48 + n % 10) ∷ []))
+
+tens-pos : (k : ℕ) → 0 < 10 ^ k
+tens-pos zero = omega arith
+tens-pos (suc k) = omega (arith, tens-pos k, pow-succ' 10 k)
+
+-- from ten to the power k on, and below ten times that
+digits_from : (k n : ℕ) → 10 ^ k ≤ n → n < 10 * 10 ^ k → length (decimal n) ≡ k + 1
+digits_from zero n l h = digits_last n (omega arith)
+digits_from (suc k) n l h =
+    digits_more n (omega (arith, tens-pos k, pow-succ' 10 k))
+    ∙ ap (λ (x : ℕ). x + 1) (digits_from k (n / 10) (omega (arith, pow-succ' 10 k)) (omega (arith, pow-succ' 10 k))) ∙ omega arith
+
+-- 0 has as many as 1
+pub digits_are : (k m n : ℕ) → m ≡ max n 1 → 10 ^ k ≤ m → m < 10 * 10 ^ k → length (decimal n) ≡ k + 1
+digits_are k m n e l h = go (le-or-lt 1 n)
+  where
+    go : (1 ≤ n) ⊎ (n < 1) → length (decimal n) ≡ k + 1
+    go (inl p) = let q : m ≡ n = omega (arith, e) in digits_from k n (rw q at l) (rw q at h)
+    go (inr p) =
+        let z : n ≡ 0 = omega arith in
+        let q : m ≡ 1 = omega (arith, e) in
+        rw z (digits_last 0 (omega arith) ∙ sym (digits_last 1 (omega arith)) ∙ digits_from k 1 (rw q at l) (rw q at h))
 
 take_replicate : (k n x : ℕ) → k ≤ n → take k (replicate n x) ≡ replicate k x
 take_replicate zero n x h = refl

@@ -1,7 +1,7 @@
 // The lines of a task's page: each is put from a place on, and the answer is the place behind it.
 #![tactic(auto)]
 
-ghost use Rattle.std.specs.Prelude.{◌≡◌, ◌+◌, ◌-◌, ◌≤◌, ◌<◌, ◌^◌, length};
+ghost use Rattle.std.specs.Prelude.{◌≡◌, ◌+◌, ◌++◌, ◌≤◌, ◌<◌, ◌^◌, length};
 ghost use Rattle.output.specs.Put.{Put};
 ghost use Rattle.output.specs.Decimal.{decimal};
 ghost use Rattle.rules.specs.Limits.{longest_line};
@@ -15,23 +15,7 @@ const COLUMN: usize = 8;
 fn digits(n: usize) -> usize
     ensures { result ≡ length (decimal n) }
 {
-    let mut rest = n;
-    let mut k = 1;
-    while 10 <= rest {
-        rest = rest / 10;
-        k += 1;
-    }
-    k
-}
-
-// How much more a is than b, or 0.
-fn beyond(a: usize, b: usize) -> usize
-    ensures { result ≡ a - b }
-{
-    if a < b {
-        return 0;
-    }
-    a - b
+    n.max(1).ilog10() as usize + 1
 }
 
 // A number that ends its column.
@@ -41,37 +25,40 @@ fn put_column(out: &mut [u8], at: usize, n: usize) -> usize
         × (result ≤ at + 28) }
 {
     let blanks = [b' '; COLUMN];
-    let gap = beyond(COLUMN, digits(n));
+    let gap = COLUMN.saturating_sub(digits(n));
     put_field(out, at, &blanks[..gap], n)
 }
 
-fn put_task(out: &mut [u8], at: usize, place: usize, partition: usize) -> usize
-    requires { at < 2 ^ 40 }
-    ensures { Put out.old at (task_words place partition) result out.new
-        × (result ≤ at + 56) }
+// A task, and how it does.
+fn put_task(out: &mut [u8], at: usize, place: usize, partition: usize, verdict: &[u8]) -> usize
+    requires { (at < 2 ^ 40) × (length verdict.now < 2 ^ 6) }
+    ensures { Put out.old at (task_words place partition ++ verdict.now) result out.new
+        × (result ≤ at + longest_line) }
 {
     let a = put_field(out, at, b"task ", place);
-    put_field(out, a, b" partition ", partition)
+    let b = put_field(out, a, b" partition ", partition);
+    put_text(out, b, verdict)
 }
 
+#[tactic(auto, unfolding(crate::specs::Lines::passes_line))]
 pub fn put_passes(out: &mut [u8], at: usize, place: usize, partition: usize) -> usize
     requires { at < 2 ^ 40 }
     ensures { Put out.old at (passes_line place partition) result out.new
         × (result ≤ at + longest_line) }
 {
-    let a = put_task(out, at, place, partition);
-    put_text(out, a, b" passes\n")
+    put_task(out, at, place, partition, b" passes\n")
 }
 
+#[tactic(auto, unfolding(crate::specs::Lines::fails_line))]
 pub fn put_fails(out: &mut [u8], at: usize, place: usize, partition: usize) -> usize
     requires { at < 2 ^ 40 }
     ensures { Put out.old at (fails_line place partition) result out.new
         × (result ≤ at + longest_line) }
 {
-    let a = put_task(out, at, place, partition);
-    put_text(out, a, b" fails\n")
+    put_task(out, at, place, partition, b" fails\n")
 }
 
+#[tactic(auto, unfolding(crate::specs::Lines::names_line))]
 pub fn put_names(out: &mut [u8], at: usize) -> usize
     requires { at < 2 ^ 40 }
     ensures { Put out.old at names_line result out.new
@@ -92,7 +79,7 @@ fn put_columns(out: &mut [u8], at: usize, point: usize, needs: usize, has: usize
     let a = put_column(out, at, point);
     let b = put_column(out, a, needs);
     let c = put_column(out, b, has);
-    put_column(out, c, beyond(needs, has))
+    put_column(out, c, needs.saturating_sub(has))
 }
 
 // The wall ticks of the worst stretch, as many as the point says.
@@ -102,17 +89,14 @@ fn put_window(out: &mut [u8], at: usize, start: usize, point: usize) -> usize
         × (result ≤ at + 47) }
 {
     let a = put_field(out, at, b"   ", start);
-    put_field(out, a, b" to ", beyond(start + point, 1))
+    put_field(out, a, b" to ", (start + point).saturating_sub(1))
 }
 
-fn put_mark(out: &mut [u8], at: usize, tightest: bool) -> usize
-    requires { at < 2 ^ 42 }
-    ensures { Put out.old at (mark tightest) result out.new }
+// How a point's line ends.
+fn mark(tightest: bool) -> &'static [u8]
+    ensures { (result.now ≡ mark tightest) × (length result.now < 2 ^ 5) }
 {
-    if tightest {
-        return put_text(out, at, b"  <- tightest\n");
-    }
-    put_text(out, at, b"\n")
+    if tightest { b"  <- tightest\n" } else { b"\n" }
 }
 
 // A point's line.
@@ -131,7 +115,7 @@ pub fn put_row(
 {
     let a = put_columns(out, at, point, needs, has);
     let b = put_window(out, a, start, point);
-    put_mark(out, b, point == tightest)
+    put_text(out, b, mark(point == tightest))
 }
 
 fn put_tick(out: &mut [u8], at: usize, tick: usize, needs: usize, has: usize) -> usize
@@ -151,7 +135,7 @@ pub fn put_spare(out: &mut [u8], at: usize, tick: usize, needs: usize, has: usiz
         × (result ≤ at + longest_line) }
 {
     let a = put_tick(out, at, tick, needs, has);
-    let b = put_field(out, a, b": ", beyond(has, needs));
+    let b = put_field(out, a, b": ", has.saturating_sub(needs));
     put_text(out, b, b" to spare\n")
 }
 
@@ -169,7 +153,7 @@ pub fn put_short(
         × (result ≤ at + longest_line) }
 {
     let a = put_tick(out, at, tick, needs, has);
-    let b = put_field(out, a, b": ", beyond(needs, has));
+    let b = put_field(out, a, b": ", needs.saturating_sub(has));
     let c = put_field(out, b, b" short; the worst stretch starts at tick ", start);
     put_text(out, c, b"\n")
 }

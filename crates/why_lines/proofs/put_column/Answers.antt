@@ -6,4 +6,4 @@ use borrow.Author.Rules.{rules}
 use Rattle.why_lines.proofs.put_column.Goals as goal
 
 pub returns : goal.returns
-returns c = let l = length-take-le {A = ℕ} c.beyond-gap.result (replicate 8 32) (search rules) in (rw (padded_is c.args.n c.digits.result c.beyond-gap.result c.digits.ensures c.beyond-gap.ensures) at c.put_field.ensures.0, search rules)
+returns c = let l = length-take-le {A = ℕ} c.saturating_sub-gap.result (replicate 8 32) (search rules) in (rw (padded_is c.args.n c.digits.result c.saturating_sub-gap.result c.digits.ensures c.saturating_sub-gap.ensures) at c.put_field.ensures.0, search rules)

@@ -6,4 +6,4 @@ use Rattle.why_lines.proofs.put_spare.Goals as goal
 
 pub returns : goal.returns
 unfolding spare_line
-returns c = within (and_then (and_then c.put_tick-a.ensures.0 (rw c.beyond.ensures at c.put_field-b.ensures.0)) c.put_text.ensures) (spare_long c.args.tick c.args.needs c.args.has (search rules) (search rules) (search rules))
+returns c = within (and_then (and_then c.put_tick-a.ensures.0 (rw c.saturating_sub.ensures at c.put_field-b.ensures.0)) c.put_text.ensures) (spare_long c.args.tick c.args.needs c.args.has (search rules) (search rules) (search rules))

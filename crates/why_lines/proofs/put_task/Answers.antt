@@ -5,4 +5,4 @@ use Rattle.why_lines.proofs.put_task.Goals as goal
 
 pub returns : goal.returns
 unfolding task_words
-returns c = (and_then c.put_field-a.ensures.0 c.put_field.ensures.0, search rules)
+returns c = let p = c.put_text.ensures.place in (and_then (and_then c.put_field-a.ensures.0 c.put_field-b.ensures.0) c.put_text.ensures, search rules)
