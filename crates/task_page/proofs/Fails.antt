@@ -1,20 +1,23 @@
 -- What is said of a failing task, at the numbers that the code holds. Assumes nothing.
 use Prim.Native.Nat.{ℕ, suc, ◌+◌, ◌-◌, ◌*◌, ◌≤◌, ◌<◌}
 use mathlib.Core.Path.{◌≡◌, refl, ◌∙◌}
+use mathlib.Core.Bool.{Bool, true, false}
 use mathlib.Core.List.{List, ◌++◌}
 use native.Mathlib.Numerals.{add-one}
 use native.Mathlib.Omega.{arith}
+use lib.Dec.{leb}
 use lib.ListN.{length, drop}
 use borrow.Author.Tests.{lt-ltb, le-ltb}
 use Rattle.rules.specs.Limits.{longest, row_width}
-use Rattle.rules.specs.Walk.{count, first_least}
+use Rattle.rules.specs.Walk.{pick, count, first_least}
+use Rattle.task_demand.specs.Inner.{in_time}
 use Rattle.rules.specs.Table.{budget, deadline}
 use Rattle.rules.specs.declared.Rule.{Rule}
 use Rattle.rules.specs.Terms.{rule_in}
 use Rattle.rules.specs.declared.Terms.{Terms}
 use Rattle.rules.specs.declared.Refusal.{Refusal}
 use Rattle.rules.specs.declared.Refusal.TheVariants.{Output}
-use Rattle.std.specs.Prelude.{Result, Ok, Err}
+use Rattle.std.specs.Prelude.{Option, None, Some, Result, Ok, Err}
 use Rattle.tables.proofs.Chain.{within}
 use Rattle.rules.proofs.Sum.{count_ext}
 use Rattle.rules.proofs.FirstLeast.{first-least_ext}
@@ -25,7 +28,7 @@ use Rattle.theory.specs.Task.{task_load, task_point}
 use Rattle.theory.specs.Inner.{least_for}
 use Rattle.theory.proofs.Tasks.{task_last}
 use Rattle.task_verdict.specs.Verdict.{answerable_of, pass_at}
-use Rattle.task_verdict.proofs.Orders.{is_pass, is_fail, judged_refused, answerable, answer}
+use Rattle.task_verdict.proofs.Orders.{judged_refused, answerable, answer}
 use Rattle.task_page.specs.declared.Paged.{Paged}
 use Rattle.task_page.specs.declared.Paged.TheVariants.{Pass, Fail}
 use Rattle.task_page.specs.Page.{rows_of, points_of, tightest_of, shortage_of, fail_of, paged_by, page_of}
@@ -70,12 +73,21 @@ rows_left rule plan ts i n en h p =
 
 -- ---- and of any task
 
-module _ (rule : Rule) (plan ts : List ℕ) (i t d : ℕ) (failing : Result Paged Refusal) (et : t ≡ task_point rule plan ts i) (ed : d ≡ deadline ts i) where
-  pub paged_pass : t ≤ d → Ok (Pass t) ≡ paged_by (pass_at (deadline ts i) (task_point rule plan ts i)) failing
-  paged_pass l = rw (← et, ← ed, is_pass d t l)
+-- what the search for a point finds decides
+module _ (d t e u : ℕ) (failing : Result Paged Refusal) (found : Option ℕ) (f : found ≡ in_time e u) (ed : e ≡ d) (et : u ≡ t) where
+  decides : paged_by (Ok found) failing ≡ paged_by (pass_at d t) failing
+  unfolding pass_at in_time
+  decides = rw (f, ed, et) (go (leb t d))
+    where
+      go : (b : Bool) → paged_by (Ok (pick b (Some t) None)) failing ≡ paged_by (pick b (Ok (Some t)) (Ok None)) failing
+      go true = refl
+      go false = refl
 
-  pub paged_fail : (r : Result Paged Refusal) → d < t → r ≡ failing → r ≡ paged_by (pass_at (deadline ts i) (task_point rule plan ts i)) failing
-  paged_fail r l e = rw (← et, ← ed, is_fail d t l) e
+  pub paged_pass : (p : ℕ) → found ≡ Some p → Ok (Pass p) ≡ paged_by (pass_at d t) failing
+  paged_pass p e = rw e at decides
+
+  pub paged_fail : (r : Result Paged Refusal) → found ≡ None → r ≡ failing → r ≡ paged_by (pass_at d t) failing
+  paged_fail r e g = g ∙ rw e at decides
 
 module _ (terms : Terms) (plan ps ts : List ℕ) (place room : ℕ) where
   pub paged_refused : (r : Refusal) → answerable_of terms plan ps ts place ≡ Err r → Err r ≡ page_of terms plan ps ts place room

@@ -1,11 +1,11 @@
 -- By the lists: how many points, and the tightest of them. Assumes nothing.
-use Prim.Native.Nat.{ℕ, ◌+◌, ◌-◌, ◌≤◌}
+use Prim.Native.Nat.{ℕ, ◌+◌, ◌≤◌}
 use mathlib.Core.Path.{◌≡◌, refl, sym, ◌∙◌}
-use mathlib.Core.Bool.{Bool, false, ◌&&◌}
+use mathlib.Core.Bool.{Bool, true, false, ◌&&◌}
+use Rattle.std.specs.Int.{from_bool}
 use mathlib.Core.List.{List}
 use native.Mathlib.Omega.{arith}
 use lib.Dec.{leb}
-use lib.ListN.{get_or}
 use borrow.Author.Tests.{le-leb, lt-leb}
 use Rattle.rules.specs.Walk.{pick, only, count, first_least}
 use Rattle.rules.proofs.Sum.{count-zero, count_more}
@@ -13,6 +13,12 @@ use Rattle.rules.proofs.FirstLeast.{FirstFrom, from_end, from_more, from_all, fi
 use Rattle.task_points.specs.Inner.{point_at}
 use Rattle.task_points.proofs.Points.{at_deadline}
 use Rattle.task_page.specs.Inner.{point_in, short_in}
+
+-- a test as a number
+as_only : (b : Bool) → from_bool b ≡ only b 1
+unfolding only
+as_only true = refl
+as_only false = refl
 
 module _ (asks : List ℕ) (d : ℕ) where
   none_at_0 : point_in asks d 0 ≡ false
@@ -27,8 +33,8 @@ module _ (asks : List ℕ) (d : ℕ) where
   unfolding only
   count_1 = sym (count_more (point_in asks d) 0 ∙ rw (count-zero (point_in asks d), none_at_0))
 
-  pub count_turn : (n m t : ℕ) (b : Bool) → 1 ≤ t → n ≡ count (point_in asks d) t → b ≡ point_at asks d t → m ≡ only b 1 → n + m ≡ count (point_in asks d) (t + 1)
-  count_turn n m t b l en eb em = rw (count_more (point_in asks d) t, from_1 t l, ← eb, ← en, em)
+  pub count_turn : (n m t : ℕ) (b : Bool) → 1 ≤ t → n ≡ count (point_in asks d) t → b ≡ point_at asks d t → m ≡ from_bool b → n + m ≡ count (point_in asks d) (t + 1)
+  count_turn n m t b l en eb em = rw (count_more (point_in asks d) t, from_1 t l, ← eb, ← en, em, as_only b)
 
   module _ (curve : List ℕ) (c : ℕ) where
     pub tight_end : 1 ≤ d → FirstFrom (point_in asks d) (short_in curve asks c) d (d + 1) d
@@ -40,11 +46,3 @@ module _ (asks : List ℕ) (d : ℕ) where
 
     pub tight-all : (t n best : ℕ) → t ≡ 1 → FirstFrom (point_in asks d) (short_in curve asks c) t n best → best ≡ first_least (point_in asks d) (short_in curve asks c) n
     tight-all t n best e w = sym (first-least_is _ _ n best (from_all _ _ n best none_at_0 (rw e at w)))
-
-module _ (curve asks : List ℕ) (c t needs has : ℕ) (en : needs ≡ c + get_or asks t 0) (eh : has ≡ get_or curve t 0) where
-  pub is_short : needs - has ≡ short_in curve asks c t
-  unfolding short_in
-  is_short = rw (en, eh)
-
-  pub none-short : needs ≤ has → 0 ≡ short_in curve asks c t
-  none-short h = let z : needs - has ≡ 0 = omega arith in sym z ∙ is_short

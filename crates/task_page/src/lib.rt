@@ -16,7 +16,6 @@ ghost use Rattle.task_page.specs.Inner.{point_in, short_in, Ready};
 
 use plan_service::worst_start;
 use rules::limits::ROW_WIDTH;
-use rules::numbers::{wide, wide32};
 use rules::{Refusal, Rule, Terms};
 use task_demand::TICKS;
 use task_points::point_at;
@@ -38,12 +37,10 @@ fn points_in(asks: &[u32], d: u16) -> usize
     requires { d < length asks.now }
     ensures { (result ≤ d) × (result ≡ count (point_in asks.now d) (d + 1)) }
 {
-    let end = wide(d);
+    let end = usize::from(d);
     let mut n = 0;
-    let mut t = 1;
-    while t <= end {
-        n = n + rules::numbers::one_if(point_at(asks, end, t));
-        t += 1;
+    for t in 1..end + 1 {
+        n += usize::from(point_at(asks, end, t));
     }
     n
 }
@@ -53,9 +50,8 @@ fn short_in(curve: &[u32], asks: &[u32], c: u16, t: usize) -> usize
     requires { (t < length curve.now) × (t < length asks.now) }
     ensures { result ≡ short_in curve.now asks.now c t }
 {
-    let needs = wide(c) + wide32(asks[t]);
-    let has = wide32(curve[t]);
-    if has < needs { needs - has } else { 0 }
+    let needs = usize::from(c) + asks[t] as usize;
+    needs.saturating_sub(curve[t] as usize)
 }
 
 // Of a point and a lower tick the tighter point: on equals the lower.
@@ -80,11 +76,9 @@ fn tightest_in(curve: &[u32], asks: &[u32], c: u16, d: u16) -> usize
     ensures { (result ≤ d) × (result ≡ first_least (point_in asks.now d)
         (short_in curve.now asks.now c) (d + 1)) }
 {
-    let end = wide(d);
+    let end = usize::from(d);
     let mut best = end;
-    let mut t = end;
-    while 1 < t {
-        t -= 1;
+    for t in (1..end).rev() {
         best = tighter(curve, asks, c, end, t, best);
     }
     best
@@ -124,11 +118,13 @@ fn put_point(
     requires in_reach { (1 ≤ t) × (t ≤ deadline tasks.now i) × (at < 2 ^ 32) }
     ensures { Put rows.old at (row_at rule plan.now tasks.now i t) result rows.new }
 {
-    if point_at(asks, wide(rules::records::deadline(tasks, i)), t) {
-        let p = rules::records::partition(tasks, i);
-        let needs = wide(rules::records::budget(tasks, i)) + wide32(asks[t]);
-        let has = wide32(curve[t]);
-        let start = worst_start(rule, plan, wide(p), t, has);
+    let d = usize::from(rules::records::deadline(tasks, i));
+    if point_at(asks, d, t) {
+        let p = usize::from(rules::records::partition(tasks, i));
+        let c = usize::from(rules::records::budget(tasks, i));
+        let needs = c + asks[t] as usize;
+        let has = curve[t] as usize;
+        let start = worst_start(rule, plan, p, t, has);
         return put_row(rows, at, t, needs, has, start);
     }
     at
@@ -147,12 +143,10 @@ fn put_rows(
     requires { Ready rule plan.now tasks.now i curve.now asks.now }
     ensures { Put rows.old 0 (rows_of rule plan.now tasks.now i) result rows.new }
 {
-    let end = wide(rules::records::deadline(tasks, i));
+    let d = usize::from(rules::records::deadline(tasks, i));
     let mut at = 0;
-    let mut t = 1;
-    while t <= end {
+    for t in 1..d + 1 {
         at = put_point(rule, plan, tasks, i, curve, asks, t, rows, at);
-        t += 1;
     }
     at
 }
@@ -205,11 +199,10 @@ fn page_of(
     task_demand::draw_task(rule, plan, tasks, i, &mut curve, &mut asks);
     let c = rules::records::budget(tasks, i);
     let d = rules::records::deadline(tasks, i);
-    let point = task_points::point_in(&curve, &asks, c, d);
-    if point <= wide(d) {
-        return Ok(Paged::Pass(point));
+    match task_points::point_in(&curve, &asks, c, d) {
+        Some(point) => Ok(Paged::Pass(point)),
+        None => put_fail(rule, plan, tasks, i, &curve, &asks, rows),
     }
-    put_fail(rule, plan, tasks, i, &curve, &asks, rows)
 }
 
 // The page of the task at a place, counted from 1: four numbers a row, at the start of the list. A pass leaves the list as

@@ -1,11 +1,8 @@
-use Prim.Native.Nat.{◌+◌, ◌-◌, ◌≤◌, ◌<◌}
+use Prim.Native.Nat.{◌<◌}
 use mathlib.Core.Path.{◌≡◌}
 use Rattle.rules.specs.Walk.{count}
 use Rattle.task_page.specs.Inner.{point_in}
 use Rattle.task_page.proofs.points_in.Given as goal
 
 abbrev pub invariant-loop-t : goal.invariant-loop-t
-invariant-loop-t l = (1 ≤ l.t) × (l.t ≤ l.end + 1) × (l.end ≡ l.d) × (l.n < l.t) × (l.n ≡ count (point_in l.asks l.end) l.t)
-
-abbrev pub decreases-loop-t : goal.decreases-loop-t
-decreases-loop-t l = l.end + 1 - l.t
+invariant-loop-t l = (l.n < l.t) × (l.n ≡ count (point_in l.asks l.end) l.t)
