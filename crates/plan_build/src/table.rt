@@ -15,12 +15,9 @@ use rules::Terms;
 pub fn frame(parts: &[u16]) -> usize
     ensures { (result < 2 ^ 16) × (result ≡ frame parts.now) }
 {
-    let n = rules::records::partitions(parts);
     let mut h = 0;
-    let mut k = 0;
-    while k < n {
-        h = rules::numbers::larger(h, rules::numbers::wide(rules::records::cycle(parts, k)));
-        k += 1;
+    for k in 0..rules::records::partitions(parts) {
+        h = h.max(usize::from(rules::records::cycle(parts, k)));
     }
     h
 }
@@ -51,29 +48,14 @@ fn clash(parts: &[u16], k: usize, j: usize) -> bool
 fn clashes(parts: &[u16], k: usize) -> bool
     ensures { result ≡ clashes parts.now k }
 {
-    let mut j = 0;
-    while j < k {
-        if clash(parts, k, j) {
-            return true;
-        }
-        j += 1;
-    }
-    false
+    (0..k).any(|j| clash(parts, k, j))
 }
 
 // Whether any two places clash.
 pub fn unharmonic(parts: &[u16]) -> bool
     ensures { result ≡ unharmonic parts.now }
 {
-    let n = rules::records::partitions(parts);
-    let mut k = 0;
-    while k < n {
-        if clashes(parts, k) {
-            return true;
-        }
-        k += 1;
-    }
-    false
+    (0..rules::records::partitions(parts)).any(|k| clashes(parts, k))
 }
 
 // What place k wants in a frame of h ticks.
@@ -85,7 +67,7 @@ fn wanted_in(terms: Terms, parts: &[u16], h: usize, k: usize) -> usize
     if m == 0 {
         return 0;
     }
-    rules::records::wanted(terms, parts, k) * (h / rules::numbers::wide(m))
+    rules::records::wanted(terms, parts, k) * (h / usize::from(m))
 }
 
 // What all want together in it: the sum of q·H/m.
@@ -93,12 +75,9 @@ pub fn all_wanted(terms: Terms, parts: &[u16], h: usize) -> usize
     requires { (terms.granule ≤ most_granule) × (h < 2 ^ 16) × (partitions parts.now ≤ most_partitions) }
     ensures { result ≡ all_wanted (wanted terms parts.now) parts.now h }
 {
-    let n = rules::records::partitions(parts);
     let mut all = 0;
-    let mut k = 0;
-    while k < n {
-        all = all + wanted_in(terms, parts, h, k);
-        k += 1;
+    for k in 0..rules::records::partitions(parts) {
+        all += wanted_in(terms, parts, h, k);
     }
     all
 }

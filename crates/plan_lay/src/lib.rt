@@ -20,11 +20,7 @@ fn clear(out: &mut [u16], h: usize)
     requires { h ≤ length out.old }
     ensures { AsNamed idle h out.old out.new }
 {
-    let mut t = 0;
-    while t < h {
-        out[t] = 0;
-        t += 1;
-    }
+    out[..h].fill(0);
 }
 
 // One tick with `seen` idle ticks before it in its cycle: p gets it where it is idle and they are fewer than q.
@@ -58,12 +54,10 @@ fn give(out: &mut [u16], h: usize, p: u16, q: usize, m: usize)
 {
     let mut seen = 0;
     let mut at = 0;
-    let mut t = 0;
-    while t < h {
+    for t in 0..h {
         let met = give_tick(out, t, p, q, seen);
         at = rules::numbers::after(at, m);
         seen = seen_from(at, met);
-        t += 1;
     }
 }
 
@@ -76,7 +70,7 @@ fn turn(terms: Terms, parts: &[u16], out: &mut [u16], h: usize, r: usize)
 {
     let k = taken(parts, r);
     let q = rules::records::wanted(terms, parts, k);
-    let m = rules::numbers::wide(rules::records::cycle(parts, k));
+    let m = usize::from(rules::records::cycle(parts, k));
     give(out, h, (k + 1) as u16, q, m);
 }
 
@@ -88,10 +82,7 @@ pub fn lay(terms: Terms, parts: &[u16], out: &mut [u16], h: usize)
         out.old out.new }
 {
     clear(out, h);
-    let n = rules::records::partitions(parts);
-    let mut r = 0;
-    while r < n {
+    for r in 0..rules::records::partitions(parts) {
         turn(terms, parts, out, h, r);
-        r += 1;
     }
 }

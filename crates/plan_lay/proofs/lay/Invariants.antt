@@ -1,4 +1,3 @@
-use Prim.Native.Nat.{◌-◌, ◌≤◌}
 use mathlib.Core.Path.{◌≡◌}
 use lib.ListN.{length}
 use Rattle.theory.specs.Harmonic.{planned}
@@ -7,7 +6,4 @@ use Rattle.rules.specs.Inner.{AsNamed}
 use Rattle.plan_lay.proofs.lay.Given as goal
 
 abbrev pub invariant-loop-r : goal.invariant-loop-r
-invariant-loop-r l = (l.r ≤ l.n) × (length l.out ≡ length l.initial.out) × AsNamed (planned (wanted l.terms l.parts) l.parts l.r) l.h l.initial.out l.out
-
-abbrev pub decreases-loop-r : goal.decreases-loop-r
-decreases-loop-r l = l.n - l.r
+invariant-loop-r l = (length l.out ≡ length l.initial.out) × AsNamed (planned (wanted l.terms l.parts) l.parts l.r) l.h l.initial.out l.out

@@ -12,7 +12,7 @@ pub overflow_cast-k : goal.overflow_cast-k
 overflow_cast-k c = let f = c.requires in let t = taken_below c.args.parts.now c.args.r f.1 in omega (arith, c.taken-k.ensures, f.0.few, t)
 
 pub give-requires : goal.give-requires
-give-requires c = let f = c.requires in let t = taken_below c.args.parts.now c.args.r f.1 in (search rules, rw (c.wide-m.ensures, c.cycle.ensures, c.taken-k.ensures) (f.0.cycles _ t))
+give-requires c = let f = c.requires in let t = taken_below c.args.parts.now c.args.r f.1 in (search rules, rw (c.from-m.ensures, c.cycle.ensures, c.taken-k.ensures) (f.0.cycles _ t))
 
 pub returns : goal.returns
-returns c = turn_is _ _ _ _ _ _ _ _ _ _ c.taken-k.ensures c.wanted-q.ensures (c.wide-m.ensures ∙ c.cycle.ensures) c.give.ensures
+returns c = turn_is _ _ _ _ _ _ _ _ _ _ c.taken-k.ensures c.wanted-q.ensures (c.from-m.ensures ∙ c.cycle.ensures) c.give.ensures

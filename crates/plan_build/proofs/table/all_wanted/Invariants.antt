@@ -1,4 +1,4 @@
-use Prim.Native.Nat.{◌-◌, ◌*◌, ◌^◌, ◌≤◌}
+use Prim.Native.Nat.{◌*◌, ◌^◌, ◌≤◌}
 use mathlib.Core.Path.{◌≡◌}
 use Rattle.rules.specs.Walk.{sum}
 use Rattle.rules.specs.Terms.{wanted}
@@ -6,7 +6,4 @@ use Rattle.theory.specs.Inner.{wanted_in}
 use Rattle.plan_build.proofs.table.all_wanted.Given as goal
 
 abbrev pub invariant-loop-k : goal.invariant-loop-k
-invariant-loop-k l = (l.k ≤ l.n) × (l.all ≤ 2 ^ 53 * l.k) × (l.all ≡ sum (wanted_in (wanted l.terms l.parts) l.parts l.h) l.k)
-
-abbrev pub decreases-loop-k : goal.decreases-loop-k
-decreases-loop-k l = l.n - l.k
+invariant-loop-k l = (l.all ≤ 2 ^ 53 * l.k) × (l.all ≡ sum (wanted_in (wanted l.terms l.parts) l.parts l.h) l.k)

@@ -1,13 +1,14 @@
-use mathlib.Core.Path.{sym, ◌∙◌}
-use Rattle.rules.proofs.First.{first-zero, first_more, some_at}
-use borrow.Author.Rules.{rules}
+use Rattle.std.proofs.Common.{rules, ◌≡◌, false, IfSome, Some}
+use Rattle.std.specs.Option.{option_map}
+use Rattle.std.proofs.iter.runs.Sources.{ranges}
+use Rattle.rules.specs.Walk.{fails}
+use Rattle.theory.specs.Harmonic.{pairs}
+use Rattle.theory.proofs.Ranges.{at_place, any_some}
 use Rattle.plan_build.proofs.table.clashes.Goals as goal
 
-pub loop-j-init : goal.loop-j-init
-loop-j-init c = (search rules, first-zero _)
-
-pub returns-then-clash : goal.returns-then-clash
-returns-then-clash c = sym (some_at _ _ _ (search rules) (sym c.clash.ensures ∙ c.if-clash.true))
-
-pub loop-j-preserved : goal.loop-j-preserved
-loop-j-preserved c = (search rules, first_more _ _ c.loop-j.invariant.1 (sym c.clash.ensures ∙ c.if-clash.false))
+pub returns : goal.returns
+returns c = any_some _ _ _ (λ e. search (rules, ranges)) (λ e j l.
+    let item = c.any.ensures.runs.0.at j in
+    let none : IfSome item (λ x. fails (pairs c.args.parts.now c.args.k) x ≡ false) = search (rules, ranges) in
+    let is : option_map (λ y. y) item ≡ Some j = search (rules, ranges) in
+    at_place _ _ _ none is)
