@@ -8,19 +8,13 @@ ghost use Rattle.file_codec.specs.Inner.{over};
 
 use rules::limits::NUMBER_BYTES;
 
-fn byte(x: u8) -> u16
-    ensures { (result ≡ x) × (result < 256) }
-{
-    x as u16
-}
-
 // The number at place k of a body, or 0 past its end.
 pub fn number(body: &[u8], k: usize) -> u16
     ensures { result ≡ get_or (nums_of body.now) k 0 }
 {
     let n = body.len() / NUMBER_BYTES;
     if k < n {
-        return byte(body[NUMBER_BYTES * k]) * 256 + byte(body[NUMBER_BYTES * k + 1]);
+        return u16::from_be_bytes([body[NUMBER_BYTES * k], body[NUMBER_BYTES * k + 1]]);
     }
     0
 }
@@ -31,11 +25,8 @@ pub fn load(body: &[u8], table: &mut [u16])
         ≡ over (nums_of body.now)
         (min (length table.old) (length body.now / number_bytes)) table.old }
 {
-    let n = rules::numbers::smaller(table.len(), body.len() / NUMBER_BYTES);
-    let mut k = 0;
-    while k < n {
+    for k in 0..table.len().min(body.len() / NUMBER_BYTES) {
         table[k] = number(body, k);
-        k += 1;
     }
 }
 
@@ -43,8 +34,7 @@ fn put(out: &mut [u8], at: usize, x: u16)
     requires { at + 1 < length out.old }
     ensures { out.new ≡ set (set out.old at (x / 256)) (at + 1) (x % 256) }
 {
-    out[at] = (x / 256) as u8;
-    out[at + 1] = (x % 256) as u8;
+    out[at..at + NUMBER_BYTES].copy_from_slice(&x.to_be_bytes());
 }
 
 // The bytes of a table at the start of the output; those behind them are left alone.
@@ -54,10 +44,7 @@ pub fn put_all(table: &[u16], out: &mut [u8])
         ≡ bytes_of table.now
         ++ drop (number_bytes * length table.now) out.old }
 {
-    let n = table.len();
-    let mut k = 0;
-    while k < n {
-        put(out, NUMBER_BYTES * k, table[k]);
-        k += 1;
+    for (k, x) in table.iter().enumerate() {
+        put(out, NUMBER_BYTES * k, *x);
     }
 }

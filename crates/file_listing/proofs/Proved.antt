@@ -13,7 +13,8 @@ use Rattle.rules.specs.Table.{partitions, deadline}
 use Rattle.rules.specs.Refusals.{told}
 use Rattle.rules.specs.declared.Refusal.{Refusal}
 use Rattle.rules.proofs.Tests.{pick_first}
-use Rattle.std.specs.Prelude.{Ok, Err}
+use Rattle.tables.proofs.Chain.{not_good}
+use Rattle.std.specs.Prelude.{Result, Ok, Err}
 use Rattle.theory.specs.Task.{task_load, task_point, task_tick}
 use Rattle.theory.specs.Inner.{least_for}
 use Rattle.theory.proofs.Points.{tick_at_most_point}
@@ -26,8 +27,7 @@ use Rattle.task_verdict.specs.Verdict.{pass_at, verdict_by}
 use Rattle.task_verdict.proofs.Orders.{is_pass, is_fail, answer}
 use Rattle.task_verdict.proofs.Engines as verdicts
 use Rattle.file_page.specs.Page.{task_line}
-use Rattle.file_read.specs.declared.Reading.{Reading}
-use Rattle.file_read.specs.declared.Reading.TheVariants.{Contents, Refused}
+use Rattle.file_read.specs.declared.Contents.{Contents}
 use Rattle.file_read.specs.declared.Body.TheVariants.{Partitions, Tasks}
 use Rattle.file_read.specs.Reader.{read_of, table_of}
 use Rattle.file_read.proofs.Reader.{accepted, contents-short}
@@ -37,10 +37,10 @@ use Rattle.file_listing.specs.Theorems.{plan_in, LineOfBoth, ListingFirst, Prove
 use Rattle.file_runs.proofs.Loaded.{fit}
 use Rattle.file_listing.proofs.Tables.{scanned}
 
-listed_verdict : (b : List ℕ) (ed frame np nt nr : ℕ) → read_of b ≡ Contents ed frame np nt nr → (j : ℕ) → check_of (filed ed) (plan_in b) (table_of b Partitions) ≡ (Ok tt) → j < nt
-    → Answered (filed ed) (plan_in b) (table_of b Partitions) (table_of b Tasks) (j + 1)
-listed_verdict b ed frame np nt nr e j c h = let f = fit b ed frame np nt nr e in record {
-  accepted = c;
+listed_verdict : (b : List ℕ) (c : Contents) → read_of b ≡ Ok c → (j : ℕ) → check_of (filed c.edition) (plan_in b) (table_of b Partitions) ≡ (Ok tt) → j < c.tasks
+    → Answered (filed c.edition) (plan_in b) (table_of b Partitions) (table_of b Tasks) (j + 1)
+listed_verdict b c e j a h = let f = fit b c e in record {
+  accepted = a;
   good = rw f.ticks f.good;
   from_1 = omega arith;
   listed = omega (arith, f.listed);
@@ -74,7 +74,7 @@ module _ (ed : ℕ) (plan ps ts : List ℕ) (j : ℕ) (a : Answered (filed ed) p
 scan_nine : (rule : Rule) (q : ℕ → ℕ) (plan ps : List ℕ) (r : Refusal) → scan_of rule q plan ps ≡ Err r → (told r).number ≡ 9
 unfolding scan_of
 scan_nine rule q plan ps r e =
-    let a = pick_first (ltb (short_part rule q plan ps) (partitions ps)) (Err (shortfall rule q plan ps (short_part rule q plan ps) (short_start rule q plan ps (short_part rule q plan ps)))) (Ok tt) (Err r) (λ e. let z : ◌≡◌ {A = ℕ} 0 1 = cc in absurd (omega arith)) e in
+    let a = pick_first (ltb (short_part rule q plan ps) (partitions ps)) (Err (shortfall rule q plan ps (short_part rule q plan ps) (short_start rule q plan ps (short_part rule q plan ps)))) (Ok tt) (Err r) (λ q. not_good r (sym q)) e in
     let s : shortfall rule q plan ps (short_part rule q plan ps) (short_start rule q plan ps (short_part rule q plan ps)) ≡ r = cc a.1 in
     ap (λ (x : Refusal). (told x).number) (sym s)
 
@@ -82,15 +82,15 @@ listing_first : ListingFirst
 unfolding listing_of
 listing_first b n h = step (read_of b) refl
   where
-    step : (c : Reading) → read_of b ≡ c → read_lines (read_of (take n b)) (take n b) ≡ read_lines (read_of b) b
-    step (Refused x) e = rw ((reader.proved).read_first b n h, e)
-    step (Contents ed f np nt nr) e = rw (take_all n b (omega (arith, contents-short b ed f np nt nr (accepted b ed f np nt nr e).contents)))
+    step : (k : Result Contents Refusal) → read_of b ≡ k → read_lines (read_of (take n b)) (take n b) ≡ read_lines (read_of b) b
+    step (Err x) e = rw ((reader.proved).read_first b n h, e)
+    step (Ok c) e = rw (take_all n b (omega (arith, contents-short b c (accepted b c e).contents)))
 
 pub proved : Proved
 proved = record {
-  listing_counts = λ b ed frame np nt nr e. ((fit b ed frame np nt nr e).ticks, (fit b ed frame np nt nr e).parts, (fit b ed frame np nt nr e).listed);
-  listing_verdicts = λ b ed frame np nt nr j e c h. listed-line ed (plan_in b) (table_of b Partitions) (table_of b Tasks) j (listed_verdict b ed frame np nt nr e j c h);
-  only_nine = λ b ed frame np nt nr r e c. scan_nine (rule_of ed) (wanted (filed ed) (table_of b Partitions)) (plan_in b) (table_of b Partitions) r (sym (scanned b ed frame np nt nr e) ∙ c);
+  listing_counts = λ b c e. ((fit b c e).ticks, (fit b c e).parts, (fit b c e).listed);
+  listing_verdicts = λ b c j e a h. listed-line c.edition (plan_in b) (table_of b Partitions) (table_of b Tasks) j (listed_verdict b c e j a h);
+  only_nine = λ b c r e a. scan_nine (rule_of c.edition) (wanted (filed c.edition) (table_of b Partitions)) (plan_in b) (table_of b Partitions) r (sym (scanned b c e) ∙ a);
   listing_first = listing_first;
   listing_one = λ b out o o' r r' e f. (e.0 ∙ sym f.0, e.1 ∙ sym f.1);
 }

@@ -8,13 +8,13 @@ use borrow.Author.Tests.{lt-ltb, le-ltb}
 use Rattle.rules.specs.Walk.{Every}
 use Rattle.rules.specs.Table.{partitions, good_tick}
 use Rattle.tables.specs.Tables.{GoodTables}
+use Rattle.rules.specs.declared.Refusal.{Refusal}
 use Rattle.rules.specs.declared.Refusal.TheVariants.{Tick, Output}
 use Rattle.tables.proofs.Chain.{good-lowest, without_tasks, unless_good_lem}
-use Rattle.std.specs.Prelude.{Ok, Err}
+use Rattle.std.specs.Prelude.{Result, Ok, Err}
 use Rattle.rules.specs.Terms.{filed, rule_of, wanted}
 use Rattle.plan_check.specs.Check.{scan_of, plan_check_of, check_of}
-use Rattle.file_read.specs.declared.Reading.{Reading}
-use Rattle.file_read.specs.declared.Reading.TheVariants.{Contents}
+use Rattle.file_read.specs.declared.Contents.{Contents}
 use Rattle.file_read.specs.declared.Body.TheVariants.{Partitions, Tasks, Runs}
 use Rattle.file_read.specs.Reader.{read_of, table_of}
 use Rattle.output.specs.Put.{Put}
@@ -26,31 +26,31 @@ use Rattle.file_listing.specs.Inner.{Listable}
 
 -- ---- the tables
 
-module _ (b : List ℕ) (ed frame np nt nr : ℕ) (e : read_of b ≡ Contents ed frame np nt nr) where
+module _ (b : List ℕ) (c : Contents) (e : read_of b ≡ Ok c) where
   -- of the plan of a file that was read only 9 is left
-  pub scanned : check_of (filed ed) (ticks_of (table_of b Runs)) (table_of b Partitions) ≡ scan_of (rule_of ed) (wanted (filed ed) (table_of b Partitions)) (ticks_of (table_of b Runs)) (table_of b Partitions)
+  pub scanned : check_of (filed c.edition) (ticks_of (table_of b Runs)) (table_of b Partitions) ≡ scan_of (rule_of c.edition) (wanted (filed c.edition) (table_of b Partitions)) (ticks_of (table_of b Runs)) (table_of b Partitions)
   unfolding check_of plan_check_of
   scanned =
-      let f = fit b ed frame np nt nr e in
+      let f = fit b c e in
       let plan : List ℕ = ticks_of (table_of b Runs) in
       let ps : List ℕ = table_of b Partitions in
-      let g : GoodTables (filed ed) (length plan) ps [] = rw f.ticks (without_tasks frame ps (table_of b Tasks) f.good) in
+      let g : GoodTables (filed c.edition) (length plan) ps [] = rw f.ticks (without_tasks c.frame ps (table_of b Tasks) f.good) in
       let t : Every (good_tick (partitions ps) plan) (length plan) = rw (f.parts, f.ticks) f.owned in
-      unless_good_lem (filed ed) (length plan) ps [] Err (plan_check_of (rule_of ed) (wanted (filed ed) ps) plan ps) g ∙ rw (good-lowest Tick (good_tick (partitions ps) plan) (length plan) t)
+      unless_good_lem (filed c.edition) (length plan) ps [] Err (plan_check_of (rule_of c.edition) (wanted (filed c.edition) ps) plan ps) g ∙ rw (good-lowest Tick (good_tick (partitions ps) plan) (length plan) t)
 
-  pub listable : Listable ed frame (table_of b Partitions) (table_of b Tasks) (table_of b Runs)
+  pub listable : Listable c.edition c.frame (table_of b Partitions) (table_of b Tasks) (table_of b Runs)
   listable =
-      let f = fit b ed frame np nt nr e in
-      let s = sized b ed frame np nt nr e in
+      let f = fit b c e in
+      let s = sized b c e in
       record {
         records = record { few_parts = rw e s.parts_high; few_tasks = rw e s.tasks_high; good = f.good.tasks };
-        framed = framed b ed frame np nt nr e;
+        framed = framed b c e;
         judged = scanned;
       }
 
-  pub tables_listed : tables_lines ed frame (ticks_of (table_of b Runs)) (table_of b Partitions) (table_of b Tasks) ≡ listing_of b
+  pub tables_listed : tables_lines c.edition c.frame (ticks_of (table_of b Runs)) (table_of b Partitions) (table_of b Tasks) ≡ listing_of b
   unfolding listing_of
-  tables_listed = sym (ap (λ (c : Reading). read_lines c b) e)
+  tables_listed = sym (ap (λ (k : Result Contents Refusal). read_lines k b) e)
 
 -- ---- the text
 

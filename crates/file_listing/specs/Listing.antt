@@ -6,8 +6,7 @@ use Rattle.rules.specs.Filling.{left_by}
 use Rattle.rules.specs.declared.Refusal.TheVariants.{Output}
 use Rattle.rules.specs.Terms.{filed, rule_of}
 use Rattle.plan_check.specs.Check.{check_of}
-use Rattle.file_read.specs.declared.Reading.{Reading}
-use Rattle.file_read.specs.declared.Reading.TheVariants as reading
+use Rattle.file_read.specs.declared.Contents.{Contents}
 use Rattle.file_read.specs.declared.Body.TheVariants.{Partitions, Tasks, Runs}
 use Rattle.file_read.specs.Reader.{read_of, table_of}
 use Rattle.file_runs.specs.Ticks.{ticks_of}
@@ -19,9 +18,9 @@ use Rattle.rules.specs.declared.Refusal.{Refusal}
 unfoldable pub tables_lines : ℕ → ℕ → List ℕ → List ℕ → List ℕ → List ℕ
 tables_lines e frame plan ps ts = unless refused_line (check_of (filed e) plan ps) (page_of (rule_of e) frame plan ps ts)
 
-abbrev pub read_lines : Reading → List ℕ → List ℕ
-read_lines (reading.Contents e frame np nt nr) b = tables_lines e frame (ticks_of (table_of b Runs)) (table_of b Partitions) (table_of b Tasks)
-read_lines (reading.Refused r) b = refused_line r
+abbrev pub read_lines : Result Contents Refusal → List ℕ → List ℕ
+read_lines (Ok c) b = tables_lines c.edition c.frame (ticks_of (table_of b Runs)) (table_of b Partitions) (table_of b Tasks)
+read_lines (Err r) b = refused_line r
 
 -- the listing of a file's bytes
 unfoldable pub listing_of : List ℕ → List ℕ

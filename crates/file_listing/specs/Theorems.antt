@@ -10,7 +10,7 @@ use Rattle.plan_check.specs.Check.{check_of}
 use Rattle.task_verdict.specs.Verdict.{verdict_of, plain_of}
 use Rattle.file_lines.specs.Lines.{pass_line, fail_line}
 use Rattle.file_page.specs.Page.{task_line}
-use Rattle.file_read.specs.declared.Reading.TheVariants.{Contents}
+use Rattle.file_read.specs.declared.Contents.{Contents}
 use Rattle.file_read.specs.declared.Body.TheVariants.{Partitions, Tasks, Runs}
 use Rattle.file_read.specs.Reader.{read_of, table_of}
 use Rattle.file_runs.specs.Ticks.{ticks_of}
@@ -23,8 +23,8 @@ plan_in b = ticks_of (table_of b Runs)
 -- a line for the frame's ticks, each partition and each task that the contents give
 abbrev pub ListingCounts : Type 0
 ListingCounts =
-    (b : List ℕ) (e frame np nt nr : ℕ) → read_of b ≡ Contents e frame np nt nr
-    → (length (plan_in b) ≡ frame) × (partitions (table_of b Partitions) ≡ np) × (tasks (table_of b Tasks) ≡ nt)
+    (b : List ℕ) (c : Contents) → read_of b ≡ Ok c
+    → (length (plan_in b) ≡ c.frame) × (partitions (table_of b Partitions) ≡ c.partitions) × (tasks (table_of b Tasks) ≡ c.tasks)
 
 -- in edition e the line of the task at place j from 0 is that of both engines' answers: they pass at the point and the tick that it says, or both fail
 abbrev pub LineOfBoth : ℕ → List ℕ → List ℕ → List ℕ → ℕ → Type 0
@@ -36,13 +36,13 @@ LineOfBoth e plan ps ts j =
 -- in a file whose plan serves every task's line is so
 abbrev pub ListingVerdicts : Type 0
 ListingVerdicts =
-    (b : List ℕ) (e frame np nt nr j : ℕ) → read_of b ≡ Contents e frame np nt nr → check_of (filed e) (plan_in b) (table_of b Partitions) ≡ (Ok tt) → j < nt
-    → LineOfBoth e (plan_in b) (table_of b Partitions) (table_of b Tasks) j
+    (b : List ℕ) (c : Contents) (j : ℕ) → read_of b ≡ Ok c → check_of (filed c.edition) (plan_in b) (table_of b Partitions) ≡ (Ok tt) → j < c.tasks
+    → LineOfBoth c.edition (plan_in b) (table_of b Partitions) (table_of b Tasks) j
 
 -- after a good read only 9 can follow
 abbrev pub OnlyNine : Type 0
 OnlyNine =
-    (b : List ℕ) (e frame np nt nr : ℕ) (r : Refusal) → read_of b ≡ Contents e frame np nt nr → check_of (filed e) (plan_in b) (table_of b Partitions) ≡ Err r
+    (b : List ℕ) (c : Contents) (r : Refusal) → read_of b ≡ Ok c → check_of (filed c.edition) (plan_in b) (table_of b Partitions) ≡ Err r
     → (told r).number ≡ 9
 
 -- the listing of a file is that of its first bytes, where these are more than any plan file has: a program that reads one byte more than the longest

@@ -11,13 +11,12 @@ ghost use Rattle.file_listing.specs.Listing.{tables_lines, listing_of, Lists};
 ghost use Rattle.file_page.specs.Inner.{GoodRecords};
 ghost use Rattle.file_listing.specs.Inner.{Listable};
 
-use file_read::Reading;
 use file_read::load::load_file;
+use rules::Refusal;
 use rules::limits::{
     LONGEST, LONGEST_LISTING, PART_NUMBERS, PART_WIDTH, RUN_NUMBERS, RUN_WIDTH, TASK_NUMBERS,
     TASK_WIDTH,
 };
-use rules::{Filling, Finding, Refusal};
 
 // The file's tables are judged already: of the plan only 9 is left.
 fn put_checked(
@@ -36,10 +35,9 @@ fn put_checked(
         × (result ≤ longest_listing) }
 {
     let rule = rules::rule_of(edition);
-    let checked = plan_check::scan(rule, rules::filed(edition), plan, parts);
-    match checked {
-        Finding::Refused(r) => output::put_refusal(out, r),
-        Finding::Good => file_page::put_page(rule, frame, plan, parts, table, out),
+    match plan_check::scan(rule, rules::filed(edition), plan, parts) {
+        Ok(()) => file_page::put_page(rule, frame, plan, parts, table, out),
+        Err(r) => output::put_refusal(out, r),
     }
 }
 
@@ -71,34 +69,34 @@ pub fn compose(file: &[u8], out: &mut [u8]) -> usize
     let mut parts = [0u16; PART_NUMBERS];
     let mut tasks = [0u16; TASK_NUMBERS];
     let mut runs = [0u16; RUN_NUMBERS];
-    let c = load_file(file, &mut parts, &mut tasks, &mut runs);
-    match c {
-        Reading::Refused(r) => output::put_refusal(out, r),
-        Reading::Contents {
-            edition,
-            frame,
-            partitions: np,
-            tasks: nt,
-            runs: nr,
-        } => {
-            let p = PART_WIDTH * np;
-            let t = TASK_WIDTH * nt;
-            let r = RUN_WIDTH * nr;
-            put_tables(edition, frame, &parts[..p], &tasks[..t], &runs[..r], out)
+    match load_file(file, &mut parts, &mut tasks, &mut runs) {
+        Ok(c) => {
+            let p = PART_WIDTH * c.partitions;
+            let t = TASK_WIDTH * c.tasks;
+            let r = RUN_WIDTH * c.runs;
+            put_tables(
+                c.edition,
+                c.frame,
+                &parts[..p],
+                &tasks[..t],
+                &runs[..r],
+                out,
+            )
         }
+        Err(r) => output::put_refusal(out, r),
     }
 }
 
 // The listing of a file's bytes, at the start of the output. An output of LONGEST_LISTING bytes is long enough for any.
-pub fn listing(file: &[u8], out: &mut [u8]) -> Filling
+pub fn listing(file: &[u8], out: &mut [u8]) -> Result<usize, Refusal>
     ensures lists { Lists file.now out.old out.new result }
     ensures fits { length (listing_of file.now) ≤ longest_listing }
 {
     let mut page = [0u8; LONGEST_LISTING];
     let n = compose(file, &mut page);
     if out.len() < n {
-        return Filling::Refused(Refusal::Output);
+        return Err(Refusal::Output);
     }
     output::put_text(out, 0, &page[..n]);
-    Filling::Fills(n)
+    Ok(n)
 }

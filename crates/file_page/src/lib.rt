@@ -23,7 +23,7 @@ fn put_part(rule: Rule, plan: &[u16], parts: &[u16], k: usize, out: &mut [u8], a
     let m = rules::records::cycle(parts, k);
     let wanted = rules::records::wanted(rules::filed(1), parts, k);
     let least = plan_service::least_by(rule, plan, (k + 1) as u16, m as u32);
-    put_partition(out, at, k + 1, wanted, rules::numbers::wide(m), least)
+    put_partition(out, at, k + 1, wanted, usize::from(m), least)
 }
 
 fn put_parts(rule: Rule, plan: &[u16], parts: &[u16], out: &mut [u8], start: usize) -> usize
@@ -33,12 +33,9 @@ fn put_parts(rule: Rule, plan: &[u16], parts: &[u16], out: &mut [u8], start: usi
         result out.new
         × (result ≤ start + most_partitions * longest_line) }
 {
-    let n = rules::records::partitions(parts);
     let mut at = start;
-    let mut k = 0;
-    while k < n {
+    for k in 0..rules::records::partitions(parts) {
         at = put_part(rule, plan, parts, k, out, at);
-        k += 1;
     }
     at
 }
@@ -57,9 +54,9 @@ fn put_task(
         (line_by table.now points.now ticks.now j) result out.new
         × (result ≤ at + longest_line) }
 {
-    let partition = rules::numbers::wide(rules::records::partition(table, j));
+    let partition = usize::from(rules::records::partition(table, j));
     let point = points[j];
-    if rules::numbers::wide(rules::records::deadline(table, j)) < point {
+    if usize::from(rules::records::deadline(table, j)) < point {
         return put_fail(out, at, j + 1, partition);
     }
     put_pass(out, at, j + 1, partition, point, ticks[j])
@@ -80,12 +77,9 @@ fn put_lines(
         result out.new
         × (result ≤ start + most_tasks * longest_line) }
 {
-    let n = rules::records::tasks(table);
     let mut at = start;
-    let mut j = 0;
-    while j < n {
+    for j in 0..rules::records::tasks(table) {
         at = put_task(table, points, ticks, j, out, at);
-        j += 1;
     }
     at
 }

@@ -11,8 +11,9 @@ use Rattle.rules.proofs.Sum.{le-or-lt}
 use Rattle.file_codec.specs.Bytes.{part}
 use Rattle.file_codec.specs.Contents.{tasks_at, runs_at, size_of}
 use Rattle.file_tables.proofs.Chain.{sizes}
-use Rattle.file_read.specs.declared.Reading.{Reading}
-use Rattle.file_read.specs.declared.Reading.TheVariants.{Contents, Refused}
+use Rattle.std.specs.Prelude.{Result, Ok, Err}
+use Rattle.rules.specs.declared.Refusal.{Refusal}
+use Rattle.file_read.specs.declared.Contents.{Contents}
 use Rattle.file_read.specs.Reader.{contents_of, judged_by, read_of, section_of}
 use Rattle.file_read.specs.Theorems.{ReadEdition, SectionExact, SectionNone, ReadFirst, Proved}
 use Rattle.file_read.proofs.Reader.{contained, accepted, part_length, contents-short, contents-first}
@@ -28,18 +29,18 @@ parts_all b p t r l =
     rw (part-add b head_bytes (tasks_at p) (omega arith), part-add b (tasks_at p) (runs_at p t) (omega arith), part-add b (runs_at p t) (size_of p t r) (omega arith)) (take_all (size_of p t r) b (omega arith))
 
 read_edition : ReadEdition
-read_edition b ed f np nt nr e =
-    let a = accepted b ed f np nt nr e in
-    let s = sizes ed f _ _ _ a.good in
-    (sym (contained b ed f np nt nr a.contents).edition, s.edition_low, s.edition_high)
+read_edition b c e =
+    let a = accepted b c e in
+    let s = sizes c.edition c.frame _ _ _ a.good in
+    (sym (contained b c a.contents).edition, s.edition_low, s.edition_high)
 
 section_exact : SectionExact
 unfolding section_of
-section_exact b ed f np nt nr e =
-    let l = (contained b ed f np nt nr (accepted b ed f np nt nr e).contents).long in
-    let p : ℕ = part_width * np in
-    let t : ℕ = task_width * nt in
-    let r : ℕ = run_width * nr in
+section_exact b c e =
+    let l = (contained b c (accepted b c e).contents).long in
+    let p : ℕ = part_width * c.partitions in
+    let t : ℕ = task_width * c.tasks in
+    let r : ℕ = run_width * c.runs in
     rw e (
       parts_all b p t r l,
       part_length b head_bytes (tasks_at p) (omega arith) (omega arith) ∙ omega arith,
@@ -55,9 +56,9 @@ read_first : ReadFirst
 unfolding read_of
 read_first b n h = by_length (le-or-lt (length b) n)
   where
-    long : n < length b → (c : Reading) → contents_of b ≡ c → judged_by c (take n b) ≡ judged_by c b
-    long l (Refused x) e = refl
-    long l (Contents ed f p t r) e = absurd (omega (arith, contents-short b ed f p t r e))
+    long : n < length b → (k : Result Contents Refusal) → contents_of b ≡ k → judged_by k (take n b) ≡ judged_by k b
+    long l (Err x) e = refl
+    long l (Ok c) e = absurd (omega (arith, contents-short b c e))
 
     by_length : (length b ≤ n) ⊎ (n < length b) → judged_by (contents_of (take n b)) (take n b) ≡ judged_by (contents_of b) b
     by_length (inl l) = rw (take_all n b l)

@@ -8,19 +8,17 @@ use load::load_file;
 use rules::Refusal;
 use rules::limits::{PART_NUMBERS, RUN_NUMBERS, TASK_NUMBERS};
 
-mod contents; // contents.rt: the first 16 bytes
+mod head; // head.rt: the contents, the first 16 bytes
 pub mod load; // load.rt: the bodies as tables, judged
 
+// What the first 16 bytes say.
 #[derive(Clone, Copy)]
-pub enum Reading {
-    Contents {
-        edition: usize,
-        frame: usize,
-        partitions: usize,
-        tasks: usize,
-        runs: usize,
-    },
-    Refused(Refusal),
+pub struct Contents {
+    pub edition: usize,
+    pub frame: usize,
+    pub partitions: usize,
+    pub tasks: usize,
+    pub runs: usize,
 }
 
 #[derive(Clone, Copy)]
@@ -37,7 +35,7 @@ pub struct Stretch {
     pub end: usize,
 }
 
-pub fn read(file: &[u8]) -> Reading
+pub fn read(file: &[u8]) -> Result<Contents, Refusal>
     ensures { Reads file.now result }
 {
     let mut parts = [0u16; PART_NUMBERS];
@@ -50,7 +48,10 @@ pub fn read(file: &[u8]) -> Reading
 fn stretch_of(file: &[u8], which: Body) -> Stretch
     ensures { result ≡ body_at (read_of file.now) which }
 {
-    load::body_at(read(file), which)
+    match read(file) {
+        Ok(c) => load::body_at(c, which),
+        Err(_) => Stretch { offset: 0, end: 0 },
+    }
 }
 
 // A body of an accepted file, as a part of the file itself. Of any other file it is the empty part.

@@ -1,11 +1,11 @@
 -- What is promised of runs and ticks beyond each entry's contract. Each statement's proof is a field of `Proved`. Assumes nothing.
-use Rattle.std.specs.Prelude.{ℕ, ◌≤◌, ◌≡◌, true, List, ◌++◌, length, drop}
+use Rattle.std.specs.Prelude.{ℕ, ◌≤◌, ◌≡◌, true, List, ◌++◌, length, drop, Ok}
 use Rattle.rules.specs.Limits.{longest, run_width}
 use Rattle.rules.specs.Walk.{Every}
 use Rattle.rules.specs.Table.{good_tick}
 use Rattle.tables.specs.Tables.{counted_in}
 use Rattle.file_tables.specs.Runs.{runs, good_run}
-use Rattle.file_read.specs.declared.Reading.TheVariants.{Contents}
+use Rattle.file_read.specs.declared.Contents.{Contents}
 use Rattle.file_read.specs.declared.Body.TheVariants.{Runs}
 use Rattle.file_read.specs.Reader.{read_of, table_of}
 use Rattle.output.specs.Put.{Put}
@@ -18,20 +18,20 @@ TicksBack = (plan : List ℕ) → ticks_of (runs_of plan) ≡ plan
 
 -- the runs of the ticks of an accepted file are its runs
 abbrev pub RunsBack : Type 0
-RunsBack = (b : List ℕ) (e frame np nt nr : ℕ) → read_of b ≡ Contents e frame np nt nr → runs_of (ticks_of (table_of b Runs)) ≡ table_of b Runs
+RunsBack = (b : List ℕ) (c : Contents) → read_of b ≡ Ok c → runs_of (ticks_of (table_of b Runs)) ≡ table_of b Runs
 
 -- "lengths add up to the frame": an accepted file has as many ticks, and "an owner is 0 or a partition of the table" at each
 abbrev pub FileTicks : Type 0
 FileTicks =
-    (b : List ℕ) (e frame np nt nr : ℕ) → read_of b ≡ Contents e frame np nt nr
-    → (length (ticks_of (table_of b Runs)) ≡ frame) × Every (good_tick np (ticks_of (table_of b Runs))) frame
+    (b : List ℕ) (c : Contents) → read_of b ≡ Ok c
+    → (length (ticks_of (table_of b Runs)) ≡ c.frame) × Every (good_tick c.partitions (ticks_of (table_of b Runs))) c.frame
 
 -- what `ticks_of` leaves in an output long enough: the ticks, and the rest as it was
 abbrev pub TicksLeft : Type 0
 TicksLeft =
-    (b : List ℕ) (e frame np nt nr : ℕ) (out o : List ℕ) (r : ℕ) → read_of b ≡ Contents e frame np nt nr → frame ≤ length out
+    (b : List ℕ) (c : Contents) (out o : List ℕ) (r : ℕ) → read_of b ≡ Ok c → c.frame ≤ length out
     → Put out 0 (ticks_put (table_of b Runs)) r o
-    → (r ≡ frame) × (o ≡ ticks_of (table_of b Runs) ++ drop frame out)
+    → (r ≡ c.frame) × (o ≡ ticks_of (table_of b Runs) ++ drop c.frame out)
 
 -- the runs of a good plan are good runs: the writer does not refuse them
 abbrev pub RunsGood : Type 0

@@ -13,10 +13,8 @@ fn put_ticks(out: &mut [u16], at: usize, owner: u16, n: usize) -> usize
     requires { (at < 2 ^ 40) × (n < 2 ^ 16) }
     ensures { Put out.old at (replicate n owner) result out.new × (result ≡ at + n) }
 {
-    let mut k = 0;
-    while k < n {
-        output::put_number(out, at + k, owner);
-        k += 1;
+    for k in 0..n {
+        output::put_one(out, at + k, owner);
     }
     at + n
 }
@@ -28,17 +26,10 @@ pub fn ticks_of(runs: &[u16], out: &mut [u16]) -> usize
     if RUN_NUMBERS < runs.len() {
         return 0;
     }
-    let n = file_tables::runs(runs);
     let mut at = 0;
-    let mut k = 0;
-    while k < n {
-        at = put_ticks(
-            out,
-            at,
-            file_tables::run_owner(runs, k),
-            rules::numbers::wide(file_tables::run_length(runs, k)),
-        );
-        k += 1;
+    for k in 0..file_tables::runs(runs) {
+        let long = usize::from(file_tables::run_length(runs, k));
+        at = put_ticks(out, at, file_tables::run_owner(runs, k), long);
     }
     at
 }
@@ -58,8 +49,8 @@ fn put_run(out: &mut [u16], at: usize, owner: u16, long: u16) -> usize
     requires { at < 2 ^ 40 }
     ensures { Put out.old at (owner ∷ long ∷ []) result out.new × (result ≡ at + 2) }
 {
-    let next = output::put_number(out, at, owner);
-    output::put_number(out, next, long)
+    let next = output::put_one(out, at, owner);
+    output::put_one(out, next, long)
 }
 
 // The run that the tick t ends, if it ends one.
@@ -86,15 +77,13 @@ pub fn runs_of(plan: &[u16], out: &mut [u16]) -> usize
         return 0;
     }
     let mut at = 0;
-    let mut owner = rules::records::entry(plan, 0);
+    let mut owner = plan[0];
     let mut long = 1u16;
-    let mut k = 1;
-    while k < n {
-        let t = rules::records::entry(plan, k);
+    for k in 1..n {
+        let t = plan[k];
         at = put_ended(out, at, owner, long, t);
         long = next_long(owner, long, t);
         owner = t;
-        k += 1;
     }
     put_run(out, at, owner, long)
 }

@@ -8,16 +8,17 @@ use lib.ListN.{length}
 use lib.Dec.{ltb, leb}
 use borrow.Author.Tests.{lt-ltb, le-ltb, lt-leb, le-leb}
 use Rattle.rules.specs.Limits.{most_partitions, most_tasks, longest, newest_edition, part_width, task_width, run_width}
-use Rattle.rules.specs.Walk.{pick, fails, sum, Every}
+use Rattle.rules.specs.Walk.{pick, first, fails, sum, Every}
 use Rattle.rules.specs.Table.{partitions, tasks}
 use Rattle.rules.specs.Terms.{good_edition, filed}
 use Rattle.tables.specs.Tables.{edition_judged, in_edition, unless, GoodTables}
 use Rattle.rules.specs.declared.Refusal.{Refusal}
 use Rattle.rules.specs.declared.Refusal.TheVariants.{Edition, Limits, Partition, Task, Tick}
 use Rattle.std.specs.Prelude.{Result, Ok, Err}
+use Rattle.rules.proofs.First.{first_every}
 use Rattle.rules.proofs.Sum.{sum_more}
 use Rattle.rules.proofs.Tests.{pick_first, good-edition}
-use Rattle.tables.proofs.Chain.{not_good, both_good, lowest-good, good-lowest, counted-parts, within, tables_on, good_exactly, unless_holds, usual-not_21}
+use Rattle.tables.proofs.Chain.{not_good, both_good, lowest-good, good-lowest, lowest-found, counted-parts, within, tables_on, good_exactly, unless_holds, usual-not_21}
 use Rattle.file_tables.specs.Inner.{runs_counted, first_bad_run}
 use Rattle.file_tables.specs.Runs.{run_owner, run_length, runs, repeats, reached, good_run, runs_judged, file_tables_of}
 
@@ -67,14 +68,14 @@ run_good parts frame rs k r e h = rw (← e) h
 
 -- ---- 8
 
-module _ (parts frame : ℕ) (rs : List ℕ) (r : ℕ) (er : r ≡ first_bad_run parts frame rs) where
-  pub runs_8 : r < runs rs → Err (Tick (r + 1)) ≡ runs_judged parts frame rs
+module _ (parts frame : ℕ) (rs : List ℕ) (k : ℕ) where
+  pub runs_8 : k < runs rs → first (fails (good_run parts frame rs)) k ≡ k → fails (good_run parts frame rs) k ≡ true → Err (Tick (k + 1)) ≡ runs_judged parts frame rs
   unfolding runs_judged
-  runs_8 h = rw (← er, lt-ltb r (runs rs) h)
+  runs_8 h e f = lowest-found Tick (good_run parts frame rs) (runs rs) k h e f
 
-  pub runs_good : runs rs ≤ r → (Ok tt) ≡ runs_judged parts frame rs
+  pub runs_good : runs rs ≡ k → first (fails (good_run parts frame rs)) k ≡ k → (Ok tt) ≡ runs_judged parts frame rs
   unfolding runs_judged
-  runs_good h = rw (← er, le-ltb r (runs rs) h)
+  runs_good z e = sym (good-lowest Tick (good_run parts frame rs) (runs rs) (first_every (good_run parts frame rs) (runs rs) (rw z (omega (arith, e)))))
 
 -- ---- 2, 3, 6, 7, 8
 

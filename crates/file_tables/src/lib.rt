@@ -2,11 +2,11 @@
 #![tactic(auto)]
 
 ghost use Rattle.std.specs.Prelude.{◌≡◌, ◌<◌, ◌^◌, length};
-ghost use Rattle.file_tables.specs.Inner.{runs_counted, first_bad_run};
+ghost use Rattle.file_tables.specs.Inner.{runs_counted};
 ghost use Rattle.file_tables.specs.Runs.{run_owner, run_length, runs, reached, repeats, good_run, runs_judged, file_tables_of};
 
+use rules::Refusal;
 use rules::limits::{LONGEST, RUN_WIDTH};
-use rules::{Finding, Refusal};
 
 pub fn run_owner(table: &[u16], k: usize) -> u16
     ensures { result ≡ run_owner table.now k }
@@ -40,7 +40,7 @@ fn good_run(table: &[u16], parts: usize, frame: usize, k: usize, total: usize) -
     requires { (k < runs table.now) × (total ≡ reached table.now k) }
     ensures { result ≡ good_run parts frame table.now k }
 {
-    if parts < rules::numbers::wide(run_owner(table, k)) {
+    if parts < usize::from(run_owner(table, k)) {
         return false;
     }
     if run_length(table, k) < 1 {
@@ -58,34 +58,19 @@ fn good_run(table: &[u16], parts: usize, frame: usize, k: usize, total: usize) -
     frame <= total
 }
 
-// The first bad run, counted from 0, or how many there are.
-fn first_bad_run(table: &[u16], parts: usize, frame: usize) -> usize
-    requires { length table.now < 2 ^ 32 }
-    ensures { result ≡ first_bad_run parts frame table.now }
-{
-    let n = runs(table);
-    let mut total = 0;
-    let mut k = 0;
-    while k < n {
-        total += rules::numbers::wide(run_length(table, k));
-        if !good_run(table, parts, frame, k, total) {
-            return k;
-        }
-        k += 1;
-    }
-    n
-}
-
 // 8.
-fn judge_runs(table: &[u16], parts: usize, frame: usize) -> Finding
+fn judge_runs(table: &[u16], parts: usize, frame: usize) -> Result<(), Refusal>
     requires { length table.now < 2 ^ 32 }
     ensures { result ≡ runs_judged parts frame table.now }
 {
-    let r = first_bad_run(table, parts, frame);
-    if r < runs(table) {
-        return Finding::Refused(Refusal::Tick(r + 1));
+    let mut total = 0;
+    for k in 0..runs(table) {
+        total += usize::from(run_length(table, k));
+        if !good_run(table, parts, frame, k, total) {
+            return Err(Refusal::Tick(k + 1));
+        }
     }
-    Finding::Good
+    Ok(())
 }
 
 // Whether a table of so many numbers has as many runs as a file may have.
@@ -102,18 +87,15 @@ pub fn judge_file(
     parts: &[u16],
     tasks: &[u16],
     runs: &[u16],
-) -> Finding
+) -> Result<(), Refusal>
     ensures { result ≡ file_tables_of edition frame parts.now tasks.now runs.now }
 {
     if !rules::good_edition(edition) {
-        return Finding::Refused(Refusal::Edition);
+        return Err(Refusal::Edition);
     }
     if !runs_counted(runs.len()) {
-        return Finding::Refused(Refusal::Limits);
+        return Err(Refusal::Limits);
     }
-    let tables = tables::judge_in_edition(rules::filed(edition), frame, parts, tasks);
-    match tables {
-        Finding::Refused(r) => Finding::Refused(r),
-        Finding::Good => judge_runs(runs, rules::records::partitions(parts), frame),
-    }
+    tables::judge_in_edition(rules::filed(edition), frame, parts, tasks)?;
+    judge_runs(runs, rules::records::partitions(parts), frame)
 }

@@ -12,7 +12,7 @@ use Rattle.file_tables.specs.Runs.{runs}
 use Rattle.file_codec.specs.Contents.{tasks_at, runs_at, size_of, contents}
 use Rattle.file_codec.proofs.Bytes.{nums_of-length, nums_of-take, bytes_of-length, bytes_of-append, nums_bytes, bytes_nums}
 use Rattle.file_tables.proofs.Chain.{GoodFile, of_good, sizes}
-use Rattle.file_read.specs.declared.Reading.TheVariants.{Contents}
+use Rattle.file_read.specs.declared.Contents.{Contents}
 use Rattle.file_read.specs.declared.Body.TheVariants.{Partitions, Tasks, Runs}
 use Rattle.file_read.specs.Reader.{head_number, table_by, contents_of, read_of, table_of}
 use Rattle.file_read.proofs.Reader.{counts-good, counts_of_lem, read-counts, right, Contained, contained, accepted, part_length, parts_are, tasks_are, runs_are, read-good}
@@ -50,14 +50,14 @@ module _ (ed frame : ℕ) (ps ts rs : List ℕ) where
       rw (← bytes_of-append ns ps, ← bytes_of-append (ns ++ ps) ts, ← bytes_of-append (ns ++ ps ++ ts) rs) (nums_bytes _)
 
   -- the bodies of the file, where the contents give as many numbers as the tables have
-  module _ (np nt nr : ℕ) (ep : part_width * np ≡ length ps) (et : task_width * nt ≡ length ts) (er : run_width * nr ≡ length rs) where
-    file-parts : table_by (Contents ed frame np nt nr) (file_of ed frame ps ts rs) Partitions ≡ ps
+  module _ (c : Contents) (ep : part_width * c.partitions ≡ length ps) (et : task_width * c.tasks ≡ length ts) (er : run_width * c.runs ≡ length rs) where
+    file-parts : table_by (Ok c) (file_of ed frame ps ts rs) Partitions ≡ ps
     unfolding table_by file_of head
     file-parts =
         let bp = bytes_of-length ps in
         rw (ep, append_assoc (head ++ bytes_of ps) (bytes_of ts) (bytes_of rs), append_assoc head (bytes_of ps) (bytes_of ts ++ bytes_of rs), part_mid head (bytes_of ps) (bytes_of ts ++ bytes_of rs) 16 (tasks_at (length ps)) head_16 (omega arith)) (nums_bytes ps)
 
-    file-tasks : table_by (Contents ed frame np nt nr) (file_of ed frame ps ts rs) Tasks ≡ ts
+    file-tasks : table_by (Ok c) (file_of ed frame ps ts rs) Tasks ≡ ts
     unfolding table_by file_of head
     file-tasks =
         let bp = bytes_of-length ps in
@@ -66,7 +66,7 @@ module _ (ed frame : ℕ) (ps ts rs : List ℕ) where
         let l : length (head ++ bytes_of ps) ≡ tasks_at (length ps) = rw (length-append head (bytes_of ps)) (omega arith) in
         rw (ep, et, append_assoc (head ++ bytes_of ps) (bytes_of ts) (bytes_of rs), part_mid (head ++ bytes_of ps) (bytes_of ts) (bytes_of rs) (tasks_at (length ps)) (runs_at (length ps) (length ts)) l (omega arith)) (nums_bytes ts)
 
-    file-runs : table_by (Contents ed frame np nt nr) (file_of ed frame ps ts rs) Runs ≡ rs
+    file-runs : table_by (Ok c) (file_of ed frame ps ts rs) Runs ≡ rs
     unfolding table_by file_of head
     file-runs =
         let bp = bytes_of-length ps in
@@ -75,6 +75,10 @@ module _ (ed frame : ℕ) (ps ts rs : List ℕ) where
         let h = head_16 in
         let l : length (head ++ bytes_of ps ++ bytes_of ts) ≡ runs_at (length ps) (length ts) = simp length-append (omega arith) in
         rw (ep, et, er, drop_at (head ++ bytes_of ps ++ bytes_of ts) (bytes_of rs) (runs_at (length ps) (length ts)) l, take_all (size_for ps ts rs - runs_at (length ps) (length ts)) (bytes_of rs) (omega arith)) (nums_bytes rs)
+
+  -- what the contents say
+  abbrev said : Contents
+  said = record { edition = ed; frame = frame; partitions = partitions ps; tasks = tasks ts; runs = runs rs }
 
   module _ (g : GoodFile ed frame ps ts rs) where
     np : part_width * partitions ps ≡ length ps
@@ -86,7 +90,7 @@ module _ (ed frame : ℕ) (ps ts rs : List ℕ) where
     nr : run_width * runs rs ≡ length rs
     nr = sym (sizes ed frame ps ts rs g).runs_whole
 
-    file-contents : contents_of (file_of ed frame ps ts rs) ≡ Contents ed frame (partitions ps) (tasks ts) (runs rs)
+    file-contents : contents_of (file_of ed frame ps ts rs) ≡ Ok said
     file-contents =
         let n = file-length in
         let w : (k : ℕ) → head_number (file_of ed frame ps ts rs) k ≡ get_or (contents ed frame (length ps) (length ts) (length rs) ++ ps ++ ts ++ rs) k 0 = λ k. rw file_nums in
@@ -94,18 +98,18 @@ module _ (ed frame : ℕ) (ps ts rs : List ℕ) where
         let o = right (partitions ps) (tasks ts) in
         sym (read-counts (file_of ed frame ps ts rs) (omega arith) ed (sym (w 0)) g.tables.edition frame 16 (partitions ps) (tasks_at (part_width * partitions ps)) (tasks ts) (runs_at (part_width * partitions ps) (task_width * tasks ts)) (runs rs)
         (sym (w 1)) (sym (w 2)) (sym (w 3)) (rw np (sym (w 4))) (sym (w 5)) (rw (np, nt) (sym (w 6))) (sym (w 7))
-        (Contents ed frame (partitions ps) (tasks ts) (runs rs)) (counts-good ed (length (file_of ed frame ps ts rs)) frame 16 (partitions ps) (tasks_at (part_width * partitions ps)) (tasks ts) (runs_at (part_width * partitions ps) (task_width * tasks ts)) (runs rs) c o (length (file_of ed frame ps ts rs)) (rw (np, nt, nr) n) refl))
+        (Ok said) (counts-good ed (length (file_of ed frame ps ts rs)) frame 16 (partitions ps) (tasks_at (part_width * partitions ps)) (tasks ts) (runs_at (part_width * partitions ps) (task_width * tasks ts)) (runs rs) c o (length (file_of ed frame ps ts rs)) (rw (np, nt, nr) n) refl))
 
-    file-read : read_of (file_of ed frame ps ts rs) ≡ Contents ed frame (partitions ps) (tasks ts) (runs rs)
+    file-read : read_of (file_of ed frame ps ts rs) ≡ Ok said
     file-read =
-        read-good (file_of ed frame ps ts rs) ed frame (partitions ps) (tasks ts) (runs rs) file-contents
-        (rw (file-parts (partitions ps) (tasks ts) (runs rs) np nt nr, file-tasks (partitions ps) (tasks ts) (runs rs) np nt nr, file-runs (partitions ps) (tasks ts) (runs rs) np nt nr) g)
+        read-good (file_of ed frame ps ts rs) said file-contents
+        (rw (file-parts said np nt nr, file-tasks said np nt nr, file-runs said np nt nr) g)
 
     file-tables : (table_of (file_of ed frame ps ts rs) Partitions ≡ ps) × (table_of (file_of ed frame ps ts rs) Tasks ≡ ts) × (table_of (file_of ed frame ps ts rs) Runs ≡ rs)
     file-tables = (
-      rw file-read (file-parts (partitions ps) (tasks ts) (runs rs) np nt nr),
-      rw file-read (file-tasks (partitions ps) (tasks ts) (runs rs) np nt nr),
-      rw file-read (file-runs (partitions ps) (tasks ts) (runs rs) np nt nr),
+      rw file-read (file-parts said np nt nr),
+      rw file-read (file-tasks said np nt nr),
+      rw file-read (file-runs said np nt nr),
     )
 
 -- the file that the writer left
@@ -116,7 +120,7 @@ pub left-rest : (ed frame : ℕ) (ps ts rs out : List ℕ) (n : ℕ) → write_o
 left-rest ed frame ps ts rs out n e = rw e (drop_at (file_of ed frame ps ts rs) (drop n out) n (file-length ed frame ps ts rs ∙ sym (fit n ed frame ps ts rs (length out) e).is_size))
 
 pub read_written : (ed frame : ℕ) (ps ts rs out : List ℕ) (n : ℕ) → write_of ed frame ps ts rs (length out) ≡ Ok n
-    → (read_of (take n (written_left ed frame ps ts rs out)) ≡ Contents ed frame (partitions ps) (tasks ts) (runs rs))
+    → (read_of (take n (written_left ed frame ps ts rs out)) ≡ Ok (said ed frame ps ts rs))
     × (table_of (take n (written_left ed frame ps ts rs out)) Partitions ≡ ps)
     × (table_of (take n (written_left ed frame ps ts rs out)) Tasks ≡ ts)
     × (table_of (take n (written_left ed frame ps ts rs out)) Runs ≡ rs)
@@ -138,17 +142,17 @@ cases_8 P a b c d e f g h (suc (suc (suc (suc (suc (suc zero)))))) l = g
 cases_8 P a b c d e f g h (suc (suc (suc (suc (suc (suc (suc zero))))))) l = h
 cases_8 P a b c d e f g h (suc (suc (suc (suc (suc (suc (suc (suc k)))))))) l = absurd (omega arith)
 
-head_numbers : (b : List ℕ) (ed f np nt nr : ℕ) → Contained b ed f np nt nr → nums_of (take 16 b) ≡ contents ed f (3 * np) (4 * nt) (2 * nr)
-head_numbers b ed f np nt nr a =
+head_numbers : (b : List ℕ) (c : Contents) → Contained b c → nums_of (take 16 b) ≡ contents c.edition c.frame (3 * c.partitions) (4 * c.tasks) (2 * c.runs)
+head_numbers b c a =
     let l : 16 ≤ length b = omega (arith, a.long) in
     let n : length (take 16 b) ≡ 16 = length-take-le 16 b l in
     let m : length (nums_of (take 16 b)) ≡ 8 = omega (arith, nums_of-length (take 16 b)) in
     let w : (k : ℕ) → k < 8 → get_or (nums_of (take 16 b)) k 0 ≡ head_number b k = λ k h. nums_of-take b 16 k l (omega arith) in
-    let qp : np ≡ 3 * np / 3 = omega arith in
-    let qt : nt ≡ 4 * nt / 4 = omega arith in
-    let qr : nr ≡ 2 * nr / 2 = omega arith in
-    ext_get_or 0 (nums_of (take 16 b)) (contents ed f (3 * np) (4 * nt) (2 * nr)) m
-    (λ k h. cases_8 (λ k. get_or (nums_of (take 16 b)) k 0 ≡ get_or (contents ed f (3 * np) (4 * nt) (2 * nr)) k 0)
+    let qp : c.partitions ≡ 3 * c.partitions / 3 = omega arith in
+    let qt : c.tasks ≡ 4 * c.tasks / 4 = omega arith in
+    let qr : c.runs ≡ 2 * c.runs / 2 = omega arith in
+    ext_get_or 0 (nums_of (take 16 b)) (contents c.edition c.frame (3 * c.partitions) (4 * c.tasks) (2 * c.runs)) m
+    (λ k h. cases_8 (λ k. get_or (nums_of (take 16 b)) k 0 ≡ get_or (contents c.edition c.frame (3 * c.partitions) (4 * c.tasks) (2 * c.runs)) k 0)
     (w 0 (omega arith) ∙ a.edition) (w 1 (omega arith) ∙ a.is_frame) (w 2 (omega arith) ∙ a.parts_at) (w 3 (omega arith) ∙ a.is_np ∙ qp)
     (w 4 (omega arith) ∙ a.tasks_at_lem) (w 5 (omega arith) ∙ a.is_nt ∙ qt) (w 6 (omega arith) ∙ a.runs_at_lem) (w 7 (omega arith) ∙ a.is_nr ∙ qr) k (omega arith))
 
@@ -170,53 +174,53 @@ part-back b a n e q l small =
     let m : length (part b a e) ≡ e - a = part_length b a e (omega arith) l in
     bytes_nums (part b a e) (omega arith) (Bytes-part b a e (omega arith) l small)
 
-module _ (b : List ℕ) (ed f np nt nr : ℕ) (e : read_of b ≡ Contents ed f np nt nr) where
-  a : Contained b ed f np nt nr
-  a = contained b ed f np nt nr (accepted b ed f np nt nr e).contents
+module _ (b : List ℕ) (c : Contents) (e : read_of b ≡ Ok c) where
+  a : Contained b c
+  a = contained b c (accepted b c e).contents
 
   ps : List ℕ
-  ps = table_by (Contents ed f np nt nr) b Partitions
+  ps = table_by (Ok c) b Partitions
 
   ts : List ℕ
-  ts = table_by (Contents ed f np nt nr) b Tasks
+  ts = table_by (Ok c) b Tasks
 
   rs : List ℕ
-  rs = table_by (Contents ed f np nt nr) b Runs
+  rs = table_by (Ok c) b Runs
 
-  lp : length ps ≡ part_width * np
+  lp : length ps ≡ part_width * c.partitions
   unfolding ps
-  lp = parts_are b ed f np nt nr a.long
+  lp = parts_are b c a.long
 
-  lt : length ts ≡ task_width * nt
+  lt : length ts ≡ task_width * c.tasks
   unfolding ts
-  lt = tasks_are b ed f np nt nr a.long
+  lt = tasks_are b c a.long
 
-  lr : length rs ≡ run_width * nr
+  lr : length rs ≡ run_width * c.runs
   unfolding rs
-  lr = runs_are b ed f np nt nr a.long
+  lr = runs_are b c a.long
 
-  whole-file : Bytes b → file_of ed f ps ts rs ≡ b
+  whole-file : Bytes b → file_of c.edition c.frame ps ts rs ≡ b
   unfolding file_of ps ts rs table_by
   whole-file small =
       let l = a.long in
       let n : length (take 16 b) ≡ 16 = length-take-le 16 b (omega arith) in
       let eh : bytes_of (nums_of (take 16 b)) ≡ take 16 b = bytes_nums (take 16 b) (omega arith) (Bytes-take 16 b (omega arith) small) in
-      let ep = part-back b head_bytes (3 * np) (tasks_at (3 * np)) (omega arith) (omega arith) small in
-      let et = part-back b (tasks_at (3 * np)) (4 * nt) (runs_at (3 * np) (4 * nt)) (omega arith) (omega arith) small in
-      let er = part-back b (runs_at (3 * np) (4 * nt)) (2 * nr) (size_of (3 * np) (4 * nt) (2 * nr)) (omega arith) (omega arith) small in
-      rw (lp, lt, lr, ← head_numbers b ed f np nt nr a, eh, ep, et, er) (parts_all b (3 * np) (4 * nt) (2 * nr) l)
+      let ep = part-back b head_bytes (3 * c.partitions) (tasks_at (3 * c.partitions)) (omega arith) (omega arith) small in
+      let et = part-back b (tasks_at (3 * c.partitions)) (4 * c.tasks) (runs_at (3 * c.partitions) (4 * c.tasks)) (omega arith) (omega arith) small in
+      let er = part-back b (runs_at (3 * c.partitions) (4 * c.tasks)) (2 * c.runs) (size_of (3 * c.partitions) (4 * c.tasks) (2 * c.runs)) (omega arith) (omega arith) small in
+      rw (lp, lt, lr, ← head_numbers b c a, eh, ep, et, er) (parts_all b (3 * c.partitions) (4 * c.tasks) (2 * c.runs) l)
 
-  written_back : (room : ℕ) → length b ≤ room → write_of ed f ps ts rs room ≡ Ok (length b)
+  written_back : (room : ℕ) → length b ≤ room → write_of c.edition c.frame ps ts rs room ≡ Ok (length b)
   unfolding ps ts rs
   written_back room l =
       let n = a.long in
       let z : length b ≡ size_for ps ts rs = rw (lp, lt, lr) n in
-      sym (write-all ed f ps ts rs room (of_good ed f ps ts rs (accepted b ed f np nt nr e).good) (length b) z l)
+      sym (write-all c.edition c.frame ps ts rs room (of_good c.edition c.frame ps ts rs (accepted b c e).good) (length b) z l)
 
-pub write-back : (b : List ℕ) (ed f np nt nr : ℕ) (out : List ℕ) → Bytes b → read_of b ≡ Contents ed f np nt nr → length b ≤ length out
-    → (write_of ed f (table_of b Partitions) (table_of b Tasks) (table_of b Runs) (length out) ≡ Ok (length b))
-    × (written_left ed f (table_of b Partitions) (table_of b Tasks) (table_of b Runs) out ≡ b ++ drop (length b) out)
+pub write-back : (b : List ℕ) (c : Contents) (out : List ℕ) → Bytes b → read_of b ≡ Ok c → length b ≤ length out
+    → (write_of c.edition c.frame (table_of b Partitions) (table_of b Tasks) (table_of b Runs) (length out) ≡ Ok (length b))
+    × (written_left c.edition c.frame (table_of b Partitions) (table_of b Tasks) (table_of b Runs) out ≡ b ++ drop (length b) out)
 unfolding ps ts rs
-write-back b ed f np nt nr out small e l =
-    let w : write_of ed f (table_of b Partitions) (table_of b Tasks) (table_of b Runs) (length out) ≡ Ok (length b) = rw e (written_back b ed f np nt nr e (length out) l) in
-    (w, rw (w, e, whole-file b ed f np nt nr e small))
+write-back b c out small e l =
+    let w : write_of c.edition c.frame (table_of b Partitions) (table_of b Tasks) (table_of b Runs) (length out) ≡ Ok (length b) = rw e (written_back b c e (length out) l) in
+    (w, rw (w, e, whole-file b c e small))

@@ -5,7 +5,7 @@ use Rattle.rules.specs.Table.{partitions, tasks}
 use Rattle.rules.specs.declared.Refusal.{Refusal}
 use Rattle.file_codec.specs.Bytes.{Bytes}
 use Rattle.file_tables.specs.Runs.{runs}
-use Rattle.file_read.specs.declared.Reading.TheVariants.{Contents}
+use Rattle.file_read.specs.declared.Contents.{Contents}
 use Rattle.file_read.specs.declared.Body.TheVariants.{Partitions, Tasks, Runs}
 use Rattle.file_read.specs.Reader.{read_of, table_of}
 use Rattle.file_write.specs.Writer.{write_of, written_left, Writes}
@@ -14,7 +14,7 @@ use Rattle.file_write.specs.Writer.{write_of, written_left, Writes}
 abbrev pub ReadWrite : Type 0
 ReadWrite =
     (e frame : ℕ) (ps ts rs out : List ℕ) (n : ℕ) → write_of e frame ps ts rs (length out) ≡ Ok n
-    → (read_of (take n (written_left e frame ps ts rs out)) ≡ Contents e frame (partitions ps) (tasks ts) (runs rs))
+    → (read_of (take n (written_left e frame ps ts rs out)) ≡ Ok (record { edition = e; frame = frame; partitions = partitions ps; tasks = tasks ts; runs = runs rs }))
     × (table_of (take n (written_left e frame ps ts rs out)) Partitions ≡ ps)
     × (table_of (take n (written_left e frame ps ts rs out)) Tasks ≡ ts)
     × (table_of (take n (written_left e frame ps ts rs out)) Runs ≡ rs)
@@ -22,9 +22,9 @@ ReadWrite =
 -- writing what was read, into room enough, gives back the bytes
 abbrev pub WriteRead : Type 0
 WriteRead =
-    (b : List ℕ) (e frame np nt nr : ℕ) (out : List ℕ) → Bytes b → read_of b ≡ Contents e frame np nt nr → length b ≤ length out
-    → (write_of e frame (table_of b Partitions) (table_of b Tasks) (table_of b Runs) (length out) ≡ Ok (length b))
-    × (written_left e frame (table_of b Partitions) (table_of b Tasks) (table_of b Runs) out ≡ b ++ drop (length b) out)
+    (b : List ℕ) (c : Contents) (out : List ℕ) → Bytes b → read_of b ≡ Ok c → length b ≤ length out
+    → (write_of c.edition c.frame (table_of b Partitions) (table_of b Tasks) (table_of b Runs) (length out) ≡ Ok (length b))
+    × (written_left c.edition c.frame (table_of b Partitions) (table_of b Tasks) (table_of b Runs) out ≡ b ++ drop (length b) out)
 
 -- "Success changes only the bytes it needs; refusals 1 to 12 change no output byte."
 abbrev pub Untouched : Type 0

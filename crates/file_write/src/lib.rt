@@ -5,8 +5,8 @@ ghost use Rattle.std.specs.Prelude.{◌≡◌};
 ghost use Rattle.file_write.specs.Writer.{write_of, Writes};
 
 use put::put_file;
+use rules::Refusal;
 use rules::limits::{HEAD_BYTES, NUMBER_BYTES};
-use rules::{Filling, Finding, Refusal};
 
 mod put; // put.rt: the contents and the bodies, put into the output
 
@@ -18,20 +18,15 @@ fn write_answer(
     tasks: &[u16],
     runs: &[u16],
     room: usize,
-) -> Filling
+) -> Result<usize, Refusal>
     ensures { result ≡ write_of edition frame parts.now tasks.now runs.now room }
 {
-    let judged = file_tables::judge_file(edition, frame, parts, tasks, runs);
-    match judged {
-        Finding::Refused(r) => Filling::Refused(r),
-        Finding::Good => {
-            let size = HEAD_BYTES + NUMBER_BYTES * (parts.len() + tasks.len() + runs.len());
-            if room < size {
-                return Filling::Refused(Refusal::Output);
-            }
-            Filling::Fills(size)
-        }
+    file_tables::judge_file(edition, frame, parts, tasks, runs)?;
+    let size = HEAD_BYTES + NUMBER_BYTES * (parts.len() + tasks.len() + runs.len());
+    if room < size {
+        return Err(Refusal::Output);
     }
+    Ok(size)
 }
 
 pub fn write(
@@ -41,16 +36,11 @@ pub fn write(
     tasks: &[u16],
     runs: &[u16],
     out: &mut [u8],
-) -> Filling
+) -> Result<usize, Refusal>
     ensures { Writes edition frame parts.now tasks.now runs.now
         out.old out.new result }
 {
-    let w = write_answer(edition, frame, parts, tasks, runs, out.len());
-    match w {
-        Filling::Refused(r) => Filling::Refused(r),
-        Filling::Fills(n) => {
-            put_file(edition, frame, parts, tasks, runs, out);
-            Filling::Fills(n)
-        }
-    }
+    let size = write_answer(edition, frame, parts, tasks, runs, out.len())?;
+    put_file(edition, frame, parts, tasks, runs, out);
+    Ok(size)
 }

@@ -14,7 +14,7 @@ use Rattle.rules.specs.Terms.{rule_in}
 use Rattle.rules.specs.declared.Terms.{Terms}
 use Rattle.rules.specs.declared.Refusal.{Refusal}
 use Rattle.rules.specs.declared.Refusal.TheVariants.{Output}
-use Rattle.std.specs.Prelude.{Ok, Err}
+use Rattle.std.specs.Prelude.{Result, Ok, Err}
 use Rattle.tables.proofs.Chain.{within}
 use Rattle.rules.proofs.Sum.{count_ext}
 use Rattle.rules.proofs.FirstLeast.{first-least_ext}
@@ -27,7 +27,7 @@ use Rattle.theory.proofs.Tasks.{task_last}
 use Rattle.task_verdict.specs.Verdict.{answerable_of, pass_at}
 use Rattle.task_verdict.proofs.Orders.{is_pass, is_fail, judged_refused, answerable, answer}
 use Rattle.task_page.specs.declared.Paged.{Paged}
-use Rattle.task_page.specs.declared.Paged.TheVariants.{Pass, Fail, Refused}
+use Rattle.task_page.specs.declared.Paged.TheVariants.{Pass, Fail}
 use Rattle.task_page.specs.Page.{rows_of, points_of, tightest_of, shortage_of, fail_of, paged_by, page_of}
 use Rattle.task_page.specs.Inner.{point_in, short_in, Ready}
 use Rattle.task_page.proofs.Rows.{point_in_is, needs_is, has_is, rows-length}
@@ -53,11 +53,11 @@ module _ (rule : Rule) (plan ts : List ℕ) (i : ℕ) (curve asks : List ℕ) (w
     shortage_is h l eh = rw (← tightest_is) (eh ∙ short_is t l)
 
 module _ (rule : Rule) (plan ts : List ℕ) (i room n : ℕ) (en : n ≡ points_of ts i) where
-  pub too_short : room < row_width * n → Refused Output ≡ fail_of rule plan ts i room
+  pub too_short : room < row_width * n → Err Output ≡ fail_of rule plan ts i room
   unfolding fail_of
   too_short l = rw (← en, lt-ltb room (row_width * n) l)
 
-  pub fails_so : (t h : ℕ) → row_width * n ≤ room → t ≡ tightest_of rule plan ts i → h ≡ shortage_of rule plan ts i → Fail n t h ≡ fail_of rule plan ts i room
+  pub fails_so : (t h : ℕ) → row_width * n ≤ room → t ≡ tightest_of rule plan ts i → h ≡ shortage_of rule plan ts i → Ok (Fail n t h) ≡ fail_of rule plan ts i room
   unfolding fail_of
   fails_so t h l et eh = rw (← en, le-ltb room (row_width * n) l, et, eh)
 
@@ -70,21 +70,21 @@ rows_left rule plan ts i n en h p =
 
 -- ---- and of any task
 
-module _ (rule : Rule) (plan ts : List ℕ) (i t d : ℕ) (failing : Paged) (et : t ≡ task_point rule plan ts i) (ed : d ≡ deadline ts i) where
-  pub paged_pass : t ≤ d → Pass t ≡ paged_by (pass_at (deadline ts i) (task_point rule plan ts i)) failing
+module _ (rule : Rule) (plan ts : List ℕ) (i t d : ℕ) (failing : Result Paged Refusal) (et : t ≡ task_point rule plan ts i) (ed : d ≡ deadline ts i) where
+  pub paged_pass : t ≤ d → Ok (Pass t) ≡ paged_by (pass_at (deadline ts i) (task_point rule plan ts i)) failing
   paged_pass l = rw (← et, ← ed, is_pass d t l)
 
-  pub paged_fail : (r : Paged) → d < t → r ≡ failing → r ≡ paged_by (pass_at (deadline ts i) (task_point rule plan ts i)) failing
+  pub paged_fail : (r : Result Paged Refusal) → d < t → r ≡ failing → r ≡ paged_by (pass_at (deadline ts i) (task_point rule plan ts i)) failing
   paged_fail r l e = rw (← et, ← ed, is_fail d t l) e
 
 module _ (terms : Terms) (plan ps ts : List ℕ) (place room : ℕ) where
-  pub paged_refused : (r : Refusal) → answerable_of terms plan ps ts place ≡ Err r → Refused r ≡ page_of terms plan ps ts place room
+  pub paged_refused : (r : Refusal) → answerable_of terms plan ps ts place ≡ Err r → Err r ≡ page_of terms plan ps ts place room
   unfolding page_of
   paged_refused r e = rw (← judged_refused terms plan ps ts place task_point r e)
 
   module _ (e : answerable_of terms plan ps ts place ≡ (Ok tt)) where
     pub paged-task :
-        (r : Paged)
+        (r : Result Paged Refusal)
         → r ≡ paged_by (pass_at (deadline ts (place - 1)) (task_point (rule_in terms) plan ts (place - 1))) (fail_of (rule_in terms) plan ts (place - 1) room)
         → r ≡ page_of terms plan ps ts place room
     unfolding page_of

@@ -7,14 +7,14 @@ use mathlib.Core.List.{List, ◌++◌}
 use native.Mathlib.Omega.{arith}
 use lib.ListN.{length, get_or, drop, get_or-append}
 use Rattle.rules.specs.Limits.{row_width}
-use Rattle.rules.specs.Table.{partitions, partition, deadline, tasks}
+use Rattle.rules.specs.Table.{partitions, partition, deadline}
 use Rattle.rules.specs.Terms.{rule_in}
 use Rattle.rules.specs.declared.Terms.{Terms}
 use Rattle.rules.proofs.Named.{new_tail}
 use Rattle.rules.proofs.Sum.{le-or-lt}
 use Rattle.tables.proofs.Chain.{within}
 use Rattle.theory.specs.Plan.{least}
-use Rattle.theory.specs.Load.{demand, last_point, point, shortage, tightest}
+use Rattle.theory.specs.Load.{demand, last_point, point, shortage}
 use Rattle.theory.specs.Task.{task_load, TaskPasses}
 use Rattle.theory.specs.Inner.{least_for}
 use Rattle.theory.specs.Theorems.{TightestPoint}
@@ -27,7 +27,7 @@ use Rattle.task_verdict.specs.Verdict.{verdict_of}
 use Rattle.task_verdict.specs.Theorems.{Answered}
 use Rattle.task_verdict.proofs.Engines as verdicts
 use Rattle.task_page.specs.declared.Paged.{Paged}
-use Rattle.task_page.specs.declared.Paged.TheVariants.{Pass, Fail, Refused}
+use Rattle.task_page.specs.declared.Paged.TheVariants.{Fail}
 use Rattle.task_page.specs.Page.{rows_of, points_of, tightest_of, shortage_of, fail_of, paged_by, page_of, page_left}
 use Rattle.task_page.specs.Theorems.{PageBy, page_refused, page_pass, page-short, page_fail, PageAnswers, Row, Rows, PageRows, PageTightest, PageOne, Proved}
 use Rattle.task_page.proofs.Rows.{rows-length}
@@ -37,7 +37,7 @@ use Rattle.task_page.proofs.Listed.{At, at_front, listed}
 page_one : PageOne
 page_one terms plan ps ts place list o o' r r' a b =
     let q : r ≡ r' = a.0 ∙ sym b.0 in
-    (q, a.1 ∙ ap (λ (x : Paged). page_left x (rows_of (rule_in terms) plan ts (place - 1)) list) q ∙ sym b.1)
+    (q, a.1 ∙ ap (λ (x : Result Paged Refusal). page_left x (rows_of (rule_in terms) plan ts (place - 1)) list) q ∙ sym b.1)
 
 page_answers : PageAnswers
 unfolding page_of
@@ -61,10 +61,10 @@ record Failing (terms : Terms) (plan ps ts : List ℕ) (place room n t h : ℕ) 
   tightest : t ≡ tightest_of (rule_in terms) plan ts (place - 1)
   shortage : h ≡ shortage_of (rule_in terms) plan ts (place - 1)
 
-failing : (terms : Terms) (plan ps ts : List ℕ) (place room n t h : ℕ) → Fail n t h ≡ page_of terms plan ps ts place room → Failing terms plan ps ts place room n t h
+failing : (terms : Terms) (plan ps ts : List ℕ) (place room n t h : ℕ) → Ok (Fail n t h) ≡ page_of terms plan ps ts place room → Failing terms plan ps ts place room n t h
 failing terms plan ps ts place room n t h e = by (verdict_of terms plan ps ts place) refl (page_of terms plan ps ts place room) (page_answers terms plan ps ts place room) e
   where
-    by : (j : Result (Option ℕ) Refusal) → verdict_of terms plan ps ts place ≡ j → (r : Paged) → PageBy (rule_in terms) plan ts (place - 1) room j r → Fail n t h ≡ r → Failing terms plan ps ts place room n t h
+    by : (j : Result (Option ℕ) Refusal) → verdict_of terms plan ps ts place ≡ j → (r : Result Paged Refusal) → PageBy (rule_in terms) plan ts (place - 1) room j r → Ok (Fail n t h) ≡ r → Failing terms plan ps ts place room n t h
     by j v r (page_refused x) q = absurd (let z : ◌≡◌ {A = ℕ} 0 1 = cc in omega arith)
     by j v r (page_pass x) q = absurd (let z : ◌≡◌ {A = ℕ} 0 1 = cc in omega arith)
     by j v r (page-short l) q = absurd (let z : ◌≡◌ {A = ℕ} 0 1 = cc in omega arith)

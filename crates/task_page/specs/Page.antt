@@ -15,7 +15,7 @@ use Rattle.theory.specs.Task.{task_load}
 use Rattle.rules.specs.declared.Refusal.{Refusal}
 use Rattle.task_verdict.specs.Verdict.{verdict_of}
 use Rattle.task_page.specs.declared.Paged.{Paged}
-use Rattle.task_page.specs.declared.Paged.TheVariants.{Pass, Fail, Refused}
+use Rattle.task_page.specs.declared.Paged.TheVariants.{Pass, Fail}
 
 -- the point t, "its demand, its least service and a worst start (the lowest)"
 unfoldable pub row_of : Rule → List ℕ → List ℕ → ℕ → ℕ → List ℕ
@@ -42,33 +42,33 @@ unfoldable pub shortage_of : Rule → List ℕ → List ℕ → ℕ → ℕ
 shortage_of rule plan ts i = shortage (task_load ts) (least rule plan (partition ts i)) i (tightest_of rule plan ts i)
 
 -- of a task that fails, for a list of room numbers: "a list too short for a failing task's points is 12"
-unfoldable pub fail_of : Rule → List ℕ → List ℕ → ℕ → ℕ → Paged
+unfoldable pub fail_of : Rule → List ℕ → List ℕ → ℕ → ℕ → Result Paged Refusal
 fail_of rule plan ts i room =
-    pick (ltb room (row_width * points_of ts i)) (Refused Output) (Fail (points_of ts i) (tightest_of rule plan ts i) (shortage_of rule plan ts i))
+    pick (ltb room (row_width * points_of ts i)) (Err Output) (Ok (Fail (points_of ts i) (tightest_of rule plan ts i) (shortage_of rule plan ts i)))
 
 -- "A passing task lists nothing", and "Refusals: the verdict's": only a fail has more to say
-abbrev pub paged_by : Result (Option ℕ) Refusal → Paged → Paged
-paged_by (Ok (Some t)) failing = Pass t
+abbrev pub paged_by : Result (Option ℕ) Refusal → Result Paged Refusal → Result Paged Refusal
+paged_by (Ok (Some t)) failing = Ok (Pass t)
 paged_by (Ok None) failing = failing
-paged_by (Err r) failing = Refused r
+paged_by (Err r) failing = Err r
 
 -- what the call answers
-unfoldable pub page_of : Terms → List ℕ → List ℕ → List ℕ → ℕ → ℕ → Paged
+unfoldable pub page_of : Terms → List ℕ → List ℕ → List ℕ → ℕ → ℕ → Result Paged Refusal
 page_of terms plan ps ts place room = paged_by (verdict_of terms plan ps ts place) (fail_of (rule_in terms) plan ts (place - 1) room)
 
 -- what a list holds then: only a fail changes it, "only the bytes it needs"
-abbrev pub page_left : Paged → List ℕ → List ℕ → List ℕ
-page_left (Pass t) rows list = list
-page_left (Fail n t h) rows list = rows ++ drop (row_width * n) list
-page_left (Refused r) rows list = list
+abbrev pub page_left : Result Paged Refusal → List ℕ → List ℕ → List ℕ
+page_left (Ok (Pass t)) rows list = list
+page_left (Ok (Fail n t h)) rows list = rows ++ drop (row_width * n) list
+page_left (Err r) rows list = list
 
 -- the answer r of the call, and o what the list then holds
-abbrev pub Pages : Terms → List ℕ → List ℕ → List ℕ → ℕ → List ℕ → List ℕ → Paged → Type 0
+abbrev pub Pages : Terms → List ℕ → List ℕ → List ℕ → ℕ → List ℕ → List ℕ → Result Paged Refusal → Type 0
 Pages terms plan ps ts place list o r =
     (r ≡ page_of terms plan ps ts place (length list)) × (o ≡ page_left r (rows_of (rule_in terms) plan ts (place - 1)) list)
 
 -- 0 and the point of a pass; of a fail how many rows, the tightest point and its shortage; or the refusal
-abbrev pub told_page : Paged → Told
-told_page (Pass t) = placed 0 t
-told_page (Fail n t h) = telling 0 0 n t h
-told_page (Refused r) = told r
+abbrev pub told_page : Result Paged Refusal → Told
+told_page (Ok (Pass t)) = placed 0 t
+told_page (Ok (Fail n t h)) = telling 0 0 n t h
+told_page (Err r) = told r

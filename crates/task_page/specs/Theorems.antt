@@ -13,15 +13,15 @@ use Rattle.theory.specs.Task.{task_load}
 use Rattle.theory.specs.Theorems.{TightestPoint}
 use Rattle.task_verdict.specs.Verdict.{verdict_of}
 use Rattle.task_page.specs.declared.Paged.{Paged}
-use Rattle.task_page.specs.declared.Paged.TheVariants.{Pass, Fail, Refused}
+use Rattle.task_page.specs.declared.Paged.TheVariants.{Pass, Fail}
 use Rattle.task_page.specs.Page.{points_of, tightest_of, shortage_of, page_of, Pages}
 
 -- "A passing task lists nothing. Refusals: the verdict's; a list too short for a failing task's points is 12.": the page's answer beside the verdict's, for task i and a list of room numbers
-pub data PageBy (rule : Rule) (plan ts : List ℕ) (i room : ℕ) : Result (Option ℕ) Refusal → Paged → Type 0 where
-  page_refused : (r : Refusal) → PageBy rule plan ts i room (Err r) (Refused r)
-  page_pass : (t : ℕ) → PageBy rule plan ts i room (Ok (Some t)) (Pass t)
-  page-short : room < row_width * points_of ts i → PageBy rule plan ts i room (Ok None) (Refused Output)
-  page_fail : row_width * points_of ts i ≤ room → PageBy rule plan ts i room (Ok None) (Fail (points_of ts i) (tightest_of rule plan ts i) (shortage_of rule plan ts i))
+pub data PageBy (rule : Rule) (plan ts : List ℕ) (i room : ℕ) : Result (Option ℕ) Refusal → Result Paged Refusal → Type 0 where
+  page_refused : (r : Refusal) → PageBy rule plan ts i room (Err r) (Err r)
+  page_pass : (t : ℕ) → PageBy rule plan ts i room (Ok (Some t)) (Ok (Pass t))
+  page-short : room < row_width * points_of ts i → PageBy rule plan ts i room (Ok None) (Err Output)
+  page_fail : row_width * points_of ts i ≤ room → PageBy rule plan ts i room (Ok None) (Ok (Fail (points_of ts i) (tightest_of rule plan ts i) (shortage_of rule plan ts i)))
 
 abbrev pub PageAnswers : Type 0
 PageAnswers =
@@ -50,20 +50,20 @@ pub record Rows (rule : Rule) (plan ts : List ℕ) (i n : ℕ) (list o : List �
 
 abbrev pub PageRows : Type 0
 PageRows =
-    (terms : Terms) (plan ps ts : List ℕ) (place : ℕ) (list o : List ℕ) (n t h : ℕ) → Pages terms plan ps ts place list o (Fail n t h)
+    (terms : Terms) (plan ps ts : List ℕ) (place : ℕ) (list o : List ℕ) (n t h : ℕ) → Pages terms plan ps ts place list o (Ok (Fail n t h))
     → Rows (rule_in terms) plan ts (place - 1) n list o
 
 -- "name the point with the smallest shortage, lowest point on equals"; nowhere is it 0
 abbrev pub PageTightest : Type 0
 PageTightest =
-    (terms : Terms) (plan ps ts : List ℕ) (place room n t h : ℕ) → page_of terms plan ps ts place room ≡ Fail n t h
+    (terms : Terms) (plan ps ts : List ℕ) (place room n t h : ℕ) → page_of terms plan ps ts place room ≡ Ok (Fail n t h)
     → TightestPoint (task_load ts) (least (rule_in terms) plan (partition ts (place - 1))) (place - 1) t
     × (h ≡ shortage (task_load ts) (least (rule_in terms) plan (partition ts (place - 1))) (place - 1) t) × (1 ≤ h)
 
 -- "any two outcomes it permits are equal"
 abbrev pub PageOne : Type 0
 PageOne =
-    (terms : Terms) (plan ps ts : List ℕ) (place : ℕ) (list o o' : List ℕ) (r r' : Paged)
+    (terms : Terms) (plan ps ts : List ℕ) (place : ℕ) (list o o' : List ℕ) (r r' : Result Paged Refusal)
     → Pages terms plan ps ts place list o r → Pages terms plan ps ts place list o' r' → (r ≡ r') × (o ≡ o')
 
 pub record Proved : Type 0 where

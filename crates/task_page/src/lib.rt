@@ -17,12 +17,12 @@ ghost use Rattle.task_page.specs.Inner.{point_in, short_in, Ready};
 use plan_service::worst_start;
 use rules::limits::ROW_WIDTH;
 use rules::numbers::{wide, wide32};
-use rules::{Finding, Refusal, Rule, Terms};
+use rules::{Refusal, Rule, Terms};
 use task_demand::TICKS;
 use task_points::point_at;
 
 // What is said of a task: it passes at a point, or it fails, with so many rows, the point with the smallest shortage and
-// that shortage; or why a page is refused.
+// that shortage.
 #[derive(Clone, Copy)]
 pub enum Paged {
     Pass(usize),
@@ -31,7 +31,6 @@ pub enum Paged {
         tightest: usize,
         shortage: usize,
     },
-    Refused(Refusal),
 }
 
 // By the list: how many scheduling points a task with deadline d has.
@@ -103,10 +102,10 @@ fn put_row(
     requires { (at < 2 ^ 32) × (point < 2 ^ 32) × (demand < 2 ^ 32) × (least < 2 ^ 32) × (start < 2 ^ 32) }
     ensures { Put rows.old at (point ∷ demand ∷ least ∷ start ∷ []) result rows.new }
 {
-    let a = output::put_wide(rows, at, point as u32);
-    let b = output::put_wide(rows, a, demand as u32);
-    let c = output::put_wide(rows, b, least as u32);
-    output::put_wide(rows, c, start as u32)
+    let a = output::put_one(rows, at, point as u32);
+    let b = output::put_one(rows, a, demand as u32);
+    let c = output::put_one(rows, b, least as u32);
+    output::put_one(rows, c, start as u32)
 }
 
 // The row of task i at tick t, where that is a scheduling point, from a place on.
@@ -167,7 +166,7 @@ fn put_fail(
     curve: &[u32],
     asks: &[u32],
     rows: &mut [u32],
-) -> Paged
+) -> Result<Paged, Refusal>
     requires { Ready rule plan.now tasks.now i curve.now asks.now }
     ensures { (result ≡ fail_of rule plan.now tasks.now i (length rows.old))
         × (rows.new ≡ page_left result (rows_of rule plan.now tasks.now i) rows.old) }
@@ -176,20 +175,26 @@ fn put_fail(
     let d = rules::records::deadline(tasks, i);
     let n = points_in(asks, d);
     if rows.len() < ROW_WIDTH * n {
-        return Paged::Refused(Refusal::Output);
+        return Err(Refusal::Output);
     }
     put_rows(rule, plan, tasks, i, curve, asks, rows);
     let tightest = tightest_in(curve, asks, c, d);
     let shortage = short_in(curve, asks, c, tightest);
-    Paged::Fail {
+    Ok(Paged::Fail {
         rows: n,
         tightest,
         shortage,
-    }
+    })
 }
 
 // Of task i, in tables whose records are good: its lists are drawn once, for the verdict and for the page.
-fn page_of(rule: Rule, plan: &[u16], tasks: &[u16], i: usize, rows: &mut [u32]) -> Paged
+fn page_of(
+    rule: Rule,
+    plan: &[u16],
+    tasks: &[u16],
+    i: usize,
+    rows: &mut [u32],
+) -> Result<Paged, Refusal>
     requires { (length plan.now ≤ longest) × Judgeable tasks.now i }
     ensures { (result ≡ paged_by (pass_at (deadline tasks.now i) (task_point rule plan.now tasks.now i))
         (fail_of rule plan.now tasks.now i (length rows.old)))
@@ -202,7 +207,7 @@ fn page_of(rule: Rule, plan: &[u16], tasks: &[u16], i: usize, rows: &mut [u32]) 
     let d = rules::records::deadline(tasks, i);
     let point = task_points::point_in(&curve, &asks, c, d);
     if point <= wide(d) {
-        return Paged::Pass(point);
+        return Ok(Paged::Pass(point));
     }
     put_fail(rule, plan, tasks, i, &curve, &asks, rows)
 }
@@ -216,16 +221,11 @@ pub fn page(
     table: &[u16],
     place: usize,
     rows: &mut [u32],
-) -> Paged
+) -> Result<Paged, Refusal>
     ensures { Pages terms plan.now parts.now table.now place
         rows.old rows.new result }
 {
-    let given = task_verdict::answerable(terms, plan, parts, table, place);
-    match given {
-        Finding::Refused(r) => Paged::Refused(r),
-        Finding::Good => {
-            let rule = rules::rule_of(terms.edition);
-            page_of(rule, plan, table, place - 1, rows)
-        }
-    }
+    task_verdict::answerable(terms, plan, parts, table, place)?;
+    let rule = rules::rule_of(terms.edition);
+    page_of(rule, plan, table, place - 1, rows)
 }

@@ -80,7 +80,7 @@ seven_refused (Err r) t h g e = ap Err (by_told r t g e)
 
 -- neither 8 nor 9 is a 7
 no_seven : (c d : Bool) (t p s h w : ℕ)
-    → ¬ (unless Err (pick c (Err (Tick t)) (Ok tt)) (pick d (Err (Shortfall p s h w)) (Ok tt)) ≡ Err (Task 0))
+    → ¬ (◌≡◌ {A = Result (Unit {0}) Refusal} (unless Err (pick c (Err (Tick t)) (Ok tt)) (pick d (Err (Shortfall p s h w)) (Ok tt))) (Err (Task 0)))
 no_seven true d t p s h w e = let z : ◌≡◌ {A = ℕ} 0 1 = cc in absurd (omega arith)
 no_seven false true t p s h w e = let z : ◌≡◌ {A = ℕ} 0 1 = cc in absurd (omega arith)
 no_seven false false t p s h w e = let z : ◌≡◌ {A = ℕ} 0 1 = cc in absurd (omega arith)

@@ -47,7 +47,7 @@ module _ (terms : Terms) (plan ps ts : List ℕ) (place : ℕ) where
       let w = passes task_tick by_ticks terms plan ps ts place (a, (u, s.from_1, omega (arith, s.to_deadline, task_last ts (place - 1)), s.holds)) in
       let q = (passed_tick w.0 w.1).1 in
       let e : w.0 ≡ u = omega (arith, q.smallest u s.from_1 s.holds, s.smallest w.0 q.from_1 q.holds) in
-      w.1 ∙ ap Ok (Some e)
+      w.1 ∙ ap (λ (x : ℕ). Ok (Some x)) e
 
 pass_tick : PassTick
 pass_tick terms plan ps ts place u = (passed_tick terms plan ps ts place u, tick_passed terms plan ps ts place u)

@@ -6,7 +6,7 @@ use borrow.Author.Rules.{rules}
 use Rattle.file_read.proofs.section.Goals as goal
 
 pub slice_bounds-result-end : goal.slice_bounds-result-end
-slice_bounds-result-end c = let z = inside-read c.args.file.now c.args.which in let a : c.stretch_of-s.result.offset ≤ c.stretch_of-s.result.end = rw c.stretch_of-s.ensures z.in_order in let b : c.stretch_of-s.result.end ≤ length c.args.file.now = rw c.stretch_of-s.ensures z.in_file in search rules
+slice_bounds-result-end c = let z = inside-read c.args.file.now c.args.which in let a : c.stretch_of-s.result.offset ≤ c.stretch_of-s.result.end = rw c.stretch_of-s.ensures z.0 in let b : c.stretch_of-s.result.end ≤ length c.args.file.now = rw c.stretch_of-s.ensures z.1 in search rules
 
 pub returns : goal.returns
 unfolding section_of

@@ -7,4 +7,4 @@ use borrow.Author.Rules.{rules}
 use Rattle.file_runs.proofs.put_ticks.Goals as goal
 
 pub loop-k-preserved : goal.loop-k-preserved
-loop-k-preserved c = let e : c.args.at + (c.loop-k.k + 1) ≡ c.args.at + c.loop-k.k + 1 = omega arith in (search rules, rw (← rep_more c.loop-k.k c.args.owner) (and_then c.loop-k.invariant.1 (put_one e c.put_number.ensures.1)), search rules)
+loop-k-preserved c = let e : c.args.at + (c.loop-k.k + 1) ≡ c.args.at + c.loop-k.k + 1 = omega arith in (rw (← rep_more c.loop-k.k c.args.owner) (and_then c.loop-k.invariant.0 (put_one e c.put_one.ensures.1)), search rules)

@@ -1,4 +1,3 @@
-use Prim.Native.Nat.{◌-◌}
 use Rattle.task_page.proofs.Tight.{count_1, count_turn}
 use borrow.Author.Rules.{rules}
 use Rattle.task_page.proofs.points_in.Goals as goal

@@ -1,8 +1,6 @@
-use Prim.Native.Nat.{◌-◌}
 use mathlib.Core.Path.{refl, ◌∙◌}
 use native.Mathlib.Nat.{le_refl}
 use native.Mathlib.Omega.{arith}
-use Rattle.rules.specs.Table.{deadline}
 use Rattle.task_page.proofs.Rows.{in_lists, rows_few, rows_none, rows_more, rows_all}
 use borrow.Author.Rules.{rules}
 use Rattle.task_page.proofs.put_rows.Goals as goal

@@ -1,4 +1,4 @@
-use Prim.Native.Nat.{◌+◌, ◌-◌, ◌≤◌}
+use Prim.Native.Nat.{◌+◌, ◌≤◌}
 use mathlib.Core.Path.{◌≡◌}
 use Rattle.rules.proofs.FirstLeast.{FirstFrom}
 use Rattle.task_page.specs.Inner.{point_in, short_in}

@@ -3,14 +3,14 @@ ghost use Rattle.std.specs.Prelude.{◌≡◌, ◌<◌, ◌^◌};
 ghost use Rattle.file_read.specs.Reader.{counts_of, head_number, contents_of};
 ghost use Rattle.file_read.specs.Inner.{counts_right, offsets_right};
 
-use crate::Reading;
+use crate::Contents;
 use rules::Refusal;
 use rules::limits::{HEAD_BYTES, NUMBER_BYTES, PART_WIDTH, RUN_WIDTH, TASK_WIDTH};
 
 fn head_number(file: &[u8], k: usize) -> usize
     ensures { (result ≡ head_number file.now k) × (result < 2 ^ 16) }
 {
-    rules::numbers::wide(file_codec::number(file, k))
+    usize::from(file_codec::number(file, k))
 }
 
 fn counts_right(frame: usize, np: usize, nt: usize, nr: usize) -> bool
@@ -48,38 +48,38 @@ fn counts(
     nt: usize,
     ro: usize,
     nr: usize,
-) -> Reading
+) -> Result<Contents, Refusal>
     requires { (np < 2 ^ 16) × (nt < 2 ^ 16) × (nr < 2 ^ 16) }
     ensures { result ≡ counts_of edition long frame po np to nt ro nr }
 {
     if !counts_right(frame, np, nt, nr) {
-        return Reading::Refused(Refusal::Limits);
+        return Err(Refusal::Limits);
     }
     if !offsets_right(po, to, ro, np, nt) {
-        return Reading::Refused(Refusal::Offset);
+        return Err(Refusal::Offset);
     }
     let numbers = PART_WIDTH * np + TASK_WIDTH * nt + RUN_WIDTH * nr;
     if long != HEAD_BYTES + NUMBER_BYTES * numbers {
-        return Reading::Refused(Refusal::Length);
+        return Err(Refusal::Length);
     }
-    Reading::Contents {
+    Ok(Contents {
         edition,
         frame,
         partitions: np,
         tasks: nt,
         runs: nr,
-    }
+    })
 }
 
-pub fn contents(file: &[u8]) -> Reading
+pub fn contents(file: &[u8]) -> Result<Contents, Refusal>
     ensures { result ≡ contents_of file.now }
 {
     if file.len() < HEAD_BYTES {
-        return Reading::Refused(Refusal::Short);
+        return Err(Refusal::Short);
     }
     let edition = head_number(file, 0);
     if !rules::good_edition(edition) {
-        return Reading::Refused(Refusal::Edition);
+        return Err(Refusal::Edition);
     }
     counts(
         edition,

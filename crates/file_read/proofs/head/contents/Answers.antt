@@ -1,6 +1,6 @@
 use mathlib.Core.Path.{sym, ◌∙◌}
 use Rattle.file_read.proofs.Reader.{read_1, read_2, read-counts}
-use Rattle.file_read.proofs.contents.contents.Goals as goal
+use Rattle.file_read.proofs.head.contents.Goals as goal
 
 pub returns-then-file-lt-HEAD_BYTES : goal.returns-then-file-lt-HEAD_BYTES
 returns-then-file-lt-HEAD_BYTES c = read_1 _ c.if-file-lt-HEAD_BYTES.true

@@ -1,7 +1,7 @@
 use mathlib.Core.Path.{sym, ◌∙◌}
 use native.Mathlib.Omega.{arith}
 use Rattle.file_read.proofs.Reader.{counts_3, counts_4, counts_5, counts-good}
-use Rattle.file_read.proofs.contents.counts.Goals as goal
+use Rattle.file_read.proofs.head.counts.Goals as goal
 
 pub returns-then-not-counts_right : goal.returns-then-not-counts_right
 returns-then-not-counts_right c = counts_3 _ _ _ _ _ _ _ _ _ (sym c.counts_right.ensures ∙ c.if-not-counts_right.true)
