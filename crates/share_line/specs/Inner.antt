@@ -1,7 +1,6 @@
 -- Words that only inner contracts use: no statement and no entry's contract cites them. Assumes nothing.
 use Rattle.std.specs.Prelude.{◌≡◌, ℕ, List, Bool, true, false, ◌||◌, bytes_eq, Some, None, Result, Ok, Err}
 use Rattle.std.specs.Borrow.{Bor}
-use Rattle.rules.specs.Walk.{pick}
 use Rattle.output.specs.Text.{bytes}
 use Rattle.share_line.specs.declared.What.{What}
 use Rattle.share_line.specs.declared.What.TheVariants.{Number, Slash, End}
@@ -24,6 +23,7 @@ unfoldable pub Ends : List ℕ → Result (Unit {0}) What → Type 0
 Ends l (Ok u) = ends_at l 0 ≡ true
 Ends l (Err w) = (ends_at l 0 ≡ false) × (w ≡ End)
 
--- a row behind others: what was expected in it, where it is wrong; else whether a granule comes too late behind it
-unfoldable pub judged : Bool → Result Row What → Result Bool What
-judged closed row = pick (is_wrong closed row) (Err (what_of row)) (Ok (closes row || closed))
+-- a row behind others: whether a granule comes too late behind it, or what was expected in it, where it is wrong
+unfoldable pub Judged : Bool → Result Row What → Result Bool What → Type 0
+Judged closed row (Ok c) = (is_wrong closed row ≡ false) × (c ≡ closes row || closed)
+Judged closed row (Err w) = (is_wrong closed row ≡ true) × (w ≡ what_of row)

@@ -1,7 +1,7 @@
 // The record that a line says, or what was expected in it first.
 ghost use Rattle.std.specs.Prelude.{◌≡◌};
 ghost use Rattle.share_line.specs.Rows.{granule_row, part_row, task_row, record_of, row_of};
-ghost use Rattle.share_line.specs.Inner.{BeginsWithNumber, BeginsWithSlash, Ends, judged};
+ghost use Rattle.share_line.specs.Inner.{BeginsWithNumber, BeginsWithSlash, Ends, Judged};
 
 use crate::{Row, What};
 use share_words::numbers::first_number;
@@ -108,9 +108,9 @@ pub fn row_of(line: &[u8]) -> Result<Row, What>
 
 // What was expected in a row that is wrong behind others; else whether a granule comes too late behind it: so it was before it,
 // or the row closes it.
-#[tactic(auto, unfolding(crate::specs::Inner::judged))]
+#[tactic(auto, unfolding(crate::specs::Inner::Judged))]
 pub fn closed_behind(closed: bool, row: Result<Row, What>) -> Result<bool, What>
-    ensures { result ≡ judged closed row }
+    ensures { Judged closed row result }
 {
     match row? {
         Row::Granule(_) if closed => Err(What::EarlyGranule),

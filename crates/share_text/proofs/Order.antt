@@ -1,6 +1,6 @@
 -- Laws of lines and of what is gathered from them. Assumes nothing.
 use Prim.Native.Nat.{ℕ, suc, ◌+◌, ◌-◌, ◌≤◌, ◌<◌}
-use mathlib.Core.Path.{◌≡◌, refl, sym, ap, ◌∙◌}
+use mathlib.Core.Path.{◌≡◌, refl, sym, ap, subst, ◌∙◌}
 use mathlib.Core.Logic.{◌⊎◌, inl, inr}
 use mathlib.Core.Bool.{Bool, true, false, ◌||◌}
 use mathlib.Core.List.{List, [], ◌∷◌, ◌++◌, append-nil}
@@ -12,6 +12,7 @@ use lib.Seq.{sets, get_or-set_other, drop-length, drop-drop}
 use Rattle.share_words.proofs.WordLaws.{tail}
 use lib.Dec.{ltb}
 use borrow.Author.Tests.{lt-ltb, le-ltb, ltb-true, ltb-false}
+use Rattle.rules.specs.declared.Refusal.{Refusal}
 use Rattle.rules.specs.declared.Refusal.TheVariants.{Limits}
 use Rattle.rules.specs.Walk.{pick, first, some, gathered}
 use Rattle.rules.proofs.Sum.{le-or-lt}
@@ -19,33 +20,32 @@ use Rattle.rules.proofs.Tests.{pick_second}
 use Rattle.rules.proofs.First.{first-zero, first_more, first_at, first-none, some-none, some_at, gathered_more}
 use Rattle.output.specs.Put.{Put}
 use Rattle.output.proofs.Put.{and_then}
-use Rattle.share_words.specs.declared.Mark.TheVariants as mark
-use Rattle.share_text.specs.declared.Seen.{Seen}
-use Rattle.share_text.specs.declared.Seen.TheVariants.{Good, Line}
+use Rattle.std.specs.Prelude.{Result, Ok, Err}
+use Rattle.share_text.specs.declared.Expected.{Expected}
+use Rattle.share_text.specs.declared.Numbers.{Numbers}
+use Rattle.share_text.specs.declared.Unread.TheVariants as unread
 use Rattle.share_line.specs.declared.What.{What}
 use Rattle.share_text.specs.declared.Kind.{Kind}
 use Rattle.share_text.specs.declared.Kind.TheVariants.{Granules, Partitions, Tasks}
 use Rattle.share_line.specs.declared.Row.{Row}
-use Rattle.share_line.specs.declared.Row.TheVariants.{Nothing, Wrong}
-use Rattle.share_text.specs.declared.TableReading.{TableReading}
-use Rattle.share_text.specs.declared.TableReading.TheVariants.{Numbers, Refused}
-use Rattle.share_words.specs.Words.{found, width, word_of}
+use Rattle.share_line.specs.declared.Row.TheVariants.{Nothing}
+use Rattle.share_words.specs.Words.{newline, found, width, word_of}
 use Rattle.share_line.specs.Rows.{record_of, row_of, closes, is_wrong, what_of}
 use Rattle.share_text.specs.Table.{line_of, after_line, from_line, row_at, closes_at, closed_at, wrong_at, first_wrong, nums_in, nums_at, records_of, granule_of, longest_text, seen_of, sized_of, read_by, read_text_of}
 
 -- the line that begins at a place, and where the next one does
-pub line_is : (t : List ℕ) (at e : ℕ) → e ≡ found mark.Line (take (length t - at) (drop at t)) → take e (take (length t - at) (drop at t)) ≡ line_of (drop at t)
+pub line_is : (t : List ℕ) (at e : ℕ) → e ≡ found newline (take (length t - at) (drop at t)) → take e (take (length t - at) (drop at t)) ≡ line_of (drop at t)
 unfolding line_of
-line_is t at e h = let f : e ≡ found mark.Line (drop at t) = rw (tail at t) at h in rw (tail at t, ← f)
+line_is t at e h = let f : e ≡ found newline (drop at t) = rw (tail at t) at h in rw (tail at t, ← f)
 
-pub after-some : (t : List ℕ) (at e : ℕ) → e ≡ found mark.Line (take (length t - at) (drop at t)) → drop (at + (e + 1)) t ≡ after_line (drop at t)
+pub after-some : (t : List ℕ) (at e : ℕ) → e ≡ found newline (take (length t - at) (drop at t)) → drop (at + (e + 1)) t ≡ after_line (drop at t)
 unfolding after_line
-after-some t at e h = let f : e ≡ found mark.Line (drop at t) = rw (tail at t) at h in rw (← f) (sym (drop-drop (e + 1) at t))
+after-some t at e h = let f : e ≡ found newline (drop at t) = rw (tail at t) at h in rw (← f) (sym (drop-drop (e + 1) at t))
 
-pub after_none : (t : List ℕ) (at e : ℕ) → e ≡ found mark.Line (take (length t - at) (drop at t)) → length (take (length t - at) (drop at t)) ≤ e → drop (length t) t ≡ after_line (drop at t)
+pub after_none : (t : List ℕ) (at e : ℕ) → e ≡ found newline (take (length t - at) (drop at t)) → length (take (length t - at) (drop at t)) ≤ e → drop (length t) t ≡ after_line (drop at t)
 unfolding after_line
 after_none t at e h l =
-    let f : e ≡ found mark.Line (drop at t) = rw (tail at t) at h in
+    let f : e ≡ found newline (drop at t) = rw (tail at t) at h in
     let m : length (drop at t) ≤ e = rw (tail at t) at l in
     drop-length t ∙ sym (rw (← f) (drop_of_length-le (drop at t) {i = e + 1} (omega arith)))
 
@@ -65,12 +65,12 @@ reached-start t = record { within = omega arith; from = refl }
 pub reached-next : {t : List ℕ} {at k : ℕ} (r : ℕ) → Reached t at k → at < r → drop r t ≡ after_line (drop at t) → Reached t r (k + 1)
 reached-next {t} {at} {k} r a l e = record { within = omega (arith, a.within); from = e ∙ rw (a.from, from_more t k) }
 
-pub reached-row : {t : List ℕ} {at k : ℕ} {row : Row} → Reached t at k → row ≡ row_of (line_of (drop at t)) → row ≡ row_at t k
+pub reached-row : {t : List ℕ} {at k : ℕ} {row : Result Row What} → Reached t at k → row ≡ row_of (line_of (drop at t)) → row ≡ row_at t k
 unfolding row_at
 reached-row a e = e ∙ rw a.from
 
 -- nothing is left behind the end
-empty-row : row_of (line_of []) ≡ Nothing
+empty-row : row_of (line_of []) ≡ Ok Nothing
 unfolding row_of line_of record_of word_of width first
 empty-row = refl
 
@@ -82,7 +82,7 @@ left-empty : (t : List ℕ) (k j : ℕ) → k ≤ j → from_line t k ≡ [] →
 unfolding from_line
 left-empty t k j h e = le_ind {n = k} (λ m. from_line t m ≡ []) e (λ m l i. ap after_line i ∙ after-empty) j h
 
-row-empty : (t : List ℕ) (k j : ℕ) → k ≤ j → from_line t k ≡ [] → row_at t j ≡ Nothing
+row-empty : (t : List ℕ) (k j : ℕ) → k ≤ j → from_line t k ≡ [] → row_at t j ≡ Ok Nothing
 unfolding row_at
 row-empty t k j h e = rw (left-empty t k j h e) empty-row
 
@@ -94,16 +94,16 @@ past {t} {at} a l = sym a.from ∙ drop_of_length-le t l
 first_rest : (p : ℕ → Bool) (k n : ℕ) → k ≤ n → first p k ≡ k → ((j : ℕ) → k ≤ j → p j ≡ false) → first p n ≡ n
 first_rest p k n h e f = le_ind {n = k} (λ m. first p m ≡ m) e (λ m l i. sym (ap (first p) (add-one m)) ∙ first_more p m i (f m l) ∙ add-one m) n h
 
-pub none_wrong : {t : List ℕ} {at k : ℕ} → Reached t at k → at ≤ length t → length t ≤ at → first (wrong_at t) k ≡ k → Good ≡ seen_of t
+pub none_wrong : {t : List ℕ} {at k : ℕ} → Reached t at k → at ≤ length t → length t ≤ at → first (wrong_at t) k ≡ k → Ok tt ≡ seen_of t
 unfolding seen_of wrong_at
 none_wrong {t} {at} {k} a h l e =
     rw (first_rest (wrong_at t) k (length t) (omega (arith, a.within)) e (λ j m. rw (row-empty t k j m (past a l))), le-ltb (length t) (length t) (omega arith))
 
-pub some_wrong : (t : List ℕ) (k : ℕ) (row : Row) → k < length t → first_wrong t ≡ k → row ≡ row_at t k → Line (k + 1) (what_of row) ≡ seen_of t
+pub some_wrong : (t : List ℕ) (k : ℕ) (row : Result Row What) → k < length t → first_wrong t ≡ k → row ≡ row_at t k → Err (record { line = k + 1; what = what_of row }) ≡ seen_of t
 unfolding seen_of
 some_wrong t k row l e r = rw (e, lt-ltb k (length t) l, r)
 
-pub wrong_is : (t : List ℕ) (k : ℕ) {row : Row} {closed r b : Bool} → row ≡ row_at t k → closed ≡ closed_at t k → r ≡ is_wrong closed row → r ≡ b → wrong_at t k ≡ b
+pub wrong_is : (t : List ℕ) (k : ℕ) {row : Result Row What} {closed r b : Bool} → row ≡ row_at t k → closed ≡ closed_at t k → r ≡ is_wrong closed row → r ≡ b → wrong_at t k ≡ b
 unfolding wrong_at
 wrong_is t k e c f g = rw (← e, ← c) (sym f ∙ g)
 
@@ -124,18 +124,18 @@ some_more p k = at (p k) (some p k) refl refl
 pub closed_none : (t : List ℕ) → false ≡ closed_at t 0
 closed_none t = rw (first-zero (closes_at t)) (sym (le-ltb 0 0 (omega arith)))
 
-pub closed_more : (t : List ℕ) (k : ℕ) {row : Row} {closed r : Bool} → row ≡ row_at t k → closed ≡ closed_at t k → r ≡ closes row || closed → r ≡ closed_at t (k + 1)
+pub closed_more : (t : List ℕ) (k : ℕ) {row : Result Row What} {closed r : Bool} → row ≡ row_at t k → closed ≡ closed_at t k → r ≡ closes row || closed → r ≡ closed_at t (k + 1)
 unfolding closes_at
 closed_more t k e c f = f ∙ rw (e, c) (some_more (closes_at t) k)
 
 -- ---- what is gathered
 
-pub nums_nothing : (kind : Kind) → nums_in kind Nothing ≡ []
+pub nums_nothing : (kind : Kind) → nums_in kind (Ok Nothing) ≡ []
 nums_nothing Granules = refl
 nums_nothing Partitions = refl
 nums_nothing Tasks = refl
 
-pub nums_wrong : (kind : Kind) (w : What) → nums_in kind (Wrong w) ≡ []
+pub nums_wrong : (kind : Kind) (w : What) → nums_in kind (Err w) ≡ []
 nums_wrong Granules w = refl
 nums_wrong Partitions w = refl
 nums_wrong Tasks w = refl
@@ -144,7 +144,7 @@ gathered-rest : (f : ℕ → List ℕ) (k n : ℕ) → k ≤ n → ((j : ℕ) �
 unfolding gathered
 gathered-rest f k n h g = le_ind {n = k} (λ m. gathered f m ≡ gathered f k) refl (λ m l i. ap (λ (x : List ℕ). gathered f m ++ x) (g m l) ∙ append-nil (gathered f m) ∙ i) n h
 
-pub gather_turn : (kind : Kind) (t : List ℕ) (k : ℕ) {out m o : List ℕ} {i r : ℕ} {row : Row} → row ≡ row_at t k → Put out 0 (gathered (nums_at kind t) k) i m → Put m i (nums_in kind row) r o
+pub gather_turn : (kind : Kind) (t : List ℕ) (k : ℕ) {out m o : List ℕ} {i r : ℕ} {row : Result Row What} → row ≡ row_at t k → Put out 0 (gathered (nums_at kind t) k) i m → Put m i (nums_in kind row) r o
     → Put out 0 (gathered (nums_at kind t) (k + 1)) r o
 unfolding nums_at
 gather_turn kind t k e p q = rw (gathered_more (nums_at kind t) k, ← e) (and_then p q)
@@ -156,47 +156,44 @@ gather_end kind {t} {at} {k} a h l = sym (gathered-rest (nums_at kind t) k (leng
 -- ---- what an answer of numbers says
 
 -- the text is no longer than a text may be, its granule is told, and both tables fit
-pub record Fits (t : List ℕ) (parts tasks g p q : ℕ) : Type 0 where
+pub record Fits (t : List ℕ) (parts tasks : ℕ) (n : Numbers) : Type 0 where
   pub short : length t ≤ longest_text
-  pub granule_is : g ≡ granule_of t
-  pub parts_are : p ≡ length (records_of Partitions t)
-  pub parts_fit : p ≤ parts
-  pub tasks_are : q ≡ length (records_of Tasks t)
-  pub tasks_fit : q ≤ tasks
+  pub granule_is : n.granule ≡ granule_of t
+  pub parts_are : n.partitions ≡ length (records_of Partitions t)
+  pub parts_fit : n.partitions ≤ parts
+  pub tasks_are : n.tasks ≡ length (records_of Tasks t)
+  pub tasks_fit : n.tasks ≤ tasks
 
-module _ (g p q : ℕ) where
-  seen_good : (s : Seen) (x : TableReading) → read_by s x ≡ Numbers g p q → x ≡ Numbers g p q
-  seen_good Good x e = e
-  seen_good (Line number what) x e = let z : ◌≡◌ {A = ℕ} 0 1 = cc in absurd (omega arith)
+not_read : {E : Type 0} (e : E) (n : Numbers) → ¬ (Err e ≡ Ok n)
+not_read e n h = let z : ◌≡◌ {A = ℕ} 0 1 = cc in omega arith
 
-  not-refused : ¬ (Refused Limits ≡ Numbers g p q)
-  not-refused e = let z : ◌≡◌ {A = ℕ} 0 1 = cc in omega arith
+seen_good : (n : Numbers) (s : Result (Unit {0}) Expected) (x : Result Numbers Refusal) → read_by s x ≡ Ok n → x ≡ Ok n
+seen_good n (Ok u) (Ok m) e = let z : m ≡ n = cc in ap Ok z
+seen_good n (Ok u) (Err r) e = absurd (not_read (unread.Refused r) n e)
+seen_good n (Err x) s e = absurd (not_read (unread.Expected x) n e)
 
-pub fits : (t : List ℕ) (parts tasks g p q : ℕ) → read_text_of t parts tasks ≡ Numbers g p q → Fits t parts tasks g p q
+pub fits : (t : List ℕ) (parts tasks : ℕ) (n : Numbers) → read_text_of t parts tasks ≡ Ok n → Fits t parts tasks n
 unfolding read_text_of sized_of
-fits t parts tasks g p q e =
-    let n = length (records_of Partitions t) in
-    let m = length (records_of Tasks t) in
-    let all : TableReading = Numbers (granule_of t) n m in
-    let z : TableReading = Numbers g p q in
-    let no = not-refused g p q in
-    let y2 : TableReading = pick (ltb tasks m) (Refused Limits) all in
-    let y1 : TableReading = pick (ltb parts n) (Refused Limits) y2 in
-    let e1 = pick_second (ltb longest_text (length t)) (Refused Limits) (read_by (seen_of t) y1) z no e in
-    let e2 = pick_second (ltb parts n) (Refused Limits) y2 z no (seen_good g p q (seen_of t) y1 e1.1) in
-    let e3 = pick_second (ltb tasks m) (Refused Limits) all z no e2.1 in
-    let f : Numbers (granule_of t) n m ≡ Numbers g p q = e3.1 in
-    let eg : g ≡ granule_of t = cc in
-    let ep : p ≡ n = cc in
-    let eq : q ≡ m = cc in
-    record {
+fits t parts tasks n e =
+    let p = length (records_of Partitions t) in
+    let q = length (records_of Tasks t) in
+    let all : Numbers = record { granule = granule_of t; partitions = p; tasks = q } in
+    let y2 : Result Numbers Refusal = pick (ltb tasks q) (Err Limits) (Ok all) in
+    let y1 : Result Numbers Refusal = pick (ltb parts p) (Err Limits) y2 in
+    let e1 = pick_second (ltb longest_text (length t)) (Err (unread.Refused Limits)) (read_by (seen_of t) y1) (Ok n) (not_read (unread.Refused Limits) n) e in
+    let e2 = pick_second (ltb parts p) (Err Limits) y2 (Ok n) (not_read Limits n) (seen_good n (seen_of t) y1 e1.1) in
+    let e3 = pick_second (ltb tasks q) (Err Limits) (Ok all) (Ok n) (not_read Limits n) e2.1 in
+    let f : Ok all ≡ Ok n = e3.1 in
+    let g : all ≡ n = cc in
+    let w : Fits t parts tasks all = record {
       short = ltb-false _ _ e1.0;
-      granule_is = eg;
-      parts_are = ep;
-      parts_fit = rw ep (ltb-false _ _ e2.0);
-      tasks_are = eq;
-      tasks_fit = rw eq (ltb-false _ _ e3.0);
-    }
+      granule_is = refl;
+      parts_are = refl;
+      parts_fit = ltb-false _ _ e2.0;
+      tasks_are = refl;
+      tasks_fit = ltb-false _ _ e3.0;
+    } in
+    subst (Fits t parts tasks) g w
 
 -- ---- the granule, put in front of a 1
 

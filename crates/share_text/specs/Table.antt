@@ -1,26 +1,27 @@
 -- A share table as text: its lines in order, the first that is wrong, the granule, and the records of each kind. Assumes nothing.
-use Rattle.std.specs.Prelude.{ℕ, zero, suc, ◌+◌, ◌≡◌, List, [], ◌∷◌, Bool, length, get_or, take, drop, ltb}
+use Rattle.std.specs.Prelude.{ℕ, zero, suc, ◌+◌, ◌≡◌, List, [], ◌∷◌, Bool, length, get_or, take, drop, ltb, Result, Ok, Err}
 use Rattle.std.proofs.lemmas.List.Edits.{sets}
 use Rattle.rules.specs.Walk.{pick, first, some, gathered}
+use Rattle.rules.specs.declared.Refusal.{Refusal}
 use Rattle.rules.specs.declared.Refusal.TheVariants.{Limits}
-use Rattle.share_words.specs.declared.Mark.TheVariants as mark
-use Rattle.share_text.specs.declared.Seen.{Seen}
-use Rattle.share_text.specs.declared.Seen.TheVariants.{Good, Line}
+use Rattle.share_text.specs.declared.Expected.{Expected}
+use Rattle.share_text.specs.declared.Numbers.{Numbers}
+use Rattle.share_text.specs.declared.Unread.{Unread}
+use Rattle.share_text.specs.declared.Unread.TheVariants as unread
 use Rattle.share_text.specs.declared.Kind.{Kind}
 use Rattle.share_text.specs.declared.Kind.TheVariants.{Granules, Partitions, Tasks}
 use Rattle.share_line.specs.declared.Row.{Row}
-use Rattle.share_line.specs.declared.Row.TheVariants.{Nothing, Granule, Partition, Task, Wrong}
-use Rattle.share_text.specs.declared.TableReading.{TableReading}
-use Rattle.share_text.specs.declared.TableReading.TheVariants.{Numbers, Expected, Refused}
-use Rattle.share_words.specs.Words.{found}
+use Rattle.share_line.specs.declared.Row.TheVariants.{Nothing, Granule, Partition, Task}
+use Rattle.share_line.specs.declared.What.{What}
+use Rattle.share_words.specs.Words.{newline, found}
 use Rattle.share_line.specs.Rows.{row_of, closes, is_wrong, what_of}
 
 -- the first line of a text, and the text behind its newline
 unfoldable pub line_of : List ℕ → List ℕ
-line_of t = take (found mark.Line t) t
+line_of t = take (found newline t) t
 
 unfoldable pub after_line : List ℕ → List ℕ
-after_line t = drop (found mark.Line t + 1) t
+after_line t = drop (found newline t + 1) t
 
 -- the text from line k on; behind the last line nothing is left
 unfoldable pub from_line : List ℕ → ℕ → List ℕ
@@ -28,7 +29,7 @@ from_line t zero = t
 from_line t (suc k) = after_line (from_line t k)
 
 -- what line k says; a text has no more lines with anything in them than it has bytes
-unfoldable pub row_at : List ℕ → ℕ → Row
+unfoldable pub row_at : List ℕ → ℕ → Result Row What
 row_at t k = row_of (line_of (from_line t k))
 
 -- line k closes the granule
@@ -47,22 +48,22 @@ abbrev pub first_wrong : List ℕ → ℕ
 first_wrong t = first (wrong_at t) (length t)
 
 -- the numbers of a row of one kind
-abbrev pub nums_in : Kind → Row → List ℕ
-nums_in Granules (Granule g) = g ∷ []
-nums_in Partitions (Partition m n d) = m ∷ n ∷ d ∷ []
-nums_in Tasks (Task p c d t) = p ∷ c ∷ d ∷ t ∷ []
-nums_in Granules Nothing = []
-nums_in Granules (Partition m n d) = []
-nums_in Granules (Task p c d t) = []
-nums_in Granules (Wrong w) = []
-nums_in Partitions Nothing = []
-nums_in Partitions (Granule g) = []
-nums_in Partitions (Task p c d t) = []
-nums_in Partitions (Wrong w) = []
-nums_in Tasks Nothing = []
-nums_in Tasks (Granule g) = []
-nums_in Tasks (Partition m n d) = []
-nums_in Tasks (Wrong w) = []
+abbrev pub nums_in : Kind → Result Row What → List ℕ
+nums_in Granules (Ok (Granule g)) = g ∷ []
+nums_in Partitions (Ok (Partition m n d)) = m ∷ n ∷ d ∷ []
+nums_in Tasks (Ok (Task p c d t)) = p ∷ c ∷ d ∷ t ∷ []
+nums_in Granules (Ok Nothing) = []
+nums_in Granules (Ok (Partition m n d)) = []
+nums_in Granules (Ok (Task p c d t)) = []
+nums_in Granules (Err w) = []
+nums_in Partitions (Ok Nothing) = []
+nums_in Partitions (Ok (Granule g)) = []
+nums_in Partitions (Ok (Task p c d t)) = []
+nums_in Partitions (Err w) = []
+nums_in Tasks (Ok Nothing) = []
+nums_in Tasks (Ok (Granule g)) = []
+nums_in Tasks (Ok (Partition m n d)) = []
+nums_in Tasks (Err w) = []
 
 unfoldable pub nums_at : Kind → List ℕ → ℕ → List ℕ
 nums_at kind t k = nums_in kind (row_at t k)
@@ -80,31 +81,31 @@ abbrev pub longest_text : ℕ
 longest_text = 65536
 
 -- the first line that is wrong, from 1, and what was expected there
-unfoldable pub seen_of : List ℕ → Seen
-seen_of t = pick (ltb (first_wrong t) (length t)) (Line (first_wrong t + 1) (what_of (row_at t (first_wrong t)))) Good
+unfoldable pub seen_of : List ℕ → Result (Unit {0}) Expected
+seen_of t = pick (ltb (first_wrong t) (length t)) (Err (record { line = first_wrong t + 1; what = what_of (row_at t (first_wrong t)) })) (Ok tt)
 
 -- the granule, and how many numbers there are of each kind, where the lent tables have room for so many; "a count outside its limits" where they have not
-unfoldable pub sized_of : List ℕ → ℕ → ℕ → TableReading
+unfoldable pub sized_of : List ℕ → ℕ → ℕ → Result Numbers Refusal
 sized_of t parts tasks =
-    pick (ltb parts (length (records_of Partitions t))) (Refused Limits)
-    (pick (ltb tasks (length (records_of Tasks t))) (Refused Limits)
-    (Numbers (granule_of t) (length (records_of Partitions t)) (length (records_of Tasks t))))
+    pick (ltb parts (length (records_of Partitions t))) (Err Limits)
+    (pick (ltb tasks (length (records_of Tasks t))) (Err Limits)
+    (Ok (record { granule = granule_of t; partitions = length (records_of Partitions t); tasks = length (records_of Tasks t) })))
 
-abbrev pub read_by : Seen → TableReading → TableReading
-read_by Good sized = sized
-read_by (Line number what) sized = Expected number what
+abbrev pub read_by : Result (Unit {0}) Expected → Result Numbers Refusal → Result Numbers Unread
+read_by (Ok u) (Ok n) = Ok n
+read_by (Ok u) (Err r) = Err (unread.Refused r)
+read_by (Err e) sized = Err (unread.Expected e)
 
 -- the answer: a text too long to be read, a wrong line, or the numbers
-unfoldable pub read_text_of : List ℕ → ℕ → ℕ → TableReading
-read_text_of t parts tasks = pick (ltb longest_text (length t)) (Refused Limits) (read_by (seen_of t) (sized_of t parts tasks))
+unfoldable pub read_text_of : List ℕ → ℕ → ℕ → Result Numbers Unread
+read_text_of t parts tasks = pick (ltb longest_text (length t)) (Err (unread.Refused Limits)) (read_by (seen_of t) (sized_of t parts tasks))
 
 -- what a lent table then holds: its kind's records in front, where all of them fit
-abbrev pub table_left : TableReading → List ℕ → List ℕ → List ℕ
-table_left (Numbers g p t) nums out = sets out 0 nums
-table_left (Expected line what) nums out = out
-table_left (Refused r) nums out = out
+abbrev pub table_left : Result Numbers Unread → List ℕ → List ℕ → List ℕ
+table_left (Ok n) nums out = sets out 0 nums
+table_left (Err u) nums out = out
 
 -- the answer r of the call, and p and q what the lent tables then hold
-abbrev pub ReadsText : List ℕ → List ℕ → List ℕ → List ℕ → List ℕ → TableReading → Type 0
+abbrev pub ReadsText : List ℕ → List ℕ → List ℕ → List ℕ → List ℕ → Result Numbers Unread → Type 0
 ReadsText t parts tasks p q r =
     (r ≡ read_text_of t (length parts) (length tasks)) × (p ≡ table_left r (records_of Partitions t) parts) × (q ≡ table_left r (records_of Tasks t) tasks)

@@ -1,7 +1,9 @@
 // A share table as text: a line for each partition and each task, and one for the granule where it is given.
 #![tactic(auto)]
 
+ghost use Rattle.std.specs.Prelude.{◌≡◌};
 ghost use Rattle.share_text.specs.Table.{ReadsText};
+ghost use Rattle.share_text.specs.declared.Unread.TheVariants as unread;
 
 use rules::Refusal;
 use share_line::What;
@@ -19,49 +21,51 @@ pub enum Kind {
     Tasks,
 }
 
-// Whether every line can be read; or the first that can't, from 1, and what was expected there.
-#[derive(Clone, Copy)]
-pub enum Seen {
-    Good,
-    Line { number: usize, what: What },
+// The granule, and how many numbers each table has.
+#[derive(Clone, Copy, PartialEq, Eq)]
+pub struct Numbers {
+    pub granule: usize,
+    pub partitions: usize,
+    pub tasks: usize,
 }
 
-// The granule, and how many numbers each table has; or the first wrong line, from 1, and what was expected there.
+// The first wrong line, from 1, and what was expected there.
+#[derive(Clone, Copy, PartialEq, Eq)]
+pub struct Expected {
+    pub line: usize,
+    pub what: What,
+}
+
+// Why a text is not read.
 #[derive(Clone, Copy)]
-pub enum TableReading {
-    Numbers {
-        granule: usize,
-        partitions: usize,
-        tasks: usize,
-    },
-    Expected {
-        line: usize,
-        what: What,
-    },
+pub enum Unread {
+    Expected(Expected),
     Refused(Refusal),
 }
 
+impl From<Expected> for Unread {
+    ghost from_gives = { λ e u. u ≡ unread.Expected e };
+
+    fn from(expected: Expected) -> Unread {
+        Unread::Expected(expected)
+    }
+}
+
+impl From<Refusal> for Unread {
+    ghost from_gives = { λ r u. u ≡ unread.Refused r };
+
+    fn from(refusal: Refusal) -> Unread {
+        Unread::Refused(refusal)
+    }
+}
+
 // The table's records, put into the lent tables where all of them fit.
-pub fn read(text: &[u8], parts: &mut [u16], tasks: &mut [u16]) -> TableReading
+pub fn read(text: &[u8], parts: &mut [u16], tasks: &mut [u16]) -> Result<Numbers, Unread>
     ensures { ReadsText text.now parts.old tasks.old
         parts.new tasks.new result }
 {
-    let t = read_of(text, parts.len(), tasks.len());
-    match t {
-        TableReading::Numbers {
-            granule: g,
-            partitions: p,
-            tasks: n,
-        } => {
-            gather(text, Kind::Partitions, parts);
-            gather(text, Kind::Tasks, tasks);
-            TableReading::Numbers {
-                granule: g,
-                partitions: p,
-                tasks: n,
-            }
-        }
-        TableReading::Expected { line, what } => TableReading::Expected { line, what },
-        TableReading::Refused(r) => TableReading::Refused(r),
-    }
+    let numbers = read_of(text, parts.len(), tasks.len())?;
+    gather(text, Kind::Partitions, parts);
+    gather(text, Kind::Tasks, tasks);
+    Ok(numbers)
 }

@@ -3,19 +3,18 @@ ghost use Rattle.std.specs.Prelude.{◌≡◌, ◌≤◌, ◌<◌, length, drop}
 ghost use Rattle.share_line.specs.Rows.{row_of};
 ghost use Rattle.share_text.specs.Table.{line_of, after_line, seen_of};
 
-use crate::Seen;
-use share_line::Row;
-use share_line::rows::{closed_behind, is_wrong, row_of, what_of};
-use share_words::Mark;
+use crate::Expected;
+use share_line::rows::{closed_behind, row_of};
+use share_line::{Row, What};
 use share_words::words::find;
 
 // The row of the line that begins at a place.
-pub fn row_at(text: &[u8], at: usize) -> Row
+pub fn row_at(text: &[u8], at: usize) -> Result<Row, What>
     requires { at ≤ length text.now }
     ensures { result ≡ row_of (line_of (drop at text.now)) }
 {
     let rest = &text[at..];
-    let e = find(rest, Mark::Line);
+    let e = find(rest, |b| b == b'\n');
     row_of(&rest[..e])
 }
 
@@ -26,31 +25,24 @@ pub fn next_line(text: &[u8], at: usize) -> usize
         × (drop result text.now ≡ after_line (drop at text.now)) }
 {
     let rest = &text[at..];
-    let e = find(rest, Mark::Line);
+    let e = find(rest, |b| b == b'\n');
     if e < rest.len() {
         return at + (e + 1);
     }
     text.len()
 }
 
-pub fn first_wrong(text: &[u8]) -> Seen
+pub fn first_wrong(text: &[u8]) -> Result<(), Expected>
     ensures { result ≡ seen_of text.now }
 {
-    let n = text.len();
     let mut closed = false;
     let mut at = 0;
-    let mut k = 0;
-    while at < n {
+    let mut line = 1;
+    while at < text.len() {
         let row = row_at(text, at);
-        if is_wrong(closed, row) {
-            return Seen::Line {
-                number: k + 1,
-                what: what_of(row),
-            };
-        }
-        closed = closed_behind(closed, row);
+        closed = closed_behind(closed, row).map_err(|what| Expected { line, what })?;
         at = next_line(text, at);
-        k += 1;
+        line += 1;
     }
-    Seen::Good
+    Ok(())
 }

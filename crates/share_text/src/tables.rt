@@ -5,52 +5,52 @@ ghost use Rattle.output.specs.Put.{Put};
 ghost use Rattle.share_text.specs.Table.{nums_in, records_of, granule_of, longest_text, sized_of, read_text_of};
 
 use crate::lines::{first_wrong, next_line, row_at};
-use crate::{Kind, LONGEST_TEXT, Seen, TableReading};
-use output::put_number;
+use crate::{Kind, LONGEST_TEXT, Numbers, Unread};
+use output::put_one;
 use rules::Refusal;
-use rules::numbers::wide;
-use share_line::Row;
+use share_line::{Row, What};
 
 fn put_three(out: &mut [u16], at: usize, x: u16, y: u16, z: u16) -> usize
     requires { at < 2 ^ 40 }
     ensures { Put out.old at (x ∷ y ∷ z ∷ []) result out.new × (result ≡ at + 3) }
 {
-    let a = put_number(out, at, x);
-    let b = put_number(out, a, y);
-    put_number(out, b, z)
+    let a = put_one(out, at, x);
+    let b = put_one(out, a, y);
+    put_one(out, b, z)
 }
 
 // A row's numbers, where it is of this kind; the answer is the place behind them.
-fn put_row(out: &mut [u16], at: usize, kind: Kind, row: Row) -> usize
+fn put_row(out: &mut [u16], at: usize, kind: Kind, row: Result<Row, What>) -> usize
     requires { at < 2 ^ 40 }
     ensures { Put out.old at (nums_in kind row) result out.new × (result ≤ at + task_width) }
 {
     match row {
-        Row::Granule(granule) => match kind {
-            Kind::Granules => put_number(out, at, granule),
+        Ok(Row::Granule(granule)) => match kind {
+            Kind::Granules => put_one(out, at, granule),
             Kind::Partitions => at,
             Kind::Tasks => at,
         },
-        Row::Partition { cycle, num, den } => match kind {
+        Ok(Row::Partition { cycle, num, den }) => match kind {
             Kind::Granules => at,
             Kind::Partitions => put_three(out, at, cycle, num, den),
             Kind::Tasks => at,
         },
-        Row::Task {
-            partition,
-            budget,
-            deadline,
-            period,
-        } => match kind {
+        Ok(
+            Row::Task {
+                partition,
+                budget,
+                deadline,
+                period,
+            },
+        ) => match kind {
             Kind::Granules => at,
             Kind::Partitions => at,
             Kind::Tasks => {
                 let a = put_three(out, at, partition, budget, deadline);
-                put_number(out, a, period)
+                put_one(out, a, period)
             }
         },
-        Row::Nothing => at,
-        Row::Wrong(_) => at,
+        Ok(Row::Nothing) | Err(_) => at,
     }
 }
 
@@ -85,39 +85,38 @@ fn granule_of(text: &[u8]) -> usize
 {
     let mut granule = [1u16; 1];
     gather(text, Kind::Granules, &mut granule);
-    wide(granule[0])
+    usize::from(granule[0])
 }
 
 // The granule, and how many numbers there are of each kind, where the lent tables have room for them.
-fn sized(text: &[u8], parts: usize, tasks: usize) -> TableReading
+#[tactic(auto, unfolding(crate::specs::Table::sized_of))]
+fn sized(text: &[u8], parts: usize, tasks: usize) -> Result<Numbers, Refusal>
     requires { length text.now ≤ longest_text }
     ensures { result ≡ sized_of text.now parts tasks }
 {
     let p = numbers_in(text, Kind::Partitions);
     if parts < p {
-        return TableReading::Refused(Refusal::Limits);
+        return Err(Refusal::Limits);
     }
     let t = numbers_in(text, Kind::Tasks);
     if tasks < t {
-        return TableReading::Refused(Refusal::Limits);
+        return Err(Refusal::Limits);
     }
-    TableReading::Numbers {
+    Ok(Numbers {
         granule: granule_of(text),
         partitions: p,
         tasks: t,
-    }
+    })
 }
 
 // What `read` answers, for lent tables of so many numbers.
-pub fn read_of(text: &[u8], parts: usize, tasks: usize) -> TableReading
+#[tactic(auto, unfolding(crate::specs::Table::read_text_of))]
+pub fn read_of(text: &[u8], parts: usize, tasks: usize) -> Result<Numbers, Unread>
     ensures { result ≡ read_text_of text.now parts tasks }
 {
     if LONGEST_TEXT < text.len() {
-        return TableReading::Refused(Refusal::Limits);
+        return Err(Unread::Refused(Refusal::Limits));
     }
-    let seen = first_wrong(text);
-    match seen {
-        Seen::Line { number, what } => TableReading::Expected { line: number, what },
-        Seen::Good => sized(text, parts, tasks),
-    }
+    first_wrong(text)?;
+    Ok(sized(text, parts, tasks)?)
 }

@@ -1,9 +1,9 @@
 use Rattle.share_text.proofs.Order.{fits}
-use mathlib.Core.Path.{sym, ◌∙◌}
+use Rattle.std.proofs.Common.{sym, ◌∙◌}
 use Rattle.share_text.proofs.read.Goals as goal
 
 pub gather-requires : goal.gather-requires
-gather-requires c = (fits _ _ _ _ _ _ (sym c.read_of-t.ensures ∙ c.in-Numbers.is)).short
+gather-requires c = (fits _ _ _ _ (sym c.read_of.ensures ∙ c.in_ok-numbers.was)).short
 
-pub gather-requires-in-Numbers : goal.gather-requires-in-Numbers
-gather-requires-in-Numbers c = (fits _ _ _ _ _ _ (sym c.read_of-t.ensures ∙ c.in-Numbers.is)).short
+pub gather-requires-2 : goal.gather-requires-2
+gather-requires-2 c = (fits _ _ _ _ (sym c.read_of.ensures ∙ c.in_ok-numbers.was)).short

@@ -2,7 +2,7 @@ use Rattle.share_text.proofs.Order.{reached-start, reached-next, reached-row, ga
 use Rattle.rules.proofs.First.{gathered-zero}
 use Rattle.output.proofs.Put.{put_none}
 use mathlib.Core.Path.{refl}
-use Prim.Native.Nat.{◌-◌, ◌+◌}
+use Prim.Native.Nat.{◌+◌}
 use borrow.Author.Rules.{rules}
 use Rattle.share_text.proofs.tables.gather.Goals as goal
 

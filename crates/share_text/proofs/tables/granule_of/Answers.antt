@@ -8,4 +8,4 @@ use Rattle.share_text.proofs.Order.{granule-first}
 use Rattle.share_text.proofs.tables.granule_of.Goals as goal
 
 pub returns : goal.returns
-returns c = c.wide.ensures ∙ ap (λ (l : List ℕ). get_or l 0 0) c.gather.ensures.bytes ∙ granule-first (records_of Granules c.args.text.now)
+returns c = c.from.ensures ∙ ap (λ (l : List ℕ). get_or l 0 0) c.gather.ensures.bytes ∙ granule-first (records_of Granules c.args.text.now)
