@@ -10,4 +10,4 @@ pub returns-then-list-needed : goal.returns-then-list-needed
 returns-then-list-needed c = (short _ _ _ (sym c.good_edition.ensures ∙ c.if-not-good_edition.false) c.if-list-needed.true, refl)
 
 pub returns : goal.returns
-returns c = (enough _ _ _ (sym c.good_edition.ensures ∙ c.if-not-good_edition.false) c.if-list-needed.false, named-list _ _ _ _ c.if-list-needed.false (rw (c.wide.ensures, c.rule_of-rule.ensures) at c.draw.ensures))
+returns c = (enough _ _ _ (sym c.good_edition.ensures ∙ c.if-not-good_edition.false) c.if-list-needed.false, named-list _ _ _ _ c.if-list-needed.false (rw (c.from.ensures, c.rule_of-rule.ensures) at c.draw.ensures))
