@@ -87,16 +87,23 @@ pub fn differs(plan: &[u16], list: &[u16], parts: usize) -> bool
     false
 }
 
+// p's count before tick k, read from a list that has p's.
+fn count_before(plan: &[u16], list: &[u16], p: usize, k: usize) -> usize
+    requires { Kept plan.now list.now p × (k ≤ length plan.now) }
+    ensures { result ≡ held Own plan.now p k 0 }
+{
+    usize::from(list[row_at(plan.len(), p) + k])
+}
+
 // What a stretch holds, from two or three of p's numbers, for callers that know them to be the plan's.
 pub fn look_up(plan: &[u16], list: &[u16], p: usize, s: usize, n: usize) -> usize
     requires { Kept plan.now list.now p × (s < length plan.now) × (n ≤ length plan.now) }
     ensures { result ≡ held Own plan.now p n s }
 {
     let f = plan.len();
-    let row = row_at(f, p);
-    let before = usize::from(list[row + s]);
+    let before = count_before(plan, list, p, s);
     if s + n <= f {
-        return usize::from(list[row + (s + n)]) - before;
+        return count_before(plan, list, p, s + n) - before;
     }
-    usize::from(list[row + f]) - before + usize::from(list[row + (s + n - f)])
+    count_before(plan, list, p, f) - before + count_before(plan, list, p, s + n - f)
 }

@@ -46,10 +46,7 @@ fn judge_list(plan: &[u16], parts: &[u16], list: &[u16], enough: bool) -> Result
     ensures { result ≡ list_judged plan.now parts.now list.now enough }
 {
     let n = partitions(parts);
-    if list.len() < n * (plan.len() + 1) {
-        return Err(Refusal::Output);
-    }
-    if !enough {
+    if list.len() < n * (plan.len() + 1) || !enough {
         return Err(Refusal::Output);
     }
     if differs(plan, list, n) {

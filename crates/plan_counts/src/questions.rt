@@ -37,33 +37,26 @@ pub fn questions(table: &[u16]) -> usize
     table.len() / QUESTION_WIDTH
 }
 
-#[tactic(auto, unfolding(counts::specs::Counts::names_one))]
-fn names_one(table: &[u16], parts: usize, k: usize) -> bool
-    ensures { result ≡ names_one parts table.now k }
-{
-    good_name(parts, question_at(table, k).asked)
-}
-
-#[tactic(auto, unfolding(counts::specs::Counts::within_frame))]
-fn within_frame(table: &[u16], f: usize, k: usize) -> bool
-    ensures { result ≡ within_frame f table.now k }
-{
-    let stretch = question_at(table, k);
-    good_stretch(f, stretch.start, stretch.span)
-}
-
 // The lowest question that names no partition of the table: 8 with place 0.
 pub fn judge_names(table: &[u16], parts: usize) -> Result<(), Refusal>
     ensures { result ≡ lowest Asked (names_one parts table.now) (questions table.now) }
 {
-    lowest(questions(table), |k| names_one(table, parts, k)).map_err(Refusal::Asked)
+    lowest(
+        questions(table),
+        |k| good_name(parts, question_at(table, k).asked),
+    )
+    .map_err(Refusal::Asked)
 }
 
 // The lowest question that starts outside a frame of f ticks or is longer: 26.
 pub fn judge_stretches(table: &[u16], f: usize) -> Result<(), Refusal>
     ensures { result ≡ lowest Beyond (within_frame f table.now) (questions table.now) }
 {
-    lowest(questions(table), |k| within_frame(table, f, k)).map_err(Refusal::Beyond)
+    lowest(questions(table), |k| {
+        let stretch = question_at(table, k);
+        good_stretch(f, stretch.start, stretch.span)
+    })
+    .map_err(Refusal::Beyond)
 }
 
 // The answers to the first n questions, for a caller that knows the list to be the plan's.
