@@ -1,4 +1,3 @@
-use Prim.Native.Nat.{◌-◌}
 use mathlib.Core.Path.{refl, ◌∙◌}
 use native.Mathlib.Omega.{arith}
 use Rattle.task_all.proofs.Marks.{upto_turn, upto-none, upto_all, all-judgeable}
@@ -6,17 +5,15 @@ use borrow.Author.Rules.{rules}
 use Rattle.task_all.proofs.judge_all.Goals as goal
 
 pub loop-p-init : goal.loop-p-init
-loop-p-init c = (search rules, refl, refl, upto-none _ _ _ c.requires.1 _, upto-none _ _ _ c.requires.1 _)
+loop-p-init c = (refl, upto-none _ _ _ c.requires.1 _)
 
 pub judge_partition-requires : goal.judge_partition-requires
-judge_partition-requires c = (all-judgeable _ _ c.requires.0 c.requires.1, omega (arith, c.requires.2, c.loop-p.invariant.1), omega (arith, c.requires.3, c.loop-p.invariant.2))
+judge_partition-requires c = (all-judgeable _ _ c.requires.0 c.requires.1, omega (arith, c.requires.2, c.loop-p.invariant.0))
 
 pub loop-p-preserved : goal.loop-p-preserved
 loop-p-preserved c = let l = c.loop-p in
     let e = c.judge_partition.ensures in
-    (search rules, e.points_in.as_long ∙ l.invariant.1, e.ticks_in.as_long ∙ l.invariant.2, upto_turn _ _ _ _ _ _ _ l.invariant.3 e.points_in, upto_turn _ _ _ _ _ _ _ l.invariant.4 e.ticks_in)
+    (e.as_long ∙ l.invariant.0, upto_turn _ _ _ _ _ _ _ l.invariant.1 e)
 
 pub returns : goal.returns
-returns c = let l = c.loop-p in
-    let good = c.requires.1 in
-    (upto_all _ _ _ good _ _ _ l.invariant.0 (search rules) l.invariant.3, upto_all _ _ _ good _ _ _ l.invariant.0 (search rules) l.invariant.4)
+returns c = upto_all _ _ _ c.requires.1 _ _ _ (search rules) (search rules) c.loop-p.invariant.1
