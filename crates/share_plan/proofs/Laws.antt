@@ -32,11 +32,12 @@ use Rattle.file_runs.specs.Ticks.{joined, runs_of, runs_put}
 use Rattle.file_runs.proofs.Ticks.{runs-some}
 use Rattle.rules.specs.Limits.{longest_line}
 use Rattle.output.specs.Refused.{refused_line}
-use Rattle.share_line.specs.declared.What.{What}
 use Rattle.share_line.specs.Expected.{expected_line}
 use Rattle.share_text.specs.declared.Kind.TheVariants.{Partitions, Tasks}
-use Rattle.share_text.specs.declared.TableReading.{TableReading}
-use Rattle.share_text.specs.declared.TableReading.TheVariants as table
+use Rattle.share_text.specs.declared.Numbers.{Numbers}
+use Rattle.share_text.specs.declared.Expected.{Expected}
+use Rattle.share_text.specs.declared.Unread.{Unread}
+use Rattle.share_text.specs.declared.Unread.TheVariants as unread
 use Rattle.share_text.specs.Table.{records_of, read_text_of}
 use Rattle.share_text.specs.Table as text
 use Rattle.share_text.proofs.Order.{fits}
@@ -158,31 +159,31 @@ line_put terms ps ts out o w x ew eo e p =
 
 -- ---- a text's tables
 
-pub parts-front : (t l o : List ℕ) (r : TableReading) (a b g p q : ℕ) → length l ≡ a → r ≡ read_text_of t a b → o ≡ text.table_left r (records_of Partitions t) l → r ≡ table.Numbers g p q
-    → (p ≤ length o) × (take p o ≡ records_of Partitions t)
-parts-front t l o r a b g p q el er eo e = let f = fits t a b g p q (sym er ∙ e) in front (records_of Partitions t) l o p f.parts_are (rw el f.parts_fit) (rw e at eo)
+pub parts-front : (t l o : List ℕ) (r : Result Numbers Unread) (a b : ℕ) (n : Numbers) → length l ≡ a → r ≡ read_text_of t a b → o ≡ text.table_left r (records_of Partitions t) l → r ≡ Ok n
+    → (n.partitions ≤ length o) × (take n.partitions o ≡ records_of Partitions t)
+parts-front t l o r a b n el er eo e = let f = fits t a b n (sym er ∙ e) in front (records_of Partitions t) l o n.partitions f.parts_are (rw el f.parts_fit) (rw e at eo)
 
-pub tasks-front : (t l o : List ℕ) (r : TableReading) (a b g p q : ℕ) → length l ≡ b → r ≡ read_text_of t a b → o ≡ text.table_left r (records_of Tasks t) l → r ≡ table.Numbers g p q
-    → (q ≤ length o) × (take q o ≡ records_of Tasks t)
-tasks-front t l o r a b g p q el er eo e = let f = fits t a b g p q (sym er ∙ e) in front (records_of Tasks t) l o q f.tasks_are (rw el f.tasks_fit) (rw e at eo)
+pub tasks-front : (t l o : List ℕ) (r : Result Numbers Unread) (a b : ℕ) (n : Numbers) → length l ≡ b → r ≡ read_text_of t a b → o ≡ text.table_left r (records_of Tasks t) l → r ≡ Ok n
+    → (n.tasks ≤ length o) × (take n.tasks o ≡ records_of Tasks t)
+tasks-front t l o r a b n el er eo e = let f = fits t a b n (sym er ∙ e) in front (records_of Tasks t) l o n.tasks f.tasks_are (rw el f.tasks_fit) (rw e at eo)
 
 -- 2 first of all
 pub answer-edition : (i : ℕ) (t out : List ℕ) {o : List ℕ} {n : ℕ} → good_edition i ≡ false → Put out 0 (refused_line Edition) n o → Put out 0 (answer_of i t (length out)) n o
 unfolding answer_of
 answer-edition i t out e s = rw e s
 
-pub answer-tables : (i : ℕ) → good_edition i ≡ true → (t ps ts out : List ℕ) {o : List ℕ} {n : ℕ} (r : TableReading) (g p q : ℕ) → r ≡ read_text_of t (part_width * most_partitions) (task_width * most_tasks) → r ≡ table.Numbers g p q → ps ≡ records_of Partitions t → ts ≡ records_of Tasks t
-    → Put out 0 (file_or_line (given i g) ps ts (length out)) n o → Put out 0 (answer_of i t (length out)) n o
+pub answer-tables : (i : ℕ) → good_edition i ≡ true → (t ps ts out : List ℕ) {o : List ℕ} {k : ℕ} (r : Result Numbers Unread) (n : Numbers) → r ≡ read_text_of t (part_width * most_partitions) (task_width * most_tasks) → r ≡ Ok n → ps ≡ records_of Partitions t → ts ≡ records_of Tasks t
+    → Put out 0 (file_or_line (given i n.granule) ps ts (length out)) k o → Put out 0 (answer_of i t (length out)) k o
 unfolding answer_of
-answer-tables i h t ps ts out r g p q er e ep et s =
-    rw (h, sym er ∙ e, ← ep, ← et, ← (fits t (part_width * most_partitions) (task_width * most_tasks) g p q (sym er ∙ e)).granule_is) s
+answer-tables i h t ps ts out r n er e ep et s =
+    rw (h, sym er ∙ e, ← ep, ← et, ← (fits t (part_width * most_partitions) (task_width * most_tasks) n (sym er ∙ e)).granule_is) s
 
-pub answer-line : (i : ℕ) → good_edition i ≡ true → (t out : List ℕ) {o : List ℕ} {n : ℕ} (r : TableReading) (k : ℕ) (what : What) → r ≡ read_text_of t (part_width * most_partitions) (task_width * most_tasks) → r ≡ table.Expected k what
-    → Put out 0 (expected_line k what) n o → Put out 0 (answer_of i t (length out)) n o
+pub answer-line : (i : ℕ) → good_edition i ≡ true → (t out : List ℕ) {o : List ℕ} {n : ℕ} (r : Result Numbers Unread) (x : Expected) → r ≡ read_text_of t (part_width * most_partitions) (task_width * most_tasks) → r ≡ Err (unread.Expected x)
+    → Put out 0 (expected_line x.line x.what) n o → Put out 0 (answer_of i t (length out)) n o
 unfolding answer_of
-answer-line i h t out r k what er e s = rw (h, sym er ∙ e) s
+answer-line i h t out r x er e s = rw (h, sym er ∙ e) s
 
-pub answer-refused : (i : ℕ) → good_edition i ≡ true → (t out : List ℕ) {o : List ℕ} {n : ℕ} (r : TableReading) (x : Refusal) → r ≡ read_text_of t (part_width * most_partitions) (task_width * most_tasks) → r ≡ table.Refused x
+pub answer-refused : (i : ℕ) → good_edition i ≡ true → (t out : List ℕ) {o : List ℕ} {n : ℕ} (r : Result Numbers Unread) (x : Refusal) → r ≡ read_text_of t (part_width * most_partitions) (task_width * most_tasks) → r ≡ Err (unread.Refused x)
     → Put out 0 (refused_line x) n o → Put out 0 (answer_of i t (length out)) n o
 unfolding answer_of
 answer-refused i h t out r x er e s = rw (h, sym er ∙ e) s

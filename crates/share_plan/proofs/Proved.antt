@@ -34,11 +34,11 @@ use Rattle.plan_build.proofs.Orders.{counted-few, laid}
 use Rattle.rules.specs.Refusals.{told, told_done, told_count}
 use Rattle.rules.proofs.Known.{by_number, filling_as}
 use Rattle.share_text.specs.declared.Kind.TheVariants.{Partitions, Tasks}
-use Rattle.share_text.specs.declared.TableReading.{TableReading}
+use Rattle.share_text.specs.declared.Numbers.{Numbers}
+use Rattle.share_text.specs.declared.Unread.{Unread}
 use Rattle.share_text.specs.Table.{longest_text, records_of, granule_of, read_text_of, table_left}
 use Rattle.file_read.specs.declared.Body.TheVariants as body
 use Rattle.file_read.specs.Reader as file
-use Rattle.file_tables.specs.Runs.{runs}
 use Rattle.file_write.specs.Writer.{file_of, size_for, write_of}
 use Rattle.file_write.proofs.Writer.{fit, write-room, write-all}
 use Rattle.file_write.proofs.Trip.{read_written, left-file}
@@ -172,7 +172,7 @@ short_in_edition terms ps ts room r e nine = by_tables (unless_cases terms longe
     by_build (Ok h) m e = by_check (check_of terms (harmonic_plan (wanted terms ps) ps) ps) refl (write_of terms.edition h ps ts (plan_runs terms ps) room) (write-not_9 terms.edition h ps ts (plan_runs terms ps) room) e
     by_build (Err x) m e = absurd (m (ap (λ (y : Refusal). (told y).number) (same x e) ∙ nine))
 
-    by_tables : (GoodTables terms longest ps ts × (written_by (build_of terms ps longest) terms ps ts room ≡ Err r)) ⊎ ((x : Refusal) × (tables_of terms longest ps ts ≡ Err x) × (Err x ≡ Err r)) → ShortBy terms ps r
+    by_tables : (GoodTables terms longest ps ts × (written_by (build_of terms ps longest) terms ps ts room ≡ Err r)) ⊎ ((x : Refusal) × (tables_of terms longest ps ts ≡ Err x) × (◌≡◌ {A = Result ℕ Refusal} (Err x) (Err r))) → ShortBy terms ps r
     by_tables (inl (g, f)) = by_build (build_of terms ps longest) (build_not_9 terms ps) f
     by_tables (inr (x, f, g)) =
         absurd (refusals terms longest ps ts (λ y. ¬ ((told y).number ≡ 9)) (λ i q. absurd (omega arith)) (λ q. absurd (omega arith)) (λ g q. absurd (omega arith)) (λ k q. absurd (omega arith)) (λ j q. absurd (omega arith)) x f
@@ -205,8 +205,8 @@ text_one : TextOne
 text_one t parts tasks p p' q q' r r' a b =
     let e : r ≡ r' = a.0 ∙ sym b.0 in (
       e,
-      a.1 ∙ ap (λ (x : TableReading). table_left x (records_of Partitions t) parts) e ∙ sym b.1,
-      a.2 ∙ ap (λ (x : TableReading). table_left x (records_of Tasks t) tasks) e ∙ sym b.2,
+      a.1 ∙ ap (λ (x : Result Numbers Unread). table_left x (records_of Partitions t) parts) e ∙ sym b.1,
+      a.2 ∙ ap (λ (x : Result Numbers Unread). table_left x (records_of Tasks t) tasks) e ∙ sym b.2,
     )
 
 pub proved : Proved

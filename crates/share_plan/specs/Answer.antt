@@ -1,5 +1,5 @@
 -- What the program writes for a share table: the plan file, or one line. Assumes nothing.
-use Rattle.std.specs.Prelude.{ℕ, ◌*◌, List, ◌++◌, eqb, length, Result, Ok, Err}
+use Rattle.std.specs.Prelude.{ℕ, ◌*◌, List, ◌++◌, eqb, length, Option, Some, None, Result, Ok, Err}
 use Rattle.rules.specs.Walk.{pick}
 use Rattle.output.specs.Put.{Put}
 use Rattle.rules.specs.Limits.{most_partitions, most_tasks, longest, part_width, task_width}
@@ -19,8 +19,9 @@ use Rattle.output.specs.Refused.{refused_line}
 use Rattle.share_words.specs.Words.{numeral}
 use Rattle.share_line.specs.Expected.{expected_line}
 use Rattle.share_text.specs.declared.Kind.TheVariants.{Partitions, Tasks}
-use Rattle.share_text.specs.declared.TableReading.{TableReading}
-use Rattle.share_text.specs.declared.TableReading.TheVariants as table
+use Rattle.share_text.specs.declared.Numbers.{Numbers}
+use Rattle.share_text.specs.declared.Unread.{Unread}
+use Rattle.share_text.specs.declared.Unread.TheVariants as unread
 use Rattle.share_text.specs.Table.{records_of, granule_of, read_text_of}
 
 -- the runs of the harmonic rule's plan, and the file of tables with it, of the edition asked for
@@ -65,10 +66,10 @@ unfoldable pub file_or_line : Terms → List ℕ → List ℕ → ℕ → List �
 file_or_line terms ps ts room = file_or (write_plan_of terms ps ts room) (plan_file terms ps ts)
 
 -- of a text that can be read, what is said of its tables; else its line
-abbrev pub answer_by : TableReading → List ℕ → List ℕ
-answer_by (table.Numbers g p q) ofTables = ofTables
-answer_by (table.Expected line what) ofTables = expected_line line what
-answer_by (table.Refused r) ofTables = refused_line r
+abbrev pub answer_by : Result Numbers Unread → List ℕ → List ℕ
+answer_by (Ok n) of_tables = of_tables
+answer_by (Err (unread.Expected e)) of_tables = expected_line e.line e.what
+answer_by (Err (unread.Refused r)) of_tables = refused_line r
 
 -- 2 first of all, whatever the text; else by the edition asked for and the text's granule. The tables have room for as many records as there may be
 unfoldable pub answer_of : ℕ → List ℕ → ℕ → List ℕ
@@ -81,5 +82,5 @@ abbrev pub Plans : ℕ → List ℕ → List ℕ → List ℕ → ℕ → Type 0
 Plans e t out o r = Put out 0 (answer_of e t (length out)) r o
 
 -- the edition that a program is asked for, of so many words with its own name, w the one behind that: 1 without a word, the number that one word says, else none
-unfoldable pub edition_asked : ℕ → List ℕ → ℕ
-edition_asked words w = pick (eqb words 1) 1 (pick (eqb words 2) (numeral w) 0)
+unfoldable pub edition_asked : ℕ → List ℕ → Option ℕ
+edition_asked words w = pick (eqb words 1) (Some 1) (pick (eqb words 2) (numeral w) None)

@@ -1,5 +1,5 @@
 -- What is promised of the planner beyond its contract. Each statement's proof is a field of `Proved`. Assumes nothing.
-use Rattle.std.specs.Prelude.{ℕ, ◌≤◌, ◌<◌, ◌≡◌, ◌↔◌, List, length, take, Ok, Err}
+use Rattle.std.specs.Prelude.{ℕ, ◌≤◌, ◌<◌, ◌≡◌, ◌↔◌, List, length, take, Result, Ok, Err}
 use Rattle.rules.specs.Limits.{longest, longest_file}
 use Rattle.rules.specs.Table.{partitions, tasks}
 use Rattle.rules.specs.Terms.{granules, filed, rule_in, wanted}
@@ -11,13 +11,13 @@ use Rattle.rules.specs.Refusals.{told}
 use Rattle.rules.specs.declared.Refusal.{Refusal}
 use Rattle.plan_check.specs.Check.{check_of}
 use Rattle.plan_check.specs.Theorems.{FallsShort}
-use Rattle.file_read.specs.declared.Reading.TheVariants.{Contents}
 use Rattle.file_read.specs.declared.Body.TheVariants as body
 use Rattle.file_read.specs.Reader as file
 use Rattle.file_tables.specs.Runs.{runs}
 use Rattle.file_write.specs.Writer.{size_for}
 use Rattle.file_runs.specs.Ticks.{ticks_of}
-use Rattle.share_text.specs.declared.TableReading.{TableReading}
+use Rattle.share_text.specs.declared.Numbers.{Numbers}
+use Rattle.share_text.specs.declared.Unread.{Unread}
 use Rattle.share_text.specs.Table.{longest_text, ReadsText}
 use Rattle.share_plan.specs.Answer.{plan_runs, plan_file, write_plan_of, answer_of, Plans}
 
@@ -27,7 +27,7 @@ abbrev pub FileServes : Type 0
 FileServes =
     (terms : Terms) (ps ts : List ℕ) (room n : ℕ) → write_plan_of terms ps ts room ≡ Ok n
     → (length (plan_file terms ps ts) ≡ n)
-    × (file.read_of (plan_file terms ps ts) ≡ Contents terms.edition (frame ps) (partitions ps) (tasks ts) (runs (plan_runs terms ps)))
+    × (file.read_of (plan_file terms ps ts) ≡ Ok (record { edition = terms.edition; frame = frame ps; partitions = partitions ps; tasks = tasks ts; runs = runs (plan_runs terms ps) }))
     × (file.table_of (plan_file terms ps ts) body.Partitions ≡ ps)
     × (file.table_of (plan_file terms ps ts) body.Tasks ≡ ts)
     × (ticks_of (file.table_of (plan_file terms ps ts) body.Runs) ≡ harmonic_plan (wanted terms ps) ps)
@@ -70,7 +70,7 @@ OneAnswer = (e : ℕ) (t out o o' : List ℕ) (r r' : ℕ) → Plans e t out o r
 
 abbrev pub TextOne : Type 0
 TextOne =
-    (t parts tasks p p' q q' : List ℕ) (r r' : TableReading) → ReadsText t parts tasks p q r → ReadsText t parts tasks p' q' r'
+    (t parts tasks p p' q q' : List ℕ) (r r' : Result Numbers Unread) → ReadsText t parts tasks p q r → ReadsText t parts tasks p' q' r'
     → (r ≡ r') × (p ≡ p') × (q ≡ q')
 
 pub record Proved : Type 0 where

@@ -9,7 +9,7 @@ use output::put_refusal;
 use plan_file::put_file_or_line;
 use rules::limits::{PART_NUMBERS, TASK_NUMBERS};
 use rules::{Refusal, Terms};
-use share_text::TableReading;
+use share_text::Unread;
 
 mod plan_file; // plan_file.rt: the plan file of two tables, or the line of its refusal
 
@@ -23,29 +23,29 @@ pub fn plan(edition: usize, text: &[u8], out: &mut [u8]) -> usize
     }
     let mut parts = [0u16; PART_NUMBERS];
     let mut tasks = [0u16; TASK_NUMBERS];
-    let table = share_text::read(text, &mut parts, &mut tasks);
-    match table {
-        TableReading::Numbers {
-            granule,
-            partitions: p,
-            tasks: n,
-        } => put_file_or_line(Terms { edition, granule }, &parts[..p], &tasks[..n], out),
-        TableReading::Expected { line, what } => share_line::expected::put_expected(
-            out, line, what,
-        ),
-        TableReading::Refused(r) => put_refusal(out, r),
+    let read = share_text::read(text, &mut parts, &mut tasks);
+    match read {
+        Ok(n) => {
+            let terms = Terms {
+                edition,
+                granule: n.granule,
+            };
+            put_file_or_line(terms, &parts[..n.partitions], &tasks[..n.tasks], out)
+        }
+        Err(Unread::Expected(e)) => share_line::expected::put_expected(out, e.line, e.what),
+        Err(Unread::Refused(r)) => put_refusal(out, r),
     }
 }
 
-// The edition that a program of so many words, its own name among them, is asked for by the one behind its name.
-pub fn edition_asked(words: usize, word: &[u8]) -> usize
+// The edition that a program of so many words, its own name among them, is asked for by the one behind its name; none where that
+// word says no number, or where there are more.
+#[tactic(auto, unfolding(crate::specs::Answer::edition_asked))]
+pub fn edition_asked(words: usize, word: &[u8]) -> Option<usize>
     ensures { result ≡ edition_asked words word.now }
 {
-    if words == 1 {
-        return 1;
+    match words {
+        1 => Some(1),
+        2 => share_words::numbers::numeral(word).map(usize::from),
+        _ => None,
     }
-    if words == 2 {
-        return rules::numbers::wide32(share_words::numbers::numeral(word));
-    }
-    0
 }

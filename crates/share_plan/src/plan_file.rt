@@ -10,7 +10,7 @@ ghost use Rattle.share_plan.specs.Answer.{checked_write, write_built_of, write_p
 
 use output::{put_field, put_refusal, put_text};
 use rules::limits::{LONGEST, RUN_NUMBERS};
-use rules::{Filling, Finding, Refusal, Terms};
+use rules::{Refusal, Terms};
 
 // The file of a plan's ticks.
 fn write_ticks(
@@ -20,7 +20,7 @@ fn write_ticks(
     tasks: &[u16],
     plan: &[u16],
     out: &mut [u8],
-) -> Filling
+) -> Result<usize, Refusal>
     requires { length plan.now ≤ longest }
     ensures { (result ≡ write_of edition frame parts.now tasks.now (runs_of plan.now)
         (length out.old))
@@ -40,42 +40,34 @@ fn write_checked(
     tasks: &[u16],
     plan: &[u16],
     out: &mut [u8],
-) -> Filling
+) -> Result<usize, Refusal>
     requires { length plan.now ≤ longest }
     ensures { (result ≡ checked_write terms frame parts.now tasks.now plan.now
         (length out.old))
         × (out.new ≡ left_by result (file_of terms.edition frame parts.now tasks.now
         (runs_of plan.now)) out.old) }
 {
-    let checked = plan_check::check(terms, plan, parts);
-    match checked {
-        Finding::Good => write_ticks(terms.edition, frame, parts, tasks, plan, out),
-        Finding::Refused(r) => Filling::Refused(r),
-    }
+    plan_check::check(terms, plan, parts)?;
+    write_ticks(terms.edition, frame, parts, tasks, plan, out)
 }
 
 // The builder's plan as a file.
-fn write_built(terms: Terms, parts: &[u16], tasks: &[u16], out: &mut [u8]) -> Filling
+fn write_built(terms: Terms, parts: &[u16], tasks: &[u16], out: &mut [u8]) -> Result<usize, Refusal>
     ensures { (result ≡ write_built_of terms parts.now tasks.now (length out.old))
         × (out.new ≡ left_by result (plan_file terms parts.now tasks.now) out.old) }
 {
     let mut plan = [0u16; LONGEST];
-    let built = plan_build::build(terms, parts, &mut plan);
-    match built {
-        Filling::Fills(h) => write_checked(terms, h, parts, tasks, &plan[..h], out),
-        Filling::Refused(r) => Filling::Refused(r),
-    }
+    let h = plan_build::build(terms, parts, &mut plan)?;
+    write_checked(terms, h, parts, tasks, &plan[..h], out)
 }
 
-fn write_plan(terms: Terms, parts: &[u16], tasks: &[u16], out: &mut [u8]) -> Filling
+#[tactic(auto, unfolding(crate::specs::Answer::write_plan_of))]
+fn write_plan(terms: Terms, parts: &[u16], tasks: &[u16], out: &mut [u8]) -> Result<usize, Refusal>
     ensures { (result ≡ write_plan_of terms parts.now tasks.now (length out.old))
         × (out.new ≡ left_by result (plan_file terms parts.now tasks.now) out.old) }
 {
-    let judged = tables::judge_tables(terms, LONGEST, parts, tasks);
-    match judged {
-        Finding::Good => write_built(terms, parts, tasks, out),
-        Finding::Refused(r) => Filling::Refused(r),
-    }
+    tables::judge_tables(terms, LONGEST, parts, tasks)?;
+    write_built(terms, parts, tasks, out)
 }
 
 // The line of 9, which says what is short.
@@ -91,15 +83,20 @@ fn put_short(out: &mut [u8], partition: usize, start: usize, held: usize, wanted
 }
 
 // The line of a refusal.
+#[tactic(auto, unfolding(crate::specs::Answer::why_line))]
 fn put_why(out: &mut [u8], refusal: Refusal) -> usize
     ensures { Put out.old 0 (why_line refusal) result out.new
         × (result ≤ longest_line) }
 {
-    let t = rules::tell(refusal);
-    if t.number == 9 {
-        return put_short(out, t.first, t.second, t.third, t.fourth);
+    match refusal {
+        Refusal::Shortfall {
+            partition,
+            start,
+            held,
+            wanted,
+        } => put_short(out, partition, start, held, wanted),
+        _ => put_refusal(out, refusal),
     }
-    put_refusal(out, refusal)
 }
 
 pub fn put_file_or_line(terms: Terms, parts: &[u16], tasks: &[u16], out: &mut [u8]) -> usize
@@ -110,7 +107,7 @@ pub fn put_file_or_line(terms: Terms, parts: &[u16], tasks: &[u16], out: &mut [u
 {
     let w = write_plan(terms, parts, tasks, out);
     match w {
-        Filling::Fills(n) => n,
-        Filling::Refused(r) => put_why(out, r),
+        Ok(n) => n,
+        Err(r) => put_why(out, r),
     }
 }
