@@ -19,15 +19,11 @@ use Rattle.desk_reading.specs.declared.checking.Checking.{Checking}
 use Rattle.desk_reading.specs.declared.searching.Searching.{Searching}
 use Rattle.desk_reading.specs.declared.scan.Scan.{Scan}
 use Rattle.desk_reading.specs.Reading.{follows, opening, searched_on, scan_step, scan_on, check_end, search_in, search_step}
+use Rattle.desk_reading.proofs.Broken.{none_stays}
 use Rattle.desk_engine.specs.Beginning.{sizes_ok, scan_from, searching_from, opening_of, asking_of}
 use Rattle.std.specs.Prelude.{Option, None, Some}
 
 -- ---- what stays: a broken rule, and whether it is an opening
-
-none_stays : (l : List Job) → fold scan_on None l ≡ None
-unfolding fold
-none_stays [] = refl
-none_stays (j ∷ l) = none_stays l
 
 fails : (l : List Job) → check_end (fold scan_on None l) ≡ false
 fails l = rw (none_stays l)

@@ -14,17 +14,13 @@ use Rattle.desk.specs.Request.{insert_at, kept}
 use Rattle.desk.proofs.Check.{listed_of, length-refit, opened_is}
 use Rattle.desk.proofs.Chain.{Chain, chain_of, chain_kept}
 use Rattle.desk.proofs.Spot.{length_shift}
+use Rattle.desk_records.proofs.Moved.{moved_none}
 use Rattle.desk_records.specs.Folds.{moved_up}
 use Rattle.desk_records.specs.Sums.{most32}
 use Rattle.desk_writing.specs.Writing.{shift_from, shifted, fit_from, fitted_all}
 use Rattle.desk_engine.proofs.Fitted.{behind_of, Dues, fit_law}
 use Rattle.desk_engine.proofs.Shifted.{shift_law, clear_law, Within}
 use Rattle.desk_engine.proofs.Dropped.{gone_by, drop_law, gone-few}
-
--- nothing changes
-pub moved_none : (l : List Job) → moved_up 0 l ≡ l
-unfolding moved_up
-moved_none l = let e : length l - 0 ≡ length l = omega arith in ap (λ (m : ℕ). l ++ drop m l) e ∙ ap (λ (r : List Job). l ++ r) (drop-length l) ∙ append-nil l
 
 -- no deadline is later than far off
 dues_of : (e : ℕ) (js : List Job) → Chain e js → Dues js

@@ -26,12 +26,13 @@ use Rattle.desk.proofs.Afresh.{AllNear}
 use Rattle.desk.proofs.Chain.{Chain, chain_of, chain_kept, right_kept}
 use Rattle.desk.proofs.Spot.{found_spot, spot_near, spot_inside, spot_due}
 use Rattle.desk.proofs.Rules.{not_busy}
+use Rattle.desk_records.proofs.Moved.{moved_none}
 use Rattle.desk_records.specs.Folds.{fold}
 use Rattle.desk_records.specs.Sums.{sum_to}
 use Rattle.desk_engine.proofs.Shifted.{Lows, near_within}
 use Rattle.desk_engine.proofs.Dropped.{gone_by, gone-kept}
 use Rattle.desk_engine.proofs.Fitted.{behind_of}
-use Rattle.desk_engine.proofs.Tables.{moved_none, open_table, drop_table, take_table}
+use Rattle.desk_engine.proofs.Tables.{open_table, drop_table, take_table}
 use Rattle.desk.specs.declared.Desk.{Desk}
 use Rattle.desk.specs.declared.Ask.{Ask}
 use Rattle.desk.specs.declared.Ask.TheVariants.{Open, Request}

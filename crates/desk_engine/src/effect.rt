@@ -36,10 +36,7 @@ fn open_effect(k: Desk) -> Effect
 {
     Effect {
         answer: Ok(Done::Opened),
-        desk: Desk {
-            clock: 0,
-            ..k
-        },
+        desk: Desk { clock: 0, ..k },
         drop: 0,
         shift: None,
         fit: Some(Fit {
