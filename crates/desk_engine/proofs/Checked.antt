@@ -18,49 +18,37 @@ use Rattle.desk.specs.declared.Desk.{Desk}
 use Rattle.desk_reading.specs.declared.checking.Checking.{Checking}
 use Rattle.desk_reading.specs.declared.searching.Searching.{Searching}
 use Rattle.desk_reading.specs.declared.scan.Scan.{Scan}
-use Rattle.desk_reading.specs.Reading.{follows, broken, scan_step, check_end, search_step}
-use Rattle.desk_engine.specs.Beginning.{sizes_ok, opening_of, asking_of}
+use Rattle.desk_reading.specs.Reading.{follows, opening, searched_on, scan_step, scan_on, check_end, search_in, search_step}
+use Rattle.desk_reading.proofs.Broken.{none_stays}
+use Rattle.desk_engine.specs.Beginning.{sizes_ok, scan_from, searching_from, opening_of, asking_of}
+use Rattle.std.specs.Prelude.{Option, None, Some}
 
--- ---- what no step changes: the desk's record, whether it is an opening, and a broken rule
+-- ---- what stays: a broken rule, and whether it is an opening
 
-abbrev Same : Scan → Scan → Type 0
-Same r s = (r.desk ≡ s.desk) × (r.checking.opening ≡ s.checking.opening)
+fails : (l : List Job) → check_end (fold scan_on None l) ≡ false
+fails l = rw (none_stays l)
 
-pick_same : (u v w : Bool) (x y s : Scan) → Same x s → Same y s → Same (pick u (pick v x y) (pick w s y)) s
-pick_same true true w x y s h g = h
-pick_same true false w x y s h g = g
-pick_same false v true x y s h g = (refl, refl)
-pick_same false v false x y s h g = g
+opening_stays : (o : Bool) (q : Option Searching) (j : Job) → opening q ≡ o → opening (searched_on q j) ≡ o
+opening_stays o None j h = h
+opening_stays o (Some q) j h = h
 
-pub same_stays : (s : Scan) (l : List Job) → ((fold scan_step s l).desk ≡ s.desk) × ((fold scan_step s l).checking.opening ≡ s.checking.opening)
+none_searched : (l : List Job) → fold searched_on None l ≡ None
 unfolding fold
-same_stays s [] = (refl, refl)
-same_stays s (j ∷ l) =
-    let one = pick_same (ltb 0 s.left) (follows s.checking j) (zeros j) _ (broken s) s (refl, refl) (refl, refl) in
-    let more = same_stays (scan_step s j) l in
-    (more.0 ∙ one.0, more.1 ∙ one.1)
+none_searched [] = refl
+none_searched (j ∷ l) = none_searched l
 
-pick-broken : (u v w : Bool) (x y s : Scan) → x.ok ≡ false → y.ok ≡ false → s.ok ≡ false → (pick u (pick v x y) (pick w s y)).ok ≡ false
-pick-broken true true w x y s h g f = h
-pick-broken true false w x y s h g f = g
-pick-broken false v true x y s h g f = f
-pick-broken false v false x y s h g f = g
-
-broken_stays : (s : Scan) (l : List Job) → s.ok ≡ false → (fold scan_step s l).ok ≡ false
+all_searched : (q : Searching) (l : List Job) → fold searched_on (Some q) l ≡ Some (fold search_step q l)
 unfolding fold
-broken_stays s [] h = h
-broken_stays s (j ∷ l) h = broken_stays (scan_step s j) l (pick-broken (ltb 0 s.left) (follows s.checking j) (zeros j) _ (broken s) s h refl h)
-
-fails : (s : Scan) (l : List Job) → s.ok ≡ false → check_end (fold scan_step s l) ≡ false
-fails s l h = rw (broken_stays s l h)
+all_searched q [] = refl
+all_searched q (j ∷ l) = all_searched (search_step q j) l
 
 -- ---- the rules, as the pass tests them
 
-abbrev chk : Bool → Job → Checking
-chk o p = record { opening = o; end = ends p; own = x_of p []; flex = p.flex }
+abbrev chk : Job → Checking
+chk p = record { end = ends p; own = x_of p []; flex = p.flex }
 
-abbrev sc : Bool → Bool → ℕ → Job → Searching → Desk → Scan
-sc o b m p q k = record { ok = b; left = m; checking = chk o p; searching = q; desk = k }
+abbrev sc : ℕ → Job → Option Searching → Scan
+sc m p q = record { left = m; checking = chk p; searching = q }
 
 -- each x is the rule's, or is not looked at
 abbrev right_by : Bool → List Job → Bool
@@ -118,44 +106,44 @@ swap_listed false false false e o r a = refl
 at_once : (x a c : ℕ) → x - a - c ≡ x - (a + c)
 at_once x a c = omega arith
 
-rule_listed : (o : Bool) (p j : Job) (m : ℕ) (l : List Job) → rule o p (suc m) (j ∷ l) ≡ follows (chk o p) j && rule o j m l
+rule_listed : (o : Bool) (p j : Job) (m : ℕ) (l : List Job) → rule o p (suc m) (j ∷ l) ≡ follows o (chk p) j && rule o j m l
 rule_listed o p j m l =
     rw (at_once (j.flex + j.start) p.start p.budget)
     (swap_listed (job_ok j) (leb (ends p) j.start) (eqb p.flex (min (p.deadline - p.start - p.budget) (j.flex + j.start - (p.start + p.budget))) || o) (eqb j.flex (x_of j (take m l)) || o) (ordered (ends j) (take m l)) (right_by o (take m l)) (all_zeros (drop m l)))
 
-module _ (o : Bool) (k : Desk) where
+module _ (o : Bool) where
   -- what the pass finds, on from a job p
-  record Looked (p : Job) (m : ℕ) (q : Searching) (l : List Job) (r : Scan) : Type 0 where
+  record Looked (p : Job) (m : ℕ) (q : Option Searching) (l : List Job) (r : Option Scan) : Type 0 where
     pub right : check_end r ≡ rule o p m l
-    pub seen : rule o p m l ≡ true → r.searching ≡ fold search_step q (take m l)
+    pub seen : rule o p m l ≡ true → search_in r ≡ fold searched_on q (take m l)
 
-  listed : (b : Bool) (p j : Job) (m : ℕ) (q : Searching) → follows (chk o p) j ≡ true → scan_step (sc o b (suc m) p q k) j ≡ sc o b m j (search_step q j) k
-  listed b p j m q e = rw (some_more m, one_less m, e)
+  listed : (p j : Job) (m : ℕ) (q : Option Searching) → opening q ≡ o → follows o (chk p) j ≡ true → scan_step (sc (suc m) p q) j ≡ Some (sc m j (searched_on q j))
+  listed p j m q h e = rw (some_more m, one_less m, h, e)
 
-  unlisted : (b : Bool) (p j : Job) (m : ℕ) (q : Searching) → follows (chk o p) j ≡ false → scan_step (sc o b (suc m) p q k) j ≡ sc o false (suc m) p q k
-  unlisted b p j m q e = rw (some_more m, e)
+  unlisted : (p j : Job) (m : ℕ) (q : Option Searching) → opening q ≡ o → follows o (chk p) j ≡ false → scan_step (sc (suc m) p q) j ≡ None
+  unlisted p j m q h e = rw (some_more m, h, e)
 
-  look : (l : List Job) (m : ℕ) (p : Job) (q : Searching) → Looked p m q l (fold scan_step (sc o true m p q k) l)
+  look : (l : List Job) (m : ℕ) (p : Job) (q : Option Searching) → opening q ≡ o → Looked p m q l (fold scan_on (Some (sc m p q)) l)
   unfolding fold
-  look [] zero p q = record { right = last_only (eqb p.flex (x_of p []) || o); seen = λ _. refl }
-  look [] (suc m) p q = record { right = last_only (eqb p.flex (x_of p []) || o); seen = λ _. refl }
-  look (j ∷ l) zero p q = by_zeros (zeros j) refl (look l zero p q) where
-    by_zeros : (v : Bool) → zeros j ≡ v → Looked p 0 q l (fold scan_step (sc o true 0 p q k) l) → Looked p 0 q (j ∷ l) (fold scan_step (scan_step (sc o true 0 p q k) j) l)
+  look [] zero p q h = record { right = rw h (last_only (eqb p.flex (x_of p []) || o)); seen = λ _. refl }
+  look [] (suc m) p q h = record { right = rw h (last_only (eqb p.flex (x_of p []) || o)); seen = λ _. refl }
+  look (j ∷ l) zero p q h = by_zeros (zeros j) refl (look l zero p q h) where
+    by_zeros : (v : Bool) → zeros j ≡ v → Looked p 0 q l (fold scan_on (Some (sc 0 p q)) l) → Looked p 0 q (j ∷ l) (fold scan_on (scan_step (sc 0 p q) j) l)
     by_zeros true e more =
         let is : rule o p 0 (j ∷ l) ≡ rule o p 0 l = swap_past (zeros j) (after o p []) (all_zeros l) ∙ rw e in
-        rw e (record { right = more.right ∙ sym is; seen = λ h. more.seen (sym is ∙ h) })
+        rw e (record { right = more.right ∙ sym is; seen = λ g. more.seen (sym is ∙ g) })
     by_zeros false e more =
         let no : rule o p 0 (j ∷ l) ≡ false = swap_past (zeros j) (after o p []) (all_zeros l) ∙ rw e in
-        rw e (record { right = fails (sc o false 0 p q k) l refl ∙ sym no; seen = λ h. absurd (true≢false (sym h ∙ no)) })
-  look (j ∷ l) (suc m) p q = by_follows (follows (chk o p) j) refl (look l m j (search_step q j)) where
-    by_follows : (v : Bool) → follows (chk o p) j ≡ v → Looked j m (search_step q j) l (fold scan_step (sc o true m j (search_step q j) k) l)
-        → Looked p (suc m) q (j ∷ l) (fold scan_step (scan_step (sc o true (suc m) p q k) j) l)
+        rw e (record { right = fails l ∙ sym no; seen = λ g. absurd (true≢false (sym g ∙ no)) })
+  look (j ∷ l) (suc m) p q h = by_follows (follows o (chk p) j) refl (look l m j (searched_on q j) (opening_stays o q j h)) where
+    by_follows : (v : Bool) → follows o (chk p) j ≡ v → Looked j m (searched_on q j) l (fold scan_on (Some (sc m j (searched_on q j))) l)
+        → Looked p (suc m) q (j ∷ l) (fold scan_on (scan_step (sc (suc m) p q) j) l)
     by_follows true e more =
         let is : rule o p (suc m) (j ∷ l) ≡ rule o j m l = rule_listed o p j m l ∙ rw e in
-        rw (listed true p j m q e) (record { right = more.right ∙ sym is; seen = λ h. more.seen (sym is ∙ h) })
+        rw (listed p j m q h e) (record { right = more.right ∙ sym is; seen = λ g. more.seen (sym is ∙ g) })
     by_follows false e more =
         let no : rule o p (suc m) (j ∷ l) ≡ false = rule_listed o p j m l ∙ rw e in
-        rw (unlisted true p j m q e) (record { right = fails (sc o false (suc m) p q k) l refl ∙ sym no; seen = λ h. absurd (true≢false (sym h ∙ no)) })
+        rw (unlisted p j m q h e) (record { right = fails l ∙ sym no; seen = λ g. absurd (true≢false (sym g ∙ no)) })
 
   -- in front of all no job stands
   none_x : (js : List Job) → eqb 0 (x_of none js) ≡ true
@@ -165,10 +153,16 @@ module _ (o : Bool) (k : Desk) where
   first_rule : (m : ℕ) (l : List Job) → rule o none m l ≡ (ordered 0 (take m l) && right_by o (take m l)) && all_zeros (drop m l)
   first_rule m l = rw (none_x (take m l))
 
-  looked : (b : Bool) (m : ℕ) (q : Searching) (l : List Job)
-      → check_end (fold scan_step (sc o b m none q k) l) ≡ b && ((ordered 0 (take m l) && right_by o (take m l)) && all_zeros (drop m l))
-  looked true m q l = (look l m none q).right ∙ first_rule m l
-  looked false m q l = fails (sc o false m none q k) l refl
+  -- with the sizes and the clock told by b
+  looked : (b : Bool) (m : ℕ) (q : Option Searching) (l : List Job) → opening q ≡ o
+      → check_end (fold scan_on (pick b (Some (sc m none q)) None) l) ≡ b && ((ordered 0 (take m l) && right_by o (take m l)) && all_zeros (drop m l))
+  looked true m q l h = (look l m none q h).right ∙ first_rule m l
+  looked false m q l h = fails l
+
+  seen : (b : Bool) (m : ℕ) (q : Option Searching) (l : List Job) → opening q ≡ o → check_end (fold scan_on (pick b (Some (sc m none q)) None) l) ≡ true
+      → search_in (fold scan_on (pick b (Some (sc m none q)) None) l) ≡ fold searched_on q (take m l)
+  seen true m q l h g = let at = look l m none q h in at.seen (sym at.right ∙ g)
+  seen false m q l h g = absurd (true≢false (sym g ∙ fails l))
 
 swap_table : (e n o a : Bool) → (e && n) && ((o && true) && a) ≡ e && (n && (o && a))
 swap_table false n o a = refl
@@ -191,30 +185,29 @@ module _ (k : Desk) (l : List Job) where
   n = k.count
 
   -- at an opening: the table's rules
-  pub opening_law : check_end (fold scan_step (opening_of k (length l)) l) ≡ table_ok n l
+  pub opening_law : check_end (fold scan_on (opening_of k (length l)) l) ≡ table_ok n l
   opening_law =
-      looked true k (sizes_ok k (length l)) n (opening_of k (length l)).searching l
+      looked true (sizes_ok k (length l)) n None l refl
       ∙ ap (λ (r : Bool). sizes_ok k (length l) && ((ordered 0 (take n l) && r) && all_zeros (drop n l))) (right_any (take n l))
       ∙ swap_table (eqb (length l) places) (leb n places) (ordered 0 (take n l)) (all_zeros (drop n l))
 
+  pub opening_seen : table_ok n l ≡ true → search_in (fold scan_on (opening_of k (length l)) l) ≡ None
+  opening_seen h = seen true (sizes_ok k (length l)) n None l refl (opening_law ∙ h) ∙ none_searched (take n l)
+
   module _ (t c d : ℕ) where
     abbrev q : Searching
-    q = (asking_of k (length l) t c d).searching
+    q = searching_from t c d
 
     abbrev sized : Bool
     sized = leb k.clock latest && sizes_ok k (length l)
 
     -- at a request: the clock and each x too
-    pub asking_law : check_end (fold scan_step (asking_of k (length l) t c d) l) ≡ desk_ok k.clock n l
+    pub asking_law : check_end (fold scan_on (asking_of k (length l) t c d) l) ≡ desk_ok k.clock n l
     asking_law =
-        looked false k sized n q l
+        looked false sized n (Some q) l refl
         ∙ ap (λ (r : Bool). sized && ((ordered 0 (take n l) && r) && all_zeros (drop n l))) (right_looked (take n l))
         ∙ swap_desk (leb k.clock latest) (eqb (length l) places) (leb n places) (ordered 0 (take n l)) (right_x (take n l)) (all_zeros (drop n l))
 
-    by_size : (b : Bool) → check_end (fold scan_step (sc false b n none q k) l) ≡ true → (fold scan_step (sc false b n none q k) l).searching ≡ fold search_step q (take n l)
-    by_size true h = let at = look false k l n none q in at.seen (sym at.right ∙ h)
-    by_size false h = absurd (true≢false (sym h ∙ fails (sc false false n none q k) l refl))
-
     -- where the rules are kept, the search has seen the listed jobs
-    pub seen_law : desk_ok k.clock n l ≡ true → (fold scan_step (asking_of k (length l) t c d) l).searching ≡ fold search_step q (take n l)
-    seen_law h = by_size sized (asking_law ∙ h)
+    pub seen_law : desk_ok k.clock n l ≡ true → search_in (fold scan_on (asking_of k (length l) t c d) l) ≡ Some (fold search_step q (take n l))
+    seen_law h = seen false sized n (Some q) l refl (asking_law ∙ h) ∙ all_searched q (take n l)

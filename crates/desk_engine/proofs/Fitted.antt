@@ -10,7 +10,7 @@ use Rattle.desk.specs.Table.{job, x_of, refit}
 use Rattle.desk_writing.specs.declared.fit.Fit.{Fit}
 use Rattle.desk_records.specs.Folds.{fold_back, back}
 use Rattle.desk_records.specs.Sums.{most32}
-use Rattle.desk_writing.specs.Writing.{fit_from, still_fit, fitted, fit_out, fit_step, fitted_all}
+use Rattle.desk_writing.specs.Writing.{fit_from, fitted, fit_out, fit_step, fitted_all}
 use Rattle.desk_engine.proofs.Counts.{some_more, one_less}
 
 -- when the first of ks starts at the latest, far off if there is none
@@ -95,18 +95,3 @@ fit_law js ks z w =
     ∙ ap (λ (s : Fit). back fit_step fit_out s js ++ (ks ++ z)) e
     ∙ sym (append_assoc (back fit_step fit_out (fit_from 0 h) js) ks z)
     ∙ ap (λ (r : List Job). r ++ z) (back-refit js ks w)
-
--- a still pass changes nothing
-fold_back_still : (l : List Job) → fold_back fit_step still_fit l ≡ still_fit
-unfolding fold_back
-fold_back_still [] = refl
-fold_back_still (j ∷ l) = ap (λ (s : Fit). fit_step s j) (fold_back_still l)
-
-back_still : (l : List Job) → back fit_step fit_out still_fit l ≡ l
-unfolding back
-back_still [] = refl
-back_still (j ∷ l) = ap (λ (s : Fit). fit_out s j ∷ back fit_step fit_out still_fit l) (fold_back_still l) ∙ ap (λ (r : List Job). j ∷ r) (back_still l)
-
-pub fit_still : (l : List Job) → fitted_all still_fit l ≡ l
-unfolding fitted_all
-fit_still l = back_still l

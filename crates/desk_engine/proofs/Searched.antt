@@ -19,12 +19,13 @@ use Rattle.desk_records.specs.Folds.{fold}
 use Rattle.desk.proofs.Rooms.{start-next, early-none}
 use Rattle.desk_reading.specs.declared.best.Best.{Best}
 use Rattle.desk_reading.specs.Best.{no_best, best_with, sought_at}
-use Rattle.desk_reading.specs.Reading.{search_step}
+use Rattle.desk_reading.specs.Reading.{found_by, behind_by, search_step}
 use Rattle.desk_engine.proofs.Explained.{best_from}
 use Rattle.desk_engine.proofs.Counts.{sum_is}
 use Rattle.desk_engine.proofs.Dropped.{gone_by, gone-none}
 use Rattle.desk_engine.proofs.Fitted.{behind_of}
 use Rattle.desk.specs.Table.{ends}
+use Rattle.std.specs.Prelude.{None, Some}
 
 module _ (t c d : ℕ) where
   -- the search goes on, and has ended
@@ -33,13 +34,11 @@ module _ (t c d : ℕ) where
     time = t;
     budget = c;
     deadline = d;
-    looking = true;
     gone = g;
     busy = b;
-    found = false;
     place = p;
     start = s;
-    behind = most32;
+    closed = None;
     best = m;
   }
 
@@ -48,13 +47,11 @@ module _ (t c d : ℕ) where
     time = t;
     budget = c;
     deadline = d;
-    looking = false;
     gone = g;
     busy = b;
-    found = f;
     place = p;
     start = s;
-    behind = h;
+    closed = Some (record { found = f; behind = h });
     best = m;
   }
 
@@ -65,7 +62,7 @@ module _ (t c d : ℕ) where
   off_stays g b f p s h m (j ∷ l) = off_stays g b f p s h (sought_at m j) l
 
   abbrev spot_of : Searching → Place
-  spot_of e = pick (e.found || leb (e.start + c) d) (At e.place e.start) Nowhere
+  spot_of e = pick (found_by e.closed || leb (e.start + c) d) (At e.place e.start) Nowhere
 
   abbrev Asks : Searching → Type 0
   Asks e = (e.time ≡ t) × (e.budget ≡ c) × (e.deadline ≡ d)
@@ -93,7 +90,7 @@ module _ (t c d : ℕ) where
     pub busy_is : e.busy ≡ busy_from p b ks
     pub spot_is : spot_of e ≡ find_from p s c d (take (early d ks) ks)
     pub from : p ≤ e.place
-    pub behind_is : e.behind ≡ behind_of (drop (e.place - p) ks)
+    pub behind_is : behind_by e ≡ behind_of (drop (e.place - p) ks)
     pub last : find_from p s c d (take (early d ks) ks) ≡ Nowhere → Last p s m ks e
 
   -- none of ks ends by t
@@ -203,7 +200,7 @@ module _ (t c d : ℕ) where
     pub gone_is : e.gone ≡ g + gone_by t js
     pub busy_is : e.busy ≡ busy t (kept t js)
     pub spot_is : spot_of e ≡ find t c d (kept t js)
-    pub behind_is : e.behind ≡ behind_of (drop e.place (kept t js))
+    pub behind_is : behind_by e ≡ behind_of (drop e.place (kept t js))
     pub last : find t c d (kept t js) ≡ Nowhere → Last 0 t no_best (kept t js) e
 
   seek_gone : (g : ℕ) (j : Job) → leb (ends j) t ≡ true → g + 1 ≤ most32 → search_step (on g false 0 t no_best) j ≡ on (g + 1) false 0 t no_best

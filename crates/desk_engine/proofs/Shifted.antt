@@ -12,11 +12,11 @@ use Rattle.desk.proofs.Afresh.{AllNear}
 use Rattle.desk_writing.specs.declared.shift.Shift.{Shift}
 use Rattle.desk_records.specs.Folds.{forth}
 use Rattle.desk_records.specs.Sums.{most32, sum_to}
-use Rattle.desk_writing.specs.Writing.{shift_from, still_shift, shift_out, shift_step, shifted}
+use Rattle.desk_writing.specs.Writing.{shift_from, shift_out, shift_step, shifted}
 use Rattle.desk_engine.proofs.Counts.{some_more, one_less, sum_is}
 
 abbrev shift_at : ℕ → ℕ → ℕ → Job → Shift
-shift_at before put end carry = record { still = false; before = before; put = put; end = end; carry = carry }
+shift_at before put end carry = record { before = before; put = put; end = end; carry = carry }
 
 shift-before : (n put end : ℕ) (carry j : Job) → shift_step (shift_at (suc n) put end carry) j ≡ shift_at n put end carry
 shift-before n put end carry j = rw (some_more n, one_less n)
@@ -85,15 +85,6 @@ shift_law xs ks new y z h w =
 pub clear_law : (xs z : List Job) → shifted (shift_from (length xs) 0 none) (xs ++ z) ≡ xs ++ replicate (length z) none
 unfolding shifted
 clear_law xs z = forth-before xs z 0 0 none ∙ ap (λ (r : List Job). xs ++ r) (forth-none z 0 none)
-
-forth_still : (l : List Job) → forth shift_step shift_out still_shift l ≡ l
-unfolding forth
-forth_still [] = refl
-forth_still (j ∷ l) = ap (λ (r : List Job). j ∷ r) (forth_still l)
-
-pub shift_still : (l : List Job) → shifted still_shift l ≡ l
-unfolding shifted
-shift_still l = forth_still l
 
 -- no sum passes 32 bits where no move exceeds its job's x and the numbers are small
 pub record Low (j : Job) : Type 0 where

@@ -1,14 +1,10 @@
 -- What the three writing passes make of a whole table: nothing, the jobs left, or the jobs left with a new one among them. Assumes nothing.
 use Prim.Native.Nat.{ℕ, zero, suc, ◌+◌, ◌-◌, ◌<◌, ◌≤◌}
 use mathlib.Core.Path.{◌≡◌, refl, sym, ap, ◌∙◌}
-use mathlib.Core.Bool.{Bool, true, false}
+use mathlib.Core.Bool.{Bool, true}
 use mathlib.Core.List.{List, [], ◌∷◌, ◌++◌, append_assoc, append-nil}
 use native.Mathlib.Omega.{arith}
 use lib.ListN.{length, take, drop, replicate, length-append, length-take, length-drop, length-replicate, take-append-drop}
-use lib.Dec.{eqb}
-use borrow.Author.Tests.{eqb-true}
-use Rattle.rules.specs.Walk.{pick}
-use Rattle.desk_engine.specs.Deciding.{drop_from}
 use lib.Seq.{drop-length, length-take-le}
 use Rattle.rules.specs.Limits.{places}
 use Rattle.desk.specs.declared.Job.{Job}
@@ -18,33 +14,13 @@ use Rattle.desk.specs.Request.{insert_at, kept}
 use Rattle.desk.proofs.Check.{listed_of, length-refit, opened_is}
 use Rattle.desk.proofs.Chain.{Chain, chain_of, chain_kept}
 use Rattle.desk.proofs.Spot.{length_shift}
+use Rattle.desk_records.proofs.Moved.{moved_none}
 use Rattle.desk_records.specs.Folds.{moved_up}
 use Rattle.desk_records.specs.Sums.{most32}
-use Rattle.desk_writing.specs.Writing.{shift_from, still_shift, shifted, fit_from, still_fit, fitted_all}
-use Rattle.desk_engine.proofs.Fitted.{behind_of, Dues, fit_law, fit_still}
-use Rattle.desk_engine.proofs.Shifted.{shift_law, clear_law, shift_still, Within}
+use Rattle.desk_writing.specs.Writing.{shift_from, shifted, fit_from, fitted_all}
+use Rattle.desk_engine.proofs.Fitted.{behind_of, Dues, fit_law}
+use Rattle.desk_engine.proofs.Shifted.{shift_law, clear_law, Within}
 use Rattle.desk_engine.proofs.Dropped.{gone_by, drop_law, gone-few}
-
--- nothing changes
-moved_none : (l : List Job) → moved_up 0 l ≡ l
-unfolding moved_up
-moved_none l = let e : length l - 0 ≡ length l = omega arith in ap (λ (m : ℕ). l ++ drop m l) e ∙ ap (λ (r : List Job). l ++ r) (drop-length l) ∙ append-nil l
-
--- from past the table on there is nothing to move
-moved_all : (l : List Job) → length l ≡ places → moved_up places l ≡ l
-unfolding moved_up
-moved_all l h =
-    let e : length l - places ≡ 0 = omega (arith, h) in
-    ap (λ (m : ℕ). drop m l ++ drop (length l - places) l) (sym h) ∙ ap (λ (r : List Job). r ++ drop (length l - places) l) (drop-length l) ∙ ap (λ (m : ℕ). drop m l) e
-
-moved-from : (g : ℕ) (l : List Job) → length l ≡ places → moved_up (drop_from g) l ≡ moved_up g l
-moved-from g l h = by_none (eqb g 0) refl where
-  by_none : (b : Bool) → eqb g 0 ≡ b → moved_up (pick b places g) l ≡ moved_up g l
-  by_none true e = moved_all l h ∙ sym (moved_none l) ∙ ap (λ (m : ℕ). moved_up m l) (sym (eqb-true g 0 e))
-  by_none false e = refl
-
-pub still_table : (l : List Job) → fitted_all still_fit (shifted still_shift (moved_up 0 l)) ≡ l
-still_table l = fit_still (shifted still_shift (moved_up 0 l)) ∙ shift_still (moved_up 0 l) ∙ moved_none l
 
 -- no deadline is later than far off
 dues_of : (e : ℕ) (js : List Job) → Chain e js → Dues js
@@ -61,11 +37,11 @@ dues_one [] j w h = (h, tt)
 dues_one (k ∷ js) j w h = (w.0, dues_one js j w.1 h)
 
 -- the listed jobs with their own x, and zeros
-pub open_table : (n : ℕ) (l : List Job) → table_ok n l ≡ true → fitted_all (fit_from (places - n) most32) (shifted still_shift (moved_up places l)) ≡ filled (flexes (take n l))
+pub open_table : (n : ℕ) (l : List Job) → table_ok n l ≡ true → fitted_all (fit_from (places - n) most32) (moved_up 0 l) ≡ filled (flexes (take n l))
 open_table n l h =
     let w = listed_of n l h in
     let left : places - n ≡ length (drop n l) = omega (arith, length-drop n l, w.whole) in
-    ap (fitted_all (fit_from (places - n) most32)) (shift_still (moved_up places l) ∙ moved_all l w.whole)
+    ap (fitted_all (fit_from (places - n) most32)) (moved_none l)
     ∙ ap (λ (m : ℕ). fitted_all (fit_from m most32) l) left
     ∙ ap (fitted_all (fit_from (length (drop n l)) most32)) (sym (take-append-drop n l))
     ∙ fit_law (take n l) [] (drop n l) (dues_of 0 (take n l) (chain_of 0 (take n l) w.order))
@@ -95,14 +71,11 @@ module _ (t : ℕ) (l : List Job) (n : ℕ) (sixty : length l ≡ places) (o : C
   past_length : length ks + length past ≡ places
   past_length = sym (length-append ks past) ∙ ap length (sym moved_is) ∙ length_moved (gone_by t js) l gone_in ∙ sixty
 
-  dropped_is : moved_up (drop_from (gone_by t js)) l ≡ ks ++ past
-  dropped_is = moved-from (gone_by t js) l sixty ∙ moved_is
-
   -- the jobs left, and zeros
-  pub drop_table : fitted_all still_fit (shifted (shift_from (length ks) 0 none) (moved_up (drop_from (gone_by t js)) l)) ≡ filled ks
+  pub drop_table : shifted (shift_from (length ks) 0 none) (moved_up (gone_by t js) l) ≡ filled ks
   drop_table =
       let e : length past ≡ places - length ks = omega (arith, past_length) in
-      fit_still (shifted (shift_from (length ks) 0 none) (moved_up (drop_from (gone_by t js)) l)) ∙ ap (shifted (shift_from (length ks) 0 none)) dropped_is ∙ clear_law ks past ∙ ap (λ (m : ℕ). ks ++ replicate m none) e
+      ap (shifted (shift_from (length ks) 0 none)) moved_is ∙ clear_law ks past ∙ ap (λ (m : ℕ). ks ++ replicate m none) e
 
   -- the jobs left with a new one at place i, and zeros
   module _ (new : Job) (i : ℕ) (low : ends new ≤ most32) (due : new.deadline ≤ most32) (in-ks : i ≤ length ks) (some-free : length ks < places) (w : Within (ends new) (drop i ks)) where
@@ -134,13 +107,13 @@ module _ (t : ℕ) (l : List Job) (n : ℕ) (sixty : length l ≡ places) (o : C
         ∙ shift_law front rear new y z low w
         ∙ ap (λ (m : ℕ). front ++ (new ∷ (shift (ends new) rear ++ replicate m none))) e₃
 
-    pub take_table : fits (shifts (moved_up (drop_from (gone_by t js)) l)) ≡ filled (insert_at i new ks)
+    pub take_table : fits (shifts (moved_up (gone_by t js) l)) ≡ filled (insert_at i new ks)
     take_table =
         let moved_on : List Job = shift (ends new) rear in
         let e₁ : length moved_on ≡ length ks - i = length_shift (ends new) rear ∙ length-drop i ks in
         let e₂ : places - (i + 1) ≡ length (moved_on ++ zs) = omega (arith, in-ks, some-free, e₁, length-append moved_on zs, length-replicate (places - (length ks + 1)) none) in
         let e₃ : places - length (insert_at i new ks) ≡ places - (length ks + 1) = omega (arith, in-ks, length-refit (front ++ (new ∷ [])) moved_on, length-append front (new ∷ []), length-take-le i ks in-ks, e₁) in
-        ap (λ (r : List Job). fits (shifts r)) dropped_is
+        ap (λ (r : List Job). fits (shifts r)) moved_is
         ∙ ap fits (shifted_is past refl past_length ∙ sym (append_assoc front (new ∷ []) (moved_on ++ zs)))
         ∙ ap (λ (m : ℕ). fitted_all (fit_from m (behind_of moved_on)) ((front ++ (new ∷ [])) ++ (moved_on ++ zs))) e₂
         ∙ fit_law (front ++ (new ∷ [])) moved_on zs (dues_one front new (dues_take i ks (dues_of 0 ks (chain_kept t 0 js o))) due)

@@ -14,7 +14,7 @@ use Rattle.rules.specs.declared.Refusal.{Refusal}
 use Rattle.rules.specs.declared.Refusal.TheVariants.{Rules, Numbers, Past, Busy, Full, NoPlace}
 use Rattle.rules.specs.Limits.{places, latest}
 use Rattle.desk.specs.declared.Job.{Job}
-use Rattle.std.specs.Prelude.{Ok, Err}
+use Rattle.std.specs.Prelude.{Option, Ok, Err}
 use Rattle.desk.specs.declared.Done.TheVariants.{Opened}
 use Rattle.desk.specs.Table.{job, x_of, filled, flexes, outcome, right_x, table_ok, desk_ok, open_of, ends, Outcome}
 use Rattle.desk.specs.Places.{early, shift}
@@ -26,25 +26,24 @@ use Rattle.desk.proofs.Afresh.{AllNear}
 use Rattle.desk.proofs.Chain.{Chain, chain_of, chain_kept, right_kept}
 use Rattle.desk.proofs.Spot.{found_spot, spot_near, spot_inside, spot_due}
 use Rattle.desk.proofs.Rules.{not_busy}
+use Rattle.desk_records.proofs.Moved.{moved_none}
 use Rattle.desk_records.specs.Folds.{fold}
 use Rattle.desk_records.specs.Sums.{sum_to}
 use Rattle.desk_engine.proofs.Shifted.{Lows, near_within}
 use Rattle.desk_engine.proofs.Dropped.{gone_by, gone-kept}
 use Rattle.desk_engine.proofs.Fitted.{behind_of}
-use Rattle.desk_engine.proofs.Tables.{still_table, open_table, drop_table, take_table}
+use Rattle.desk_engine.proofs.Tables.{open_table, drop_table, take_table}
 use Rattle.desk.specs.declared.Desk.{Desk}
 use Rattle.desk.specs.declared.Ask.{Ask}
 use Rattle.desk.specs.declared.Ask.TheVariants.{Open, Request}
 use Rattle.desk_reading.specs.declared.searching.Searching.{Searching}
 use Rattle.desk_reading.specs.declared.scan.Scan.{Scan}
 use Rattle.desk_engine.specs.declared.effect.Effect.{Effect}
-use Rattle.desk_engine.specs.declared.decision.Decision.{Decision}
-use Rattle.desk_engine.specs.declared.decision.Decision.TheVariants.{Opens, Keeps, Drops, Takes}
 use Rattle.desk_engine.specs.Beginning.{searching_from, opening_of, asking_of, scan_for}
-use Rattle.desk_reading.specs.Reading.{scan_step, scanned, search_step, search_end, explanation_by}
-use Rattle.desk_engine.specs.Deciding.{request_decision, decision_of, keep_effect, drop_effect, take_effect, effect_by, effect_of, applied}
+use Rattle.desk_reading.specs.Reading.{scan_on, scanned, search_in, search_step, search_end, behind_by, explanation_by}
+use Rattle.desk_engine.specs.Deciding.{keep_effect, drop_effect, take_effect, request_effect, effect_by, effect_of, applied}
 use Rattle.desk.specs.Call.{call_of, Leaves}
-use Rattle.desk_engine.proofs.Checked.{same_stays, opening_law, asking_law, seen_law}
+use Rattle.desk_engine.proofs.Checked.{opening_law, opening_seen, asking_law, seen_law}
 use Rattle.desk_engine.proofs.Explained.{explained_is}
 use Rattle.desk_engine.proofs.Searched.{Searched, searched}
 
@@ -63,9 +62,9 @@ lows_drop (suc i) (j ∷ js) h = lows_drop i js h.1
 abbrev pub Made : List Job → Effect → Outcome → Type 0
 Made l p o = Leaves o p.answer p.desk (applied p l)
 
-keeps_made : (l : List Job) (s : Scan) (why : Refusal) → Made l (keep_effect why s) (outcome l s.desk.count s.desk.clock (Err why))
+keeps_made : (k : Desk) (l : List Job) (why : Refusal) → Made l (keep_effect why k) (outcome l k.count k.clock (Err why))
 unfolding applied
-keeps_made l s why = (refl, refl, still_table l)
+keeps_made k l why = (refl, refl, moved_none l)
 
 -- a job moved no further than its x starts as late as before
 behind-shift : (e : ℕ) (js : List Job) → AllNear e js → behind_of (shift e js) ≡ behind_of js
@@ -75,30 +74,23 @@ behind-shift e (j ∷ js) n = omega (arith, n.0)
 -- AN OPENING
 
 module _ (k : Desk) (l : List Job) where
-  abbrev S₁ : Scan
-  S₁ = fold scan_step (opening_of k (length l)) l
-
-  abbrev scan_of_lem : Desk → Scan
-  scan_of_lem r = record { ok = S₁.ok; left = S₁.left; checking = S₁.checking; searching = S₁.searching; desk = r }
-
-  abbrev S₀ : Scan
-  S₀ = scan_of_lem k
-
-  decides_opening : decision_of S₀ ≡ pick (table_ok k.count l) Opens (Keeps Rules)
-  decides_opening = rw (opening_law k l, (same_stays (opening_of k (length l)) l).1)
+  abbrev read_open : Option Scan
+  read_open = fold scan_on (opening_of k (length l)) l
 
   by_table : (v : Bool) → table_ok k.count l ≡ v
-      → Made l (effect_by (pick v Opens (Keeps Rules)) S₀) (pick v (outcome (filled (flexes (take k.count l))) k.count 0 (Ok Opened)) (outcome l k.count k.clock (Err Rules)))
+      → Made l (pick v (effect_by k (search_in read_open)) (keep_effect Rules k)) (pick v (outcome (filled (flexes (take k.count l))) k.count 0 (Ok Opened)) (outcome l k.count k.clock (Err Rules)))
   unfolding applied
-  by_table true h = (refl, refl, open_table k.count l h)
-  by_table false h = keeps_made l S₀ Rules
+  by_table true h =
+      subst (λ (q : Option Searching). Made l (effect_by k q) (outcome (filled (flexes (take k.count l))) k.count 0 (Ok Opened))) (sym (opening_seen k l h))
+      (refl, refl, open_table k.count l h)
+  by_table false h = keeps_made k l Rules
 
   -- answer, record and table at exit are those of the desk's opening
-  open_law : Made l (effect_of (scanned (opening_of k (length l)) l)) (open_of k.clock k.count l)
+  open_law : Made l (effect_of k (scanned (opening_of k (length l)) l)) (open_of k.clock k.count l)
   unfolding effect_of open_of scanned
   open_law =
-      subst (λ (r : Desk). Made l (effect_by (decision_of (scan_of_lem r)) (scan_of_lem r)) (open_of k.clock k.count l)) (sym (same_stays (opening_of k (length l)) l).0)
-      (subst (λ (w : Decision). Made l (effect_by w S₀) (open_of k.clock k.count l)) (sym decides_opening) (by_table (table_ok k.count l) refl))
+      subst (λ (v : Bool). Made l (pick v (effect_by k (search_in read_open)) (keep_effect Rules k)) (open_of k.clock k.count l)) (sym (opening_law k l))
+      (by_table (table_ok k.count l) refl)
 
 -- A REQUEST
 
@@ -113,16 +105,10 @@ module _ (k : Desk) (l : List Job) (t c d : ℕ) where
   ks = kept t js
 
   abbrev e : Searching
-  e = fold search_step (searching_from true t c d) js
+  e = fold search_step (searching_from t c d) js
 
-  abbrev S₂ : Scan
-  S₂ = fold scan_step (asking_of k (length l) t c d) l
-
-  abbrev scan_with : Searching → Desk → Scan
-  scan_with q r = record { ok = S₂.ok; left = S₂.left; checking = S₂.checking; searching = q; desk = r }
-
-  abbrev S : Scan
-  S = scan_with e k
+  abbrev read_asked : Option Scan
+  read_asked = fold scan_on (asking_of k (length l) t c d) l
 
   -- what is left where refusals 13 to 15 don't hold
   abbrev left : Bool → Outcome
@@ -151,12 +137,12 @@ module _ (k : Desk) (l : List Job) (t c d : ℕ) where
     spot_e : pick (search_end e) (At e.place e.start) Nowhere ≡ find t c d ks
     spot_e = rw (so.asks.1, so.asks.2) so.spot_is
 
-    drop_made : (why : Refusal) → Made l (drop_effect why S) (dropping t ks why)
+    drop_made : (why : Refusal) → Made l (drop_effect why k e) (dropping t ks why)
     unfolding applied
     drop_made why = (refl, rw (so.asks.0, rest_e), rw (rest_e, gone_e) (drop_table t l n sixty chain))
 
     module _ (right : right_x js ≡ true) (hd : d ≤ latest) where
-      take_made : find t c d ks ≡ At e.place e.start → busy t ks ≡ false → length ks < places → Made l (take_effect S) (taking t c d ks (At e.place e.start))
+      take_made : find t c d ks ≡ At e.place e.start → busy t ks ≡ false → length ks < places → Made l (take_effect k e) (taking t c d ks (At e.place e.start))
       unfolding applied
       take_made hf hb hk =
           let same = so.asks in
@@ -169,7 +155,7 @@ module _ (k : Desk) (l : List Job) (t c d : ℕ) where
           let one : sum_to (length ks) 1 ≡ length ks + 1 = omega (arith, hk) in
           let puts : sum_to (length ks - e.place) 1 ≡ suc (length ks - e.place) = omega (arith, hk) in
           let waits : sum_to e.place 1 ≡ e.place + 1 = omega (arith, hk, inside) in
-          let behind-e : e.behind ≡ behind_of (shift (e.start + c) (drop e.place ks)) = so.behind_is ∙ sym (behind-shift (e.start + c) (drop e.place ks) near) in (
+          let behind-e : behind_by e ≡ behind_of (shift (e.start + c) (drop e.place ks)) = so.behind_is ∙ sym (behind-shift (e.start + c) (drop e.place ks) near) in (
             refl,
             rw (same.0, rest_e, one),
             rw (same.1, same.2, rest_e, gone_e, puts, waits, behind-e)
@@ -185,36 +171,33 @@ module _ (k : Desk) (l : List Job) (t c d : ℕ) where
           rw (so.asks.2, last.best_is, last.start_is, last.place_is, first)
           (explained_is t d ks (not_busy t ks hb chain_ks) (right_kept t 0 js chain right) (omega (arith, gone-kept t js, length_js, few)))
 
-      abbrev rests : Bool → Bool → Decision
-      rests b f = pick b (Drops Busy) (pick f (Drops Full) (pick (search_end e) Takes (Drops (NoPlace (explanation_by e)))))
+      abbrev found : Bool → Effect
+      found v = pick v (take_effect k e) (drop_effect (NoPlace (explanation_by e)) k e)
 
-      by_found : (v : Bool) → search_end e ≡ v → busy t ks ≡ false → length ks < places → Made l (effect_by (pick v Takes (Drops (NoPlace (explanation_by e)))) S) (taking t c d ks (find t c d ks))
+      abbrev rests : Bool → Bool → Effect
+      rests b f = pick b (drop_effect Busy k e) (pick f (drop_effect Full k e) (found (search_end e)))
+
+      by_found : (v : Bool) → search_end e ≡ v → busy t ks ≡ false → length ks < places → Made l (found v) (taking t c d ks (find t c d ks))
       by_found true h hb hk =
           let hf : At e.place e.start ≡ find t c d ks = rw h at spot_e in
-          subst (λ (p : Place). Made l (take_effect S) (taking t c d ks p)) hf (take_made (sym hf) hb hk)
+          subst (λ (p : Place). Made l (take_effect k e) (taking t c d ks p)) hf (take_made (sym hf) hb hk)
       by_found false h hb hk =
           let hf : Nowhere ≡ find t c d ks = rw h at spot_e in
-          subst (λ (p : Place). Made l (drop_effect (NoPlace (explanation_by e)) S) (taking t c d ks p)) hf
-          (subst (λ (why : Explanation). Made l (drop_effect (NoPlace (explanation_by e)) S) (dropping t ks (NoPlace why))) (told_e hb (sym hf)) (drop_made (NoPlace (explanation_by e))))
+          subst (λ (p : Place). Made l (drop_effect (NoPlace (explanation_by e)) k e) (taking t c d ks p)) hf
+          (subst (λ (why : Explanation). Made l (drop_effect (NoPlace (explanation_by e)) k e) (dropping t ks (NoPlace why))) (told_e hb (sym hf)) (drop_made (NoPlace (explanation_by e))))
 
       by_full : (v : Bool) → leb places (length ks) ≡ v → busy t ks ≡ false
-          → Made l (effect_by (pick v (Drops Full) (pick (search_end e) Takes (Drops (NoPlace (explanation_by e))))) S) (pick v (dropping t ks Full) (taking t c d ks (find t c d ks)))
+          → Made l (pick v (drop_effect Full k e) (found (search_end e))) (pick v (dropping t ks Full) (taking t c d ks (find t c d ks)))
       by_full true h hb = drop_made Full
       by_full false h hb = by_found (search_end e) refl hb (leb-false places (length ks) h)
 
-      by_busy : (v : Bool) → busy t ks ≡ v → Made l (effect_by (rests v (leb places (length ks))) S) (left v)
+      by_busy : (v : Bool) → busy t ks ≡ v → Made l (rests v (leb places (length ks))) (left v)
       by_busy true h = drop_made Busy
       by_busy false h = by_full (leb places (length ks)) refl h
 
-      after_made : Made l (effect_by (rests e.busy (leb places (n - e.gone))) S) (left (busy t ks))
-      after_made = subst (λ (v : Bool). Made l (effect_by (rests v (leb places (n - e.gone))) S) (left (busy t ks))) (sym busy_e)
-          (subst (λ (m : ℕ). Made l (effect_by (rests (busy t ks) (leb places m)) S) (left (busy t ks))) (sym rest_e) (by_busy (busy t ks) refl))
-
-  decides_asked : (q : Searching) (v₁ : Bool) → desk_ok k.clock n l ≡ v₁ → decision_of (scan_with q k) ≡ pick v₁ (request_decision (scan_with q k)) (Keeps Rules)
-  decides_asked q v₁ h₁ = rw (asking_law k l t c d, (same_stays (asking_of k (length l) t c d) l).1, h₁)
-
-  at : (o : Outcome) (s : Scan) (v w : Decision) → v ≡ w → Made l (effect_by w s) o → Made l (effect_by v s) o
-  at o s v w h m = subst (λ (u : Decision). Made l (effect_by u s) o) (sym h) m
+      after_made : Made l (rests e.busy (leb places (n - e.gone))) (left (busy t ks))
+      after_made = subst (λ (v : Bool). Made l (rests v (leb places (n - e.gone))) (left (busy t ks))) (sym busy_e)
+          (subst (λ (m : ℕ). Made l (rests (busy t ks) (leb places m)) (left (busy t ks))) (sym rest_e) (by_busy (busy t ks) refl))
 
   -- on a sound table: 14, 15, and what is left
   module _ (h₁ : desk_ok k.clock n l ≡ true) where
@@ -224,36 +207,38 @@ module _ (k : Desk) (l : List Job) (t c d : ℕ) where
     chain_js : Chain 0 js
     chain_js = chain_of 0 js w.order
 
-    decides_request : (v₂ v₃ : Bool) → numbers_ok t c d ≡ v₂ → ltb t k.clock ≡ v₃
-        → request_decision S ≡ pick v₂ (pick v₃ (Keeps Past) (pick e.busy (Drops Busy) (pick (leb places (n - e.gone)) (Drops Full) (pick (search_end e) Takes (Drops (NoPlace (explanation_by e))))))) (Keeps Numbers)
-    decides_request v₂ v₃ h₂ h₃ =
-        let same = (so w.whole w.few chain_js).asks in
-        rw (same.0, same.1, same.2, h₂, h₃)
+    abbrev asked_of : Bool → Bool → Effect
+    asked_of v₂ v₃ = pick v₂ (pick v₃ (keep_effect Past k) (pick e.busy (drop_effect Busy k e) (pick (leb places (n - e.gone)) (drop_effect Full k e) (pick (search_end e) (take_effect k e) (drop_effect (NoPlace (explanation_by e)) k e))))) (keep_effect Numbers k)
 
     go : (v₂ v₃ : Bool) → numbers_ok t c d ≡ v₂ → ltb t k.clock ≡ v₃
-        → Made l (effect_by (request_decision S) S) (pick (not v₂) (outcome l n k.clock (Err Numbers)) (pick v₃ (outcome l n k.clock (Err Past)) (left (busy t ks))))
-    go false v₃ h₂ h₃ = at _ S _ (Keeps Numbers) (decides_request false v₃ h₂ h₃) (keeps_made l S Numbers)
-    go true true h₂ h₃ = at _ S _ (Keeps Past) (decides_request true true h₂ h₃) (keeps_made l S Past)
-    go true false h₂ h₃ = at _ S _ _ (decides_request true false h₂ h₃) (after_made w.whole w.few chain_js (desk_right k.clock n l h₁) (numbers-small t c d h₂).1)
+        → Made l (asked_of v₂ v₃) (pick (not v₂) (outcome l n k.clock (Err Numbers)) (pick v₃ (outcome l n k.clock (Err Past)) (left (busy t ks))))
+    go false v₃ h₂ h₃ = keeps_made k l Numbers
+    go true true h₂ h₃ = keeps_made k l Past
+    go true false h₂ h₃ = after_made w.whole w.few chain_js (desk_right k.clock n l h₁) (numbers-small t c d h₂).1
+
+    request_made : Made l (request_effect k e) (pick (not (numbers_ok t c d)) (outcome l n k.clock (Err Numbers)) (pick (ltb t k.clock) (outcome l n k.clock (Err Past)) (left (busy t ks))))
+    request_made =
+        let same = (so w.whole w.few chain_js).asks in
+        let is : request_effect k e ≡ asked_of (numbers_ok t c d) (ltb t k.clock) = rw (same.0, same.1, same.2) in
+        subst (λ (p : Effect). Made l p (pick (not (numbers_ok t c d)) (outcome l n k.clock (Err Numbers)) (pick (ltb t k.clock) (outcome l n k.clock (Err Past)) (left (busy t ks))))) (sym is)
+        (go (numbers_ok t c d) (ltb t k.clock) refl refl)
 
   abbrev asked : Bool → Outcome
   asked v = pick (not v) (outcome l n k.clock (Err Rules))
       (pick (not (numbers_ok t c d)) (outcome l n k.clock (Err Numbers)) (pick (ltb t k.clock) (outcome l n k.clock (Err Past)) (left (busy t ks))))
 
-  by_rules : (v : Bool) → desk_ok k.clock n l ≡ v → Made l (effect_by (decision_of (scan_with S₂.searching k)) (scan_with S₂.searching k)) (asked v)
-  by_rules false h = at _ (scan_with S₂.searching k) _ (Keeps Rules) (decides_asked S₂.searching false h) (keeps_made l (scan_with S₂.searching k) Rules)
-  by_rules true h =
-      subst (λ (q : Searching). Made l (effect_by (decision_of (scan_with q k)) (scan_with q k)) (asked true)) (sym (seen_law k l t c d h))
-      (at _ S _ (request_decision S) (decides_asked e true h) (go h (numbers_ok t c d) (ltb t k.clock) refl refl))
+  by_rules : (v : Bool) → desk_ok k.clock n l ≡ v → Made l (pick v (effect_by k (search_in read_asked)) (keep_effect Rules k)) (asked v)
+  by_rules false h = keeps_made k l Rules
+  by_rules true h = subst (λ (q : Option Searching). Made l (effect_by k q) (asked true)) (sym (seen_law k l t c d h)) (request_made h)
 
   -- answer, record and table at exit are those of the desk's request
-  request_law : Made l (effect_of (scanned (asking_of k (length l) t c d) l)) (request_of k.clock n l t c d)
+  request_law : Made l (effect_of k (scanned (asking_of k (length l) t c d) l)) (request_of k.clock n l t c d)
   unfolding effect_of request_of scanned
   request_law =
-      subst (λ (r : Desk). Made l (effect_by (decision_of (scan_with S₂.searching r)) (scan_with S₂.searching r)) (request_of k.clock n l t c d)) (sym (same_stays (asking_of k (length l) t c d) l).0)
+      subst (λ (v : Bool). Made l (pick v (effect_by k (search_in read_asked)) (keep_effect Rules k)) (request_of k.clock n l t c d)) (sym (asking_law k l t c d))
       (by_rules (desk_ok k.clock n l) refl)
 
 -- what a call leaves
-pub call_law : (k : Desk) (l : List Job) (ask : Ask) → Made l (effect_of (scanned (scan_for k (length l) ask) l)) (call_of k.clock k.count l ask)
+pub call_law : (k : Desk) (l : List Job) (ask : Ask) → Made l (effect_of k (scanned (scan_for k (length l) ask) l)) (call_of k.clock k.count l ask)
 call_law k l Open = open_law k l
 call_law k l (Request q) = request_law k l q.time q.budget q.deadline

@@ -1,11 +1,11 @@
 -- Words that only inner contracts use: no statement and no entry's contract cites them. Assumes nothing.
 -- What the reading pass begins with.
-use Rattle.std.specs.Prelude.{ℕ, Bool, true, false, ◌&&◌, leb, eqb}
+use Rattle.std.specs.Prelude.{ℕ, Bool, false, ◌&&◌, leb, eqb, Option, None, Some}
+use Rattle.rules.specs.Walk.{pick}
 use Rattle.rules.specs.Limits.{places, latest}
 use Rattle.desk.specs.declared.Desk.{Desk}
 use Rattle.desk.specs.declared.Ask.{Ask}
 use Rattle.desk.specs.declared.Ask.TheVariants.{Open, Request}
-use Rattle.desk_records.specs.Sums.{most32}
 use Rattle.desk_reading.specs.Best.{no_best}
 use Rattle.desk_reading.specs.declared.checking.Checking.{Checking}
 use Rattle.desk_reading.specs.declared.searching.Searching.{Searching}
@@ -17,44 +17,32 @@ use Rattle.desk_reading.specs.declared.scan.Scan.{Scan}
 abbrev pub sizes_ok : Desk → ℕ → Bool
 sizes_ok k n = eqb n places && leb k.count places
 
-abbrev pub checking_from : Bool → Checking
-checking_from o = record { opening = o; end = 0; own = 0; flex = 0 }
+-- in front of all jobs
+abbrev pub scan_from : Desk → Option Searching → Scan
+scan_from k searching = record { left = k.count; checking = record { end = 0; own = 0; flex = 0 }; searching = searching }
 
-abbrev pub searching_from : Bool → ℕ → ℕ → ℕ → Searching
-searching_from looking t c d = record {
+abbrev pub searching_from : ℕ → ℕ → ℕ → Searching
+searching_from t c d = record {
   time = t;
   budget = c;
   deadline = d;
-  looking = looking;
   gone = 0;
   busy = false;
-  found = false;
   place = 0;
   start = t;
-  behind = most32;
+  closed = None;
   best = no_best;
 }
 
 -- "Opening takes any x of a listed job and any clock"
-abbrev pub opening_of : Desk → ℕ → Scan
-opening_of k n = record {
-  ok = sizes_ok k n;
-  left = k.count;
-  checking = checking_from true;
-  searching = searching_from false 0 0 0;
-  desk = k;
-}
+abbrev pub opening_of : Desk → ℕ → Option Scan
+opening_of k n = pick (sizes_ok k n) (Some (scan_from k None)) None
 
 -- "A request at time t has budget C and deadline d."
-abbrev pub asking_of : Desk → ℕ → ℕ → ℕ → ℕ → Scan
-asking_of k n t c d = record {
-  ok = leb k.clock latest && sizes_ok k n;
-  left = k.count;
-  checking = checking_from false;
-  searching = searching_from true t c d;
-  desk = k;
-}
+abbrev pub asking_of : Desk → ℕ → ℕ → ℕ → ℕ → Option Scan
+asking_of k n t c d =
+    pick (leb k.clock latest && sizes_ok k n) (Some (scan_from k (Some (searching_from t c d)))) None
 
-abbrev pub scan_for : Desk → ℕ → Ask → Scan
+abbrev pub scan_for : Desk → ℕ → Ask → Option Scan
 scan_for k n Open = opening_of k n
 scan_for k n (Request q) = asking_of k n q.time q.budget q.deadline

@@ -1,108 +1,77 @@
-// What the reading pass begins with.
+// What the reading pass begins with; none where the sizes or the clock break the rules.
 ghost use Rattle.std.specs.Prelude.{◌≡◌, ◌&&◌, leb};
 ghost use Rattle.rules.specs.Limits.{latest};
-ghost use Rattle.desk_engine.specs.Beginning.{sizes_ok, opening_of, asking_of, scan_for};
+ghost use Rattle.desk_engine.specs.Beginning.{sizes_ok, scan_from, searching_from, scan_for};
 
-use desk::{Ask, Desk};
+use desk::{Ask, Asked, Desk};
 use desk_reading::best::no_best;
 use desk_reading::checking::Checking;
 use desk_reading::scan::Scan;
 use desk_reading::searching::Searching;
-use desk_records::numbers::{ALL_PLACES, FAR};
+use desk_records::numbers::ALL_PLACES;
 use rules::limits::{LATEST, PLACES};
 
 // As many places as there must be, and a count of at most so many.
 pub fn sizes_ok(k: Desk, n: usize) -> bool
     ensures { result ≡ sizes_ok k n }
 {
-    if n != PLACES {
-        return false;
-    }
-    k.count <= ALL_PLACES
+    n == PLACES && k.count <= ALL_PLACES
 }
 
 // The same, and a request's clock.
 pub fn clock_ok(k: Desk, n: usize) -> bool
     ensures { result ≡ (leb k.clock latest && sizes_ok k n) }
 {
-    if LATEST < k.clock {
-        return false;
-    }
-    sizes_ok(k, n)
+    k.clock <= LATEST && sizes_ok(k, n)
 }
 
-// What the pass begins with at an opening: nothing is searched.
-pub fn opening(k: Desk, n: usize) -> Scan
-    ensures { result ≡ opening_of k n }
+// In front of all jobs.
+fn scan_from(k: Desk, searching: Option<Searching>) -> Scan
+    ensures { result ≡ scan_from k searching }
 {
-    let ok = sizes_ok(k, n);
-    let a = Checking {
-        opening: true,
-        end: 0,
-        own: 0,
-        flex: 0,
-    };
-    let b = Searching {
-        time: 0,
-        budget: 0,
-        deadline: 0,
-        looking: false,
-        gone: 0,
-        busy: false,
-        found: false,
-        place: 0,
-        start: 0,
-        behind: FAR,
-        best: no_best(),
-    };
     Scan {
-        ok: ok,
         left: k.count,
-        checking: a,
-        searching: b,
-        desk: k,
+        checking: Checking {
+            end: 0,
+            own: 0,
+            flex: 0,
+        },
+        searching,
     }
 }
 
-// What the pass begins with at a request.
-pub fn asking(k: Desk, n: usize, t: u32, c: u32, d: u32) -> Scan
-    ensures { result ≡ asking_of k n t c d }
+fn searching_from(q: Asked) -> Searching
+    ensures { result ≡ searching_from q.time q.budget q.deadline }
 {
-    let ok = clock_ok(k, n);
-    let a = Checking {
-        opening: false,
-        end: 0,
-        own: 0,
-        flex: 0,
-    };
-    let b = Searching {
-        time: t,
-        budget: c,
-        deadline: d,
-        looking: true,
+    Searching {
+        time: q.time,
+        budget: q.budget,
+        deadline: q.deadline,
         gone: 0,
         busy: false,
-        found: false,
         place: 0,
-        start: t,
-        behind: FAR,
+        start: q.time,
+        closed: None,
         best: no_best(),
-    };
-    Scan {
-        ok: ok,
-        left: k.count,
-        checking: a,
-        searching: b,
-        desk: k,
     }
 }
 
 // What the pass begins with.
-pub fn scan_for(k: Desk, n: usize, ask: Ask) -> Scan
+pub fn scan_for(k: Desk, n: usize, ask: Ask) -> Option<Scan>
     ensures { result ≡ scan_for k n ask }
 {
     match ask {
-        Ask::Open => opening(k, n),
-        Ask::Request(q) => asking(k, n, q.time, q.budget, q.deadline),
+        Ask::Open => {
+            if sizes_ok(k, n) {
+                return Some(scan_from(k, None));
+            }
+            None
+        }
+        Ask::Request(q) => {
+            if clock_ok(k, n) {
+                return Some(scan_from(k, Some(searching_from(q))));
+            }
+            None
+        }
     }
 }

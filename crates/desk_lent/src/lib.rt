@@ -9,32 +9,33 @@ ghost use Rattle.desk_engine.specs.Deciding.{effect_of, applied};
 
 use desk::{Ask, Desk, Done, Job};
 use desk_engine::begin::scan_for;
-use desk_engine::effect::{Effect, answer_of, desk_of, drop_of, effect_of, fit_of, shift_of};
+use desk_engine::effect::{Effect, effect_of};
 use desk_reading::scan::Scan;
 use desk_walks::{drop_pass, fit_pass, scan_pass, shift_pass};
 use rules::Refusal;
 
-// The three writing passes, one after the other.
+// The writing passes that are made, one after the other.
+#[tactic(auto, unfolding(desk_engine::specs::Deciding::applied))]
 fn apply(jobs: &mut [Job], p: Effect)
     ensures { jobs.new ≡ applied p jobs.old }
 {
-    let k = drop_of(p);
-    drop_pass(&mut *jobs, k);
-    let a = shift_of(p);
-    shift_pass(&mut *jobs, a);
-    let b = fit_of(p);
-    fit_pass(&mut *jobs, b);
+    drop_pass(&mut *jobs, p.drop);
+    if let Some(s) = p.shift {
+        shift_pass(&mut *jobs, s);
+    }
+    if let Some(s) = p.fit {
+        fit_pass(&mut *jobs, s);
+    }
 }
 
 // One reading pass, what is decided by it, and the writing passes.
-fn serve(jobs: &mut [Job], s: Scan) -> Effect
-    ensures { (result ≡ effect_of (scanned s jobs.old))
+fn serve(jobs: &mut [Job], k: Desk, s: Option<Scan>) -> Effect
+    ensures { (result ≡ effect_of k (scanned s jobs.old))
         × (jobs.new ≡ applied result jobs.old) }
 {
-    let l = scan_pass(&*jobs, s);
-    let r = effect_of(l);
-    apply(&mut *jobs, r);
-    r
+    let done = effect_of(k, scan_pass(&*jobs, s));
+    apply(jobs, done);
+    done
 }
 
 // Opens the desk, or asks it to take a job in.
@@ -43,11 +44,8 @@ pub fn call(desk: &mut Desk, jobs: &mut [Job], ask: Ask) -> Result<Done, Refusal
         (call_of desk.old.clock desk.old.count jobs.old ask)
         result desk.new jobs.new }
 {
-    let k = *desk;
-    let n = jobs.len();
-    let s = scan_for(k, n, ask);
-    let r = serve(&mut *jobs, s);
-    let e = desk_of(r);
-    *desk = e;
-    answer_of(r)
+    let s = scan_for(*desk, jobs.len(), ask);
+    let done = serve(jobs, *desk, s);
+    *desk = done.desk;
+    done.answer
 }

@@ -1,6 +1,6 @@
 -- Words that only inner contracts use: no statement and no entry's contract cites them. Assumes nothing.
 -- One step of the reading pass: the table's rules and the search for a place; laws tie them to the desk's.
-use Rattle.std.specs.Prelude.{ℕ, ◌+◌, ◌-◌, min, Bool, true, false, ◌&&◌, ◌||◌, List, [], leb, ltb, eqb}
+use Rattle.std.specs.Prelude.{ℕ, ◌+◌, ◌-◌, min, Bool, true, false, ◌&&◌, ◌||◌, List, [], leb, ltb, eqb, Option, None, Some}
 use Rattle.rules.specs.Walk.{pick}
 use Rattle.rules.specs.declared.Explanation.{Explanation}
 use Rattle.rules.specs.declared.Explanation.TheVariants.{Nowhere}
@@ -8,26 +8,27 @@ use Rattle.desk.specs.declared.Job.{Job}
 use Rattle.desk.specs.Table.{job, start, budget, flex, ends, x_of, job_ok, zeros}
 use Rattle.desk.specs.Places.{room}
 use Rattle.desk_reading.specs.declared.checking.Checking.{Checking}
+use Rattle.desk_reading.specs.declared.searching.Closed.{Closed}
 use Rattle.desk_reading.specs.declared.searching.Searching.{Searching}
 use Rattle.desk_reading.specs.declared.scan.Scan.{Scan}
 use Rattle.desk_reading.specs.Best.{best_with, sought_at, explained}
 use Rattle.desk_records.specs.Folds.{fold}
-use Rattle.desk_records.specs.Sums.{sum_to}
+use Rattle.desk_records.specs.Sums.{most32, sum_to}
 
 -- ---- the table's rules: a listed job is held against the one before; an opening looks at no x
 
 -- j may stand behind the job before, whose x is the rule's, or is not looked at
-abbrev pub follows : Checking → Job → Bool
-follows s j =
-    job_ok j && (leb s.end (start j) && (eqb s.flex (min s.own (flex j + start j - s.end)) || s.opening))
+abbrev pub follows : Bool → Checking → Job → Bool
+follows opening s j =
+    job_ok j && (leb s.end (start j) && (eqb s.flex (min s.own (flex j + start j - s.end)) || opening))
 
 -- j is the job before
-abbrev pub behind : Checking → Job → Checking
-behind s j = record { opening = s.opening; end = ends j; own = x_of j []; flex = flex j }
+abbrev pub behind : Job → Checking
+behind j = record { end = ends j; own = x_of j []; flex = flex j }
 
 -- the last job's x is the rule's, or is not looked at
-abbrev pub last_ok : Checking → Bool
-last_ok s = eqb s.flex s.own || s.opening
+abbrev pub last_ok : Bool → Checking → Bool
+last_ok opening s = eqb s.flex s.own || opening
 
 -- ---- the search among the jobs that do not end by t, which are behind those that do
 
@@ -37,13 +38,11 @@ search_dropped s = record {
   time = s.time;
   budget = s.budget;
   deadline = s.deadline;
-  looking = s.looking;
   gone = sum_to s.gone 1;
   busy = s.busy;
-  found = s.found;
   place = s.place;
   start = s.start;
-  behind = s.behind;
+  closed = s.closed;
   best = s.best;
 }
 
@@ -53,13 +52,11 @@ search_closed s busy found j = record {
   time = s.time;
   budget = s.budget;
   deadline = s.deadline;
-  looking = false;
   gone = s.gone;
   busy = busy;
-  found = found;
   place = s.place;
   start = s.start;
-  behind = flex j + start j;
+  closed = Some (record { found = found; behind = flex j + start j });
   best = sought_at s.best j;
 }
 
@@ -69,13 +66,11 @@ search_past s busy r j = record {
   time = s.time;
   budget = s.budget;
   deadline = s.deadline;
-  looking = s.looking;
   gone = s.gone;
   busy = busy;
-  found = s.found;
   place = sum_to s.place 1;
   start = sum_to (start j) (budget j);
-  behind = s.behind;
+  closed = s.closed;
   best = sought_at (best_with s.best s.place r (ltb (flex j) (s.deadline - start j))) j;
 }
 
@@ -85,13 +80,11 @@ search_behind s j = record {
   time = s.time;
   budget = s.budget;
   deadline = s.deadline;
-  looking = s.looking;
   gone = s.gone;
   busy = s.busy;
-  found = s.found;
   place = s.place;
   start = s.start;
-  behind = s.behind;
+  closed = s.closed;
   best = sought_at s.best j;
 }
 
@@ -107,19 +100,32 @@ search_look s j =
     (search_closed s (busy_after s j) true j))
 
 -- one more job: one that ends by t is dropped, any other is looked at; behind the place only the job that binds is sought
+abbrev pub search_by : Option Closed → Searching → Job → Searching
+search_by None s j = pick (leb (ends j) s.time) (search_dropped s) (search_look s j)
+search_by (Some z) s j = search_behind s j
+
 abbrev pub search_step : Searching → Job → Searching
-search_step s j =
-    pick s.looking
-    (pick (leb (ends j) s.time) (search_dropped s) (search_look s j))
-    (search_behind s j)
+search_step s j = search_by s.closed s j
 
 -- the job asked for, at the start that the search has come to
 abbrev pub new_job : Searching → Job
 new_job s = job s.start s.budget s.deadline 0
 
 -- after the last place: one with room is found, or place l "is taken when s + C ≤ d"
+abbrev pub found_by : Option Closed → Bool
+found_by None = false
+found_by (Some z) = z.found
+
 abbrev pub search_end : Searching → Bool
-search_end s = s.found || leb (ends (new_job s)) s.deadline
+search_end s = found_by s.closed || leb (ends (new_job s)) s.deadline
+
+-- when the job behind the place has to start at the latest, far off if there is none
+abbrev pub behind_at : Option Closed → ℕ
+behind_at None = most32
+behind_at (Some z) = z.behind
+
+abbrev pub behind_by : Searching → ℕ
+behind_by s = behind_at s.closed
 
 -- with place l, which "has room d − s, bound by the request's deadline; a place with room below 0 is none"
 abbrev pub explanation_by : Searching → Explanation
@@ -129,30 +135,43 @@ explanation_by s =
 
 -- ---- the whole pass
 
--- a rule is broken
-abbrev pub broken : Scan → Scan
-broken s = record { ok = false; left = s.left; checking = s.checking; searching = s.searching; desk = s.desk }
+-- an opening searches nothing
+abbrev pub opening : Option Searching → Bool
+opening None = true
+opening (Some b) = false
 
--- a listed job is checked and searched at once
-abbrev pub listed_step : Scan → Job → Scan
+abbrev pub searched_on : Option Searching → Job → Option Searching
+searched_on None j = None
+searched_on (Some b) j = Some (search_step b j)
+
+-- a listed job is checked and searched at once; none where a rule is broken
+abbrev pub listed_step : Scan → Job → Option Scan
 listed_step s j =
-    pick (follows s.checking j)
-    (record {
-      ok = s.ok;
-      left = s.left - 1;
-      checking = behind s.checking j;
-      searching = search_step s.searching j;
-      desk = s.desk;
-    })
-    (broken s)
+    pick (follows (opening s.searching) s.checking j)
+    (Some (record { left = s.left - 1; checking = behind j; searching = searched_on s.searching j }))
+    None
 
 -- a place past the count is held against zeros
-abbrev pub scan_step : Scan → Job → Scan
-scan_step s j = pick (ltb 0 s.left) (listed_step s j) (pick (zeros j) s (broken s))
+abbrev pub scan_step : Scan → Job → Option Scan
+scan_step s j = pick (ltb 0 s.left) (listed_step s j) (pick (zeros j) (Some s) None)
 
 -- after the last place
-abbrev pub check_end : Scan → Bool
-check_end s = s.ok && last_ok s.checking
+abbrev pub right_end : Scan → Bool
+right_end s = last_ok (opening s.searching) s.checking
 
-unfoldable pub scanned : Scan → List Job → Scan
-scanned s l = fold scan_step s l
+-- a broken rule stays broken
+abbrev pub scan_on : Option Scan → Job → Option Scan
+scan_on None j = None
+scan_on (Some s) j = scan_step s j
+
+abbrev pub check_end : Option Scan → Bool
+check_end None = false
+check_end (Some s) = right_end s
+
+-- what was searched
+abbrev pub search_in : Option Scan → Option Searching
+search_in None = None
+search_in (Some s) = s.searching
+
+unfoldable pub scanned : Option Scan → List Job → Option Scan
+scanned s l = fold scan_on s l

@@ -1,69 +1,51 @@
 // One step of the reading pass: a listed job is checked and looked at by the search, a place past the count checked.
 ghost use Rattle.std.specs.Prelude.{◌≡◌, ◌<◌};
-ghost use Rattle.desk_reading.specs.Reading.{broken, listed_step, scan_step, check_end};
+ghost use Rattle.desk_reading.specs.Reading.{listed_step, scan_step, right_end};
 
 use crate::checking::{Checking, behind_it, follows_on, last_ok};
 use crate::searching::{Searching, search_step};
-use desk::{Desk, Job};
-use desk_records::records::is_none;
+use desk::Job;
+use desk_records::records::no_job;
 
-// Right so far, listed jobs still to come, the check and the search, and the desk's record as it came.
-// Once a rule is broken all else is of no account.
+// Listed jobs still to come, the check, and a request's search: an opening searches nothing.
 #[derive(Clone, Copy)]
 pub struct Scan {
-    pub ok: bool,
     pub left: u32,
     pub checking: Checking,
-    pub searching: Searching,
-    pub desk: Desk,
-}
-
-// A rule is broken.
-fn breaks(s: Scan) -> Scan
-    ensures { result ≡ broken s }
-{
-    let mut r = s;
-    r.ok = false;
-    r
+    pub searching: Option<Searching>,
 }
 
 // One more listed job.
-fn listed_step(s: Scan, j: Job) -> Scan
+fn listed_step(s: Scan, j: Job) -> Option<Scan>
     requires { 0 < s.left }
     ensures { result ≡ listed_step s j }
 {
-    let a = s.checking;
-    let b = s.searching;
-    if follows_on(a, j) {
-        let mut r = s;
-        r.left = s.left - 1;
-        r.checking = behind_it(a, j);
-        r.searching = search_step(b, j);
-        return r;
+    if follows_on(s.searching.is_none(), s.checking, j) {
+        return Some(Scan {
+            left: s.left - 1,
+            checking: behind_it(j),
+            searching: s.searching.map(|b| search_step(b, j)),
+        });
     }
-    breaks(s)
+    None
 }
 
-// One more place.
-pub fn scan_step(s: Scan, j: Job) -> Scan
+// One more place; none where a rule is broken.
+pub fn scan_step(s: Scan, j: Job) -> Option<Scan>
     ensures { result ≡ scan_step s j }
 {
     if 0 < s.left {
         return listed_step(s, j);
     }
-    if is_none(j) {
-        return s;
+    if j == no_job() {
+        return Some(s);
     }
-    breaks(s)
+    None
 }
 
 // Whether the table keeps the rules, after its last place.
-pub fn check_end(s: Scan) -> bool
-    ensures { result ≡ check_end s }
+pub fn right_end(s: Scan) -> bool
+    ensures { result ≡ right_end s }
 {
-    if s.ok {
-        let a = s.checking;
-        return last_ok(a);
-    }
-    false
+    last_ok(s.searching.is_none(), s.checking)
 }

@@ -3,29 +3,34 @@ ghost use Rattle.std.specs.Prelude.{◌≡◌, ltb, eqb};
 ghost use Rattle.rules.specs.Walk.{pick};
 ghost use Rattle.desk.specs.Table.{start};
 ghost use Rattle.desk_reading.specs.Reading.{search_dropped, search_closed, search_past, search_look, search_step};
-ghost use Rattle.desk_reading.specs.Reading.{search_behind, new_job, search_end, explanation_by};
+ghost use Rattle.desk_reading.specs.Reading.{search_behind, new_job, search_end, behind_by, explanation_by};
 
 use crate::best::{Best, best_with, explain, listed_binds, sought_at};
 use desk::Job;
+use desk_records::numbers::FAR;
 use desk_records::records::{ends_by, last_start, room_at};
 use rules::Explanation;
 
-// The request, whether the search goes on, jobs dropped so far, whether the first one left is running, and the place:
-// found, or the next one to try with the end of the job before it, which is place l once a job has a > d or none follows.
-// Behind the place: when the job there has to start at the latest, far off if there is none. And the roomiest place
-// gone past.
+// Where the search has ended: whether the place has room, and when the job behind it has to start at the latest.
+#[derive(Clone, Copy)]
+pub struct Closed {
+    pub found: bool,
+    pub behind: u64,
+}
+
+// The request, jobs dropped so far, whether the first one left is running, and the place: found, or the next one to try
+// with the end of the job before it, which is place l once a job has a > d or none follows. The end of the search, once
+// it is there, and the roomiest place gone past.
 #[derive(Clone, Copy)]
 pub struct Searching {
     pub time: u32,
     pub budget: u32,
     pub deadline: u32,
-    pub looking: bool,
     pub gone: u32,
     pub busy: bool,
-    pub found: bool,
     pub place: u32,
     pub start: u32,
-    pub behind: u64,
+    pub closed: Option<Closed>,
     pub best: Best,
 }
 
@@ -33,28 +38,29 @@ pub struct Searching {
 fn closes(s: Searching, busy: bool, found: bool, j: Job) -> Searching
     ensures { result ≡ search_closed s busy found j }
 {
-    let b = s.best;
-    let mut r = s;
-    r.looking = false;
-    r.busy = busy;
-    r.found = found;
-    r.behind = last_start(j);
-    r.best = sought_at(b, j);
-    r
+    Searching {
+        busy,
+        closed: Some(Closed {
+            found,
+            behind: last_start(j),
+        }),
+        best: sought_at(s.best, j),
+        ..s
+    }
 }
 
 // The search goes on behind j, where the room was too small.
 fn goes_past(s: Searching, busy: bool, room: u32, j: Job) -> Searching
     ensures { result ≡ search_past s busy room j }
 {
-    let b = s.best;
-    let c = best_with(b, s.place, room, listed_binds(s.deadline, j));
-    let mut r = s;
-    r.busy = busy;
-    r.place = s.place.saturating_add(1);
-    r.start = j.start.saturating_add(j.budget);
-    r.best = sought_at(c, j);
-    r
+    let tried = best_with(s.best, s.place, room, listed_binds(s.deadline, j));
+    Searching {
+        busy,
+        place: s.place.saturating_add(1),
+        start: j.start.saturating_add(j.budget),
+        best: sought_at(tried, j),
+        ..s
+    }
 }
 
 // Whether the first job left is running, j being the next one left.
@@ -86,35 +92,33 @@ fn look_at(s: Searching, j: Job) -> Searching
 fn drops(s: Searching) -> Searching
     ensures { result ≡ search_dropped s }
 {
-    let mut r = s;
-    r.gone = s.gone.saturating_add(1);
-    r
+    Searching {
+        gone: s.gone.saturating_add(1),
+        ..s
+    }
 }
 
 // Behind the place only the job that binds the roomiest one is still sought.
 fn seeks_on(s: Searching, j: Job) -> Searching
     ensures { result ≡ search_behind s j }
 {
-    let b = s.best;
-    if b.seeking {
-        let mut r = s;
-        r.best = sought_at(b, j);
-        return r;
+    Searching {
+        best: sought_at(s.best, j),
+        ..s
     }
-    s
 }
 
 // The search, at one more job. Those that end by t stand first, so none behind the place does.
 pub fn search_step(s: Searching, j: Job) -> Searching
     ensures { result ≡ search_step s j }
 {
-    if s.looking {
-        if ends_by(j, s.time) {
-            return drops(s);
-        }
-        return look_at(s, j);
+    if s.closed.is_some() {
+        return seeks_on(s, j);
     }
-    seeks_on(s, j)
+    if ends_by(j, s.time) {
+        return drops(s);
+    }
+    look_at(s, j)
 }
 
 // The job asked for, at the start that the search has come to.
@@ -133,22 +137,25 @@ pub fn new_job(s: Searching) -> Job
 pub fn search_end(s: Searching) -> bool
     ensures { result ≡ search_end s }
 {
-    if s.found {
-        return true;
-    }
-    ends_by(new_job(s), s.deadline)
+    s.closed.is_some_and(|z| z.found) || ends_by(new_job(s), s.deadline)
+}
+
+// When the job behind the place has to start at the latest, far off if there is none.
+pub fn behind_by(s: Searching) -> u64
+    ensures { result ≡ behind_by s }
+{
+    s.closed.map_or(FAR, |z| z.behind)
 }
 
 // Why there is no place, after the last job: place l is one too where it starts by d, bound by the request's deadline.
 pub fn explanation(s: Searching) -> Explanation
     ensures { result ≡ explanation_by s }
 {
-    let b = s.best;
     if s.start <= s.deadline {
-        return explain(best_with(b, s.place, s.deadline - s.start, false));
+        return explain(best_with(s.best, s.place, s.deadline - s.start, false));
     }
     if s.place == 0 {
         return Explanation::Nowhere;
     }
-    explain(b)
+    explain(s.best)
 }

@@ -1,6 +1,6 @@
 // The rules of one job record: its end, its flexibility, its limits, its room, its move.
 ghost use Rattle.std.specs.Prelude.{◌≡◌, ◌+◌, ◌-◌, min, leb};
-ghost use Rattle.desk.specs.Table.{start, budget, deadline, flex, ends, none, job_ok, zeros};
+ghost use Rattle.desk.specs.Table.{start, budget, deadline, flex, ends, none, job_ok};
 ghost use Rattle.desk.specs.Places.{room, moved};
 
 use desk::Job;
@@ -53,12 +53,6 @@ pub fn job_ok(j: Job) -> bool
     j.budget != 0 && end_of(j) <= u64::from(j.deadline) && j.deadline <= LATEST
 }
 
-pub fn is_none(j: Job) -> bool
-    ensures { result ≡ zeros j }
-{
-    j == no_job()
-}
-
 // The room at j for a deadline d, from s on.
 pub fn room_at(s: u32, d: u32, j: Job) -> u32
     ensures { result ≡ room s d j }
@@ -73,8 +67,7 @@ pub fn moved_to(e: u32, j: Job) -> Job
     let a = e.max(j.start);
     Job {
         start: a,
-        budget: j.budget,
-        deadline: j.deadline,
         flex: j.flex.saturating_sub(a - j.start),
+        ..j
     }
 }

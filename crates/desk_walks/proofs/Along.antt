@@ -4,7 +4,7 @@ use mathlib.Core.Path.{◌≡◌, refl, sym, ap, ◌∙◌}
 use mathlib.Core.List.{List, [], ◌∷◌, ◌++◌, append_assoc, append-nil}
 use native.Mathlib.Omega.{arith}
 use native.Mathlib.Numerals.{add-one}
-use lib.ListN.{length, take, drop, get_or, set, length-append, length-take, length-drop}
+use lib.ListN.{length, take, drop, get_or, set, length-append, length-take, length-drop, take-append-drop}
 use lib.Seq.{take-length, drop-length, take-suc, drop-cons, set_at, get_or_at, length-take-le, get_or-append-add, get_or-drop}
 use Rattle.desk.specs.declared.Job.{Job}
 use Rattle.desk.specs.Table.{none}
@@ -19,6 +19,15 @@ module _ {S : Type 0} (step : S → Job → S) where
   unfolding fold
   fold_snoc s [] j = refl
   fold_snoc s (k ∷ l) j = fold_snoc (step s k) l j
+
+  pub fold_append : (s : S) (xs ys : List Job) → fold step s (xs ++ ys) ≡ fold step (fold step s xs) ys
+  unfolding fold
+  fold_append s [] ys = refl
+  fold_append s (x ∷ xs) ys = fold_append (step s x) xs ys
+
+  -- the jobs in front of place i, and then the others
+  pub fold_on : (s : S) (l : List Job) (i : ℕ) → fold step (fold step s (take i l)) (drop i l) ≡ fold step s l
+  fold_on s l i = sym (fold_append s (take i l) (drop i l)) ∙ ap (fold step s) (take-append-drop i l)
 
   pub fold-zero : (s : S) (l : List Job) → fold step s (take 0 l) ≡ s
   unfolding fold

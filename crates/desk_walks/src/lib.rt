@@ -13,30 +13,25 @@ use desk_writing::fit::{Fit, fit_out, fit_step};
 use desk_writing::shift::{Shift, shift_out, shift_step};
 
 // The whole table, read once from the front.
-pub fn scan_pass(jobs: &[Job], s: Scan) -> Scan
+pub fn scan_pass(jobs: &[Job], s: Option<Scan>) -> Option<Scan>
     ensures { result ≡ scanned s jobs.now }
 {
-    let mut st = s;
-    let mut i = 0;
-    while i < jobs.len() {
-        let j = jobs[i];
-        st = scan_step(st, j);
-        i += 1;
+    let mut st = s?;
+    for j in jobs {
+        st = scan_step(st, *j)?;
     }
-    st
+    Some(st)
 }
 
-// The jobs from place k on move up to the front; the last places stay as they are.
+// The first k jobs are dropped, and those behind them move up to the front; the last places stay as they are.
 pub fn drop_pass(jobs: &mut [Job], k: usize)
     ensures { jobs.new ≡ moved_up k jobs.old }
 {
-    let mut to = 0;
-    let mut from = k;
-    while from < jobs.len() {
-        let j = jobs[from];
-        jobs[to] = j;
-        to += 1;
-        from += 1;
+    if k == 0 {
+        return;
+    }
+    for from in k..jobs.len() {
+        jobs[from - k] = jobs[from];
     }
 }
 
@@ -45,13 +40,10 @@ pub fn shift_pass(jobs: &mut [Job], s: Shift)
     ensures { jobs.new ≡ shifted s jobs.old }
 {
     let mut st = s;
-    let mut i = 0;
-    while i < jobs.len() {
-        let j = jobs[i];
-        let k = shift_out(st, j);
-        jobs[i] = k;
+    for place in jobs.iter_mut() {
+        let j = *place;
+        *place = shift_out(st, j);
         st = shift_step(st, j);
-        i += 1;
     }
 }
 
@@ -60,12 +52,9 @@ pub fn fit_pass(jobs: &mut [Job], s: Fit)
     ensures { jobs.new ≡ fitted_all s jobs.old }
 {
     let mut st = s;
-    let mut i = jobs.len();
-    while 0 < i {
-        i -= 1;
+    for i in (0..jobs.len()).rev() {
         let j = jobs[i];
-        let k = fit_out(st, j);
-        jobs[i] = k;
+        jobs[i] = fit_out(st, j);
         st = fit_step(st, j);
     }
 }

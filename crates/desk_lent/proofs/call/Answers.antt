@@ -1,4 +1,5 @@
 use mathlib.Core.Path.{sym, ◌∙◌, ap, subst}
+use Rattle.std.specs.Prelude.{Option}
 use Rattle.desk.specs.Call.{call_of}
 use Rattle.desk_reading.specs.Reading.{scanned}
 use Rattle.desk_reading.specs.declared.scan.Scan.{Scan}
@@ -10,6 +11,6 @@ use Rattle.desk_lent.proofs.call.Goals as goal
 -- what the one reading pass decides is what the call leaves
 pub returns : goal.returns
 returns c =
-    let e = c.serve-r.ensures.0 ∙ ap (λ (v : Scan). effect_of (scanned v c.args.jobs.now)) c.scan_for-s.ensures in
+    let e = c.serve-done.ensures.0 ∙ ap (λ (v : Option Scan). effect_of c.args.desk.now (scanned v c.args.jobs.now)) c.scan_for-s.ensures in
     let w = subst (λ (p : Effect). Made c.args.jobs.now p (call_of c.args.desk.now.clock c.args.desk.now.count c.args.jobs.now c.args.ask)) (sym e) (call_law c.args.desk.now c.args.jobs.now c.args.ask) in
-    (c.answer_of.ensures ∙ w.0, c.desk_of-e.ensures ∙ w.1, c.serve-r.ensures.1 ∙ w.2)
+    (w.0, w.1, c.serve-done.ensures.1 ∙ w.2)

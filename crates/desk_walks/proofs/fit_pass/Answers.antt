@@ -28,17 +28,18 @@ puts s l i v m p h e w =
     rw (e ∙ ap (λ (k : ℕ). fold_back fit_step s (drop k l)) n, reads s l i m p h w, w ∙ ap (back_at fit_step fit_out s l) n) (back_at_more fit_step fit_out s l (i - 1) (omega arith))
 
 pub loop-i-init : goal.loop-i-init
-loop-i-init c = (omega arith, sym (fold_back-start fit_step c.args.s c.args.jobs.now), sym (back_at_start fit_step fit_out c.args.s c.args.jobs.now))
+loop-i-init c = (sym (fold_back-start fit_step c.args.s c.args.jobs.now), sym (back_at_start fit_step fit_out c.args.s c.args.jobs.now))
 
 pub loop-i-preserved : goal.loop-i-preserved
-loop-i-preserved c = (
-  omega arith,
-  c.fit_step-st.ensures ∙ steps c.args.s c.args.jobs.now c.loop-i.i c.loop-i.st c.loop-i.jobs c.loop-i-test.true c.loop-i.invariant.0 c.loop-i.invariant.1 c.loop-i.invariant.2,
-  ap (set c.loop-i.jobs (c.loop-i.i - 1)) c.fit_out-k.ensures ∙ puts c.args.s c.args.jobs.now c.loop-i.i c.loop-i.st c.loop-i.jobs c.loop-i-test.true c.loop-i.invariant.0 c.loop-i.invariant.1 c.loop-i.invariant.2,
-)
+loop-i-preserved c =
+    let h : 0 < c.loop-i.i = omega (arith, c.loop-i-test.true) in
+    let g : c.loop-i.i ≤ length c.args.jobs.now = omega (arith, c.loop-i.auto.i) in (
+      c.fit_step-st.ensures ∙ steps c.args.s c.args.jobs.now c.loop-i.i c.loop-i.st c.loop-i.jobs h g c.loop-i.invariant.0 c.loop-i.invariant.1,
+      ap (set c.loop-i.jobs (c.loop-i.i - 1)) c.fit_out.ensures ∙ puts c.args.s c.args.jobs.now c.loop-i.i c.loop-i.st c.loop-i.jobs h g c.loop-i.invariant.0 c.loop-i.invariant.1,
+    )
 
 pub returns : goal.returns
 unfolding fitted_all
 returns c =
     let n : c.loop-i.i ≡ 0 = omega (arith, c.loop-i-test.false) in
-    c.loop-i.invariant.2 ∙ rw n (back_at_end fit_step fit_out c.args.s c.args.jobs.now)
+    c.loop-i.invariant.1 ∙ rw n (back_at_end fit_step fit_out c.args.s c.args.jobs.now)

@@ -1,12 +1,9 @@
-use Prim.Native.Nat.{◌-◌, ◌≤◌}
 use mathlib.Core.Path.{◌≡◌}
-use lib.ListN.{length, take}
+use lib.ListN.{take}
+use Rattle.std.specs.Prelude.{Some}
 use Rattle.desk_records.specs.Folds.{fold}
-use Rattle.desk_reading.specs.Reading.{scan_step}
+use Rattle.desk_reading.specs.Reading.{scan_on}
 use Rattle.desk_walks.proofs.scan_pass.Given as goal
 
-abbrev pub invariant-loop-i : goal.invariant-loop-i
-invariant-loop-i l = (l.i ≤ length l.jobs) × (l.st ≡ fold scan_step l.fn.s (take l.i l.jobs))
-
-abbrev pub decreases-loop-i : goal.decreases-loop-i
-decreases-loop-i l = length l.jobs - l.i
+abbrev pub invariant-loop-j : goal.invariant-loop-j
+invariant-loop-j l = fold scan_on l.fn.s (take l.j-index l.jobs) ≡ Some l.st

@@ -23,19 +23,19 @@ puts : (s : Shift) (l : List Job) (i : ℕ) (v : Shift) (m : List Job) → i < l
     → set m i (shift_out v (get_or m i none)) ≡ forth_at shift_step shift_out s l (i + 1)
 puts s l i v m h e w = rw (e, reads s l i m h w, w) (forth_at_more shift_step shift_out s l i h)
 
-pub loop-i-init : goal.loop-i-init
-loop-i-init c = (omega arith, sym (fold-zero shift_step c.args.s c.args.jobs.now), sym (forth_at_zero shift_step shift_out c.args.s c.args.jobs.now))
+pub loop-place-init : goal.loop-place-init
+loop-place-init c = (sym (fold-zero shift_step c.args.s c.args.jobs.now), sym (forth_at_zero shift_step shift_out c.args.s c.args.jobs.now))
 
-pub loop-i-preserved : goal.loop-i-preserved
-loop-i-preserved c =
-    let h : c.loop-i.i < length c.args.jobs.now = omega (arith, c.loop-i-test.true, c.loop-i.auto.jobs) in (
-      omega arith,
-      c.shift_step-st.ensures ∙ steps c.args.s c.args.jobs.now c.loop-i.i c.loop-i.st c.loop-i.jobs h c.loop-i.invariant.1 c.loop-i.invariant.2,
-      ap (set c.loop-i.jobs c.loop-i.i) c.shift_out-k.ensures ∙ puts c.args.s c.args.jobs.now c.loop-i.i c.loop-i.st c.loop-i.jobs h c.loop-i.invariant.1 c.loop-i.invariant.2,
+pub loop-place-preserved : goal.loop-place-preserved
+loop-place-preserved c =
+    let i = c.loop-place.place-index in
+    let h : i < length c.args.jobs.now = omega (arith, c.loop-place-test.true, c.loop-place.auto.jobs) in (
+      c.shift_step-st.ensures ∙ steps c.args.s c.args.jobs.now i c.loop-place.st c.loop-place.jobs h c.loop-place.invariant.0 c.loop-place.invariant.1,
+      ap (set c.loop-place.jobs i) c.shift_out.ensures ∙ puts c.args.s c.args.jobs.now i c.loop-place.st c.loop-place.jobs h c.loop-place.invariant.0 c.loop-place.invariant.1,
     )
 
 pub returns : goal.returns
 unfolding shifted
 returns c =
-    let n : c.loop-i.i ≡ length c.args.jobs.now = omega (arith, c.loop-i-test.false, c.loop-i.auto.jobs) in
-    c.loop-i.invariant.2 ∙ rw n (forth_at_end shift_step shift_out c.args.s c.args.jobs.now)
+    let n : c.loop-place.place-index ≡ length c.args.jobs.now = omega (arith, c.loop-place-test.false, c.loop-place.auto.jobs, c.loop-place.auto.place-index-end) in
+    c.loop-place.invariant.1 ∙ rw n (forth_at_end shift_step shift_out c.args.s c.args.jobs.now)
