@@ -1,23 +1,20 @@
--- The order of the checker's refusals, at the numbers that the code holds. Assumes nothing.
+-- The checker's scan, at the numbers that the code holds. Assumes nothing.
 use Prim.Native.Nat.{ℕ, ◌+◌, ◌≤◌, ◌<◌}
 use mathlib.Core.Path.{◌≡◌}
 use mathlib.Core.Bool.{Bool, true, false}
-use mathlib.Core.List.{List, []}
+use mathlib.Core.List.{List}
 use lib.ListN.{length}
 use borrow.Author.Tests.{lt-ltb, le-ltb}
 use native.Mathlib.Omega.{arith}
 use Rattle.rules.specs.Walk.{first, some}
 use Rattle.rules.specs.Table.{partitions, cycle}
-use Rattle.rules.specs.Terms.{rule_in, wanted}
-use Rattle.rules.specs.declared.Terms.{Terms}
-use Rattle.tables.specs.Tables.{tables_of, ticks_judged}
-use Rattle.std.specs.Prelude.{Result, Ok, Err}
+use Rattle.std.specs.Prelude.{Ok, Err}
 use Rattle.rules.specs.declared.Refusal.{Refusal}
 use Rattle.rules.specs.declared.Refusal.TheVariants.{Shortfall}
 use Rattle.rules.proofs.First.{first_found, first_done}
 use Rattle.rules.specs.declared.Rule.{Rule}
 use Rattle.theory.specs.Plan.{held}
-use Rattle.plan_check.specs.Check.{short_at, scan_of, plan_check_of, check_of}
+use Rattle.plan_check.specs.Check.{short_at, scan_of}
 
 -- whether a stretch of place k holds too little
 abbrev pub short_in : Rule → (ℕ → ℕ) → List ℕ → List ℕ → ℕ → Bool
@@ -32,8 +29,6 @@ short_part rule q plan ps = first (short_in rule q plan ps) (partitions ps)
 
 abbrev pub shortfall : Rule → (ℕ → ℕ) → List ℕ → List ℕ → ℕ → ℕ → Refusal
 shortfall rule q plan ps k s = Shortfall (k + 1) s (held rule plan (k + 1) (cycle ps k) s) (q k)
-
--- ---- the scan's two loops
 
 module _ (rule : Rule) (q : ℕ → ℕ) (plan ps : List ℕ) (k : ℕ) where
   -- no start of the partition holds too little
@@ -56,24 +51,3 @@ module _ (rule : Rule) (q : ℕ → ℕ) (plan ps : List ℕ) where
   pub served : (k : ℕ) → k ≤ partitions ps → partitions ps ≤ k → first (short_in rule q plan ps) k ≡ k → (Ok tt) ≡ scan_of rule q plan ps
   unfolding scan_of
   served k h l e = rw (first_done _ (partitions ps) k h l e, le-ltb (partitions ps) (partitions ps) (omega arith))
-
-  -- ---- 8, then 9
-
-  pub plan_8 : (r : Refusal) → ticks_judged plan ps ≡ Err r → Err r ≡ plan_check_of rule q plan ps
-  unfolding plan_check_of
-  plan_8 r e = rw e
-
-  pub plan_9 : ticks_judged plan ps ≡ (Ok tt) → (r : Result (Unit {0}) Refusal) → r ≡ scan_of rule q plan ps → r ≡ plan_check_of rule q plan ps
-  unfolding plan_check_of
-  plan_9 e r h = rw e h
-
--- ---- 2, 3, 21 and 6, then the plan
-
-module _ (terms : Terms) (plan ps : List ℕ) where
-  pub check-tables : (r : Refusal) → tables_of terms (length plan) ps [] ≡ Err r → Err r ≡ check_of terms plan ps
-  unfolding check_of
-  check-tables r e = rw e
-
-  pub check_plan : tables_of terms (length plan) ps [] ≡ (Ok tt) → (r : Result (Unit {0}) Refusal) → r ≡ plan_check_of (rule_in terms) (wanted terms ps) plan ps → r ≡ check_of terms plan ps
-  unfolding check_of
-  check_plan e r h = rw e h

@@ -29,6 +29,7 @@ pub fn scan(rule: Rule, terms: Terms, plan: &[u16], parts: &[u16]) -> Result<(),
 }
 
 // Refusals 8 and 9, of tables whose numbers are within their limits.
+#[tactic(auto, unfolding(crate::specs::Check::plan_check_of))]
 pub fn check_plan(terms: Terms, plan: &[u16], parts: &[u16]) -> Result<(), Refusal>
     ensures { result ≡ plan_check_of (rule_in terms) (wanted terms parts.now) plan.now parts.now }
 {
@@ -37,6 +38,7 @@ pub fn check_plan(terms: Terms, plan: &[u16], parts: &[u16]) -> Result<(), Refus
 }
 
 // Whether the plan serves the table.
+#[tactic(auto, unfolding(crate::specs::Check::check_of))]
 pub fn check(terms: Terms, plan: &[u16], parts: &[u16]) -> Result<(), Refusal>
     ensures { Checks terms plan.now parts.now result }
 {

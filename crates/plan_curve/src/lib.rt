@@ -15,6 +15,7 @@ use rules::{Refusal, Rule};
 const FEW: usize = 64; // numbers; a frame within the limits has fewer divisors
 
 // Whether stretches from tick s on are tried: it is the frame's first tick, or stands right behind ticks that serve p.
+#[tactic(auto, unfolding(crate::specs::Curve::start_tried))]
 fn start_tried(rule: Rule, plan: &[u16], p: usize, s: usize) -> bool
     requires { s < length plan.now }
     ensures { result ≡ start_tried rule plan.now p s }
@@ -29,6 +30,7 @@ fn start_tried(rule: Rule, plan: &[u16], p: usize, s: usize) -> bool
 }
 
 // How many of t ticks of a plan with f can serve p at most; of an empty one every tick is idle.
+#[tactic(auto, unfolding(crate::specs::Inner::most))]
 fn most(f: usize, p: usize, t: usize) -> usize
     ensures { (result ≤ t) × (result ≡ most f p t) }
 {
@@ -89,6 +91,7 @@ fn lower_from(rule: Rule, plan: &[u16], p: usize, s: usize, list: &mut [u32], n:
 }
 
 // The same, where a worst stretch may start at s.
+#[tactic(auto, unfolding(crate::specs::Inner::lower_at))]
 fn lower_at(rule: Rule, plan: &[u16], p: usize, s: usize, list: &mut [u32], n: usize)
     requires { (s < length plan.now) × (n ≤ length plan.now + 1) × (n ≤ 2 ^ 32) × (n ≤ length list.old) }
     ensures { AsNamed (lower_at rule plan.now p s list.old) n
@@ -189,6 +192,7 @@ pub fn draw(rule: Rule, plan: &[u16], p: usize, list: &mut [u32], n: usize)
 }
 
 // least(0) .. least(n) of partition p by an edition, at the start of the list.
+#[tactic(auto, unfolding(crate::specs::Curve::curve_of))]
 pub fn curve(
     edition: usize,
     plan: &[u16],

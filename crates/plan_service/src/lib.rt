@@ -34,10 +34,8 @@ pub fn serves_at(rule: Rule, plan: &[u16], p: usize, at: usize) -> bool
     match rule {
         Rule::Own => service_at(rule, plan, at) == p,
         Rule::Switching => {
-            if usize::from(plan[at]) != p {
-                if p != 0 {
-                    return false;
-                }
+            if usize::from(plan[at]) != p && p != 0 {
+                return false;
             }
             service_at(rule, plan, at) == p
         }
