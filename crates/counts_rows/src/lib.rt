@@ -88,6 +88,7 @@ pub fn differs(plan: &[u16], list: &[u16], parts: usize) -> bool
 }
 
 // p's count before tick k, read from a list that has p's.
+#[tactic(auto, using(counts::proofs::Look::look_at))]
 fn count_before(plan: &[u16], list: &[u16], p: usize, k: usize) -> usize
     requires { Kept plan.now list.now p × (k ≤ length plan.now) }
     ensures { result ≡ held Own plan.now p k 0 }
@@ -96,6 +97,7 @@ fn count_before(plan: &[u16], list: &[u16], p: usize, k: usize) -> usize
 }
 
 // What a stretch holds, from two or three of p's numbers, for callers that know them to be the plan's.
+#[tactic(auto, using(counts::proofs::Look::within, counts::proofs::Look::across, counts::proofs::Look::upto))]
 pub fn look_up(plan: &[u16], list: &[u16], p: usize, s: usize, n: usize) -> usize
     requires { Kept plan.now list.now p × (s < length plan.now) × (n ≤ length plan.now) }
     ensures { result ≡ held Own plan.now p n s }
