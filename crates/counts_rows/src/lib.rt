@@ -57,6 +57,7 @@ pub fn fill_rows(plan: &[u16], list: &mut [u16], parts: usize)
 }
 
 // Whether one of p's numbers isn't the plan's.
+#[tactic(auto, using(counts::proofs::Agree::agrees_here, counts::proofs::Agree::differs_last, rules::proofs::First::first_more))]
 fn row_differs(plan: &[u16], list: &[u16], p: usize) -> bool
     requires { (0 < p) × (p * row_width plan.now ≤ length list.now) }
     ensures { result ≡ some (differs_at plan.now list.now p) (row_width plan.now) }
@@ -74,6 +75,7 @@ fn row_differs(plan: &[u16], list: &[u16], p: usize) -> bool
 }
 
 // Whether one of any partition's.
+#[tactic(auto, using(counts::proofs::Agree::rows_agree, counts::proofs::Agree::rows_differ, counts::proofs::Agree::all_agree))]
 pub fn differs(plan: &[u16], list: &[u16], parts: usize) -> bool
     requires { parts * row_width plan.now ≤ length list.now }
     ensures { result ≡ some (fails (agrees_at plan.now list.now))
