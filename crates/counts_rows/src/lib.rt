@@ -57,6 +57,7 @@ pub fn fill_rows(plan: &[u16], list: &mut [u16], parts: usize)
 }
 
 // Whether one of p's numbers isn't the plan's.
+#[tactic(auto, using(counts::proofs::Agree::agrees_here, counts::proofs::Agree::differs_last, rules::proofs::First::first_more))]
 fn row_differs(plan: &[u16], list: &[u16], p: usize) -> bool
     requires { (0 < p) × (p * row_width plan.now ≤ length list.now) }
     ensures { result ≡ some (differs_at plan.now list.now p) (row_width plan.now) }
@@ -74,6 +75,7 @@ fn row_differs(plan: &[u16], list: &[u16], p: usize) -> bool
 }
 
 // Whether one of any partition's.
+#[tactic(auto, using(counts::proofs::Agree::rows_agree, counts::proofs::Agree::rows_differ, counts::proofs::Agree::all_agree))]
 pub fn differs(plan: &[u16], list: &[u16], parts: usize) -> bool
     requires { parts * row_width plan.now ≤ length list.now }
     ensures { result ≡ some (fails (agrees_at plan.now list.now))
@@ -88,6 +90,7 @@ pub fn differs(plan: &[u16], list: &[u16], parts: usize) -> bool
 }
 
 // p's count before tick k, read from a list that has p's.
+#[tactic(auto, using(counts::proofs::Look::look_at))]
 fn count_before(plan: &[u16], list: &[u16], p: usize, k: usize) -> usize
     requires { Kept plan.now list.now p × (k ≤ length plan.now) }
     ensures { result ≡ held Own plan.now p k 0 }
@@ -96,6 +99,7 @@ fn count_before(plan: &[u16], list: &[u16], p: usize, k: usize) -> usize
 }
 
 // What a stretch holds, from two or three of p's numbers, for callers that know them to be the plan's.
+#[tactic(auto, using(counts::proofs::Look::within, counts::proofs::Look::across, counts::proofs::Look::upto))]
 pub fn look_up(plan: &[u16], list: &[u16], p: usize, s: usize, n: usize) -> usize
     requires { Kept plan.now list.now p × (s < length plan.now) × (n ≤ length plan.now) }
     ensures { result ≡ held Own plan.now p n s }

@@ -7,7 +7,7 @@ use counts_rows::differs;
 use rules::Refusal;
 use rules::records::partitions;
 
-// Refused where a test fails.
+// Refused where a test fails: a bool has no `ok_or`.
 pub fn unless_good(good: bool, refusal: Refusal) -> Result<(), Refusal>
     ensures { result ≡ unless_good good refusal }
 {

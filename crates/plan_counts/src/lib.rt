@@ -32,7 +32,7 @@ pub fn fill(plan: &[u16], parts: &[u16], list: &mut [u16]) -> Result<usize, Refu
 }
 
 // What a stretch holds, from two or three numbers of the list: p's ticks among the n from tick s on.
-#[tactic(auto, using(tables::proofs::Chain::found_err, tables::proofs::Chain::found_ok), unfolding(counts::specs::Counts::held_of))]
+#[tactic(auto, using(tables::proofs::Chain::found_err, tables::proofs::Chain::found_ok, counts::proofs::Asking::one_looks), unfolding(counts::specs::Counts::held_of))]
 pub fn held(
     plan: &[u16],
     parts: &[u16],
