@@ -6,12 +6,11 @@ ghost use Rattle.std.specs.Prelude.{◌≡◌, ◌≤◌, ◌<◌, length};
 ghost use Rattle.rules.specs.Limits.{longest, most_tasks};
 ghost use Rattle.rules.specs.Walk.{largest, Every};
 ghost use Rattle.rules.specs.Table.{deadline, tasks, good_task};
-ghost use Rattle.task_demand.specs.Inner.{Zeros};
 ghost use Rattle.task_all.specs.Inner.{deadline_in, times_by, times_of, marked, FoundAs, JudgedIn, JudgeableAll};
 
 use plan_curve::draw;
 use rules::Rule;
-use task_demand::{TICKS, ask_task};
+use task_demand::{TaskLists, ask_task};
 use task_plain::tick_in;
 use task_points::point_in;
 
@@ -44,71 +43,43 @@ fn longest_deadline(table: &[u16], p: u16) -> usize
 }
 
 // By the lists: where task j passes.
-fn times_in(curve: &[u32], asks: &[u32], table: &[u16], j: usize) -> Option<Times>
-    requires { (deadline table.now j ≤ longest) × (longest < length curve.now) × (longest < length asks.now) }
-    ensures { result ≡ times_by curve.now asks.now table.now j }
+fn times_in(lists: &TaskLists, table: &[u16], j: usize) -> Option<Times>
+    requires { deadline table.now j ≤ longest }
+    ensures { result ≡ times_by lists.now.curve lists.now.asks table.now j }
 {
     let c = rules::records::budget(table, j);
     let d = rules::records::deadline(table, j);
-    let point = point_in(curve, asks, c, d)?;
-    let tick = tick_in(curve, asks, c, d)?;
+    let point = point_in(lists, c, d)?;
+    let tick = tick_in(lists, c, d)?;
     Some(Times { point, tick })
 }
 
 // By the lists: what is found for task j, where it is of partition p, at its place.
-fn judge_task(
-    curve: &[u32],
-    asks: &[u32],
-    table: &[u16],
-    p: u16,
-    j: usize,
-    found: &mut [Option<Times>],
-)
-    requires { (deadline table.now j ≤ longest) × (longest < length curve.now) × (longest < length asks.now)
-        × (j < length found.old) }
+fn judge_task(lists: &TaskLists, table: &[u16], p: u16, j: usize, found: &mut [Option<Times>])
+    requires { (deadline table.now j ≤ longest) × (j < length found.old) }
     ensures { found.new ≡ marked table.now p j
-        (times_by curve.now asks.now table.now j) found.old }
+        (times_by lists.now.curve lists.now.asks table.now j) found.old }
 {
     if rules::records::partition(table, j) == p {
-        found[j] = times_in(curve, asks, table, j);
+        found[j] = times_in(lists, table, j);
     }
 }
 
-// All of p's tasks, with lists that are lent: the asks are zeros.
-fn judge_with(
-    rule: Rule,
-    plan: &[u16],
-    table: &[u16],
-    p: u16,
-    curve: &mut [u32],
-    asks: &mut [u32],
-    found: &mut [Option<Times>],
-)
-    requires { JudgeableAll table.now × Zeros asks.old
-        × (longest < length curve.old) × (longest < length asks.old)
-        × (tasks table.now ≤ length found.old) }
+// All of p's tasks, where it has any.
+fn judge_partition(rule: Rule, plan: &[u16], table: &[u16], p: u16, found: &mut [Option<Times>])
+    requires { JudgeableAll table.now × (tasks table.now ≤ length found.old) }
     ensures { JudgedIn rule plan.now table.now p found.old found.new }
 {
     let d = longest_deadline(table, p);
     if d == 0 {
         return;
     }
-    draw(rule, plan, usize::from(p), curve, d + 1);
+    let mut lists = TaskLists::blank();
+    draw(rule, plan, usize::from(p), &mut lists.curve, d + 1);
     for j in 0..rules::records::tasks(table) {
-        judge_task(curve, asks, table, p, j, found);
-        ask_task(table, p, j, asks, d + 1);
+        judge_task(&lists, table, p, j, found);
+        ask_task(table, p, j, &mut lists.asks, d + 1);
     }
-}
-
-// The same, with lists of its own.
-fn judge_partition(rule: Rule, plan: &[u16], table: &[u16], p: u16, found: &mut [Option<Times>])
-    requires { JudgeableAll table.now
-        × (tasks table.now ≤ length found.old) }
-    ensures { JudgedIn rule plan.now table.now p found.old found.new }
-{
-    let mut curve = [0u32; TICKS];
-    let mut asks = [0u32; TICKS];
-    judge_with(rule, plan, table, p, &mut curve, &mut asks, found);
 }
 
 // What is found for every task, at the task's place: its point and its tick, or that it fails.

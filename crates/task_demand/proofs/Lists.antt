@@ -46,8 +46,8 @@ drawn rule plan ts i p n c₀ curve a₀ asks ep en lc la w v =
     }
 
 -- a deadline within the lists
-pub in_list : (ts : List ℕ) (i d w : ℕ) → Judgeable ts i → d ≡ deadline ts i → w ≡ d → w + 1 ≤ longest + 1
-in_list ts i d w g ed ew = omega (arith, (g.in_order i (omega arith)).in_period, (g.in_order i (omega arith)).short)
+pub deadline_short : (ts : List ℕ) (i : ℕ) → Judgeable ts i → deadline ts i ≤ longest
+deadline_short ts i g = let o = g.in_order i (omega arith) in omega (arith, o.in_period, o.short)
 
 ltb_add : (c x y : ℕ) → ltb (c + x) (c + y) ≡ ltb x y
 ltb_add c x y = go (le-or-lt y x)

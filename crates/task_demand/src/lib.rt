@@ -14,6 +14,25 @@ use rules::limits::LONGEST;
 
 pub const TICKS: usize = LONGEST + 1; // numbers of a list, for 0 to 4,096 ticks
 
+// The lists of a task: of so many ticks its partition's curve, and what is asked of them.
+#[derive(Drop)]
+pub struct TaskLists {
+    pub curve: [u32; TICKS],
+    pub asks: [u32; TICKS],
+}
+
+impl TaskLists {
+    // Nothing is drawn yet.
+    pub fn blank() -> TaskLists
+        ensures { Zeros result.asks }
+    {
+        TaskLists {
+            curve: [0; TICKS],
+            asks: [0; TICKS],
+        }
+    }
+}
+
 // A number added to those from b to e - 1.
 fn add_row(asks: &mut [u32], b: usize, e: usize, all: usize)
     requires { (b ≤ e) × (e ≤ length asks.old) × (all < 2 ^ 31) × SmallFrom b asks.old }
@@ -67,30 +86,24 @@ fn ask_rivals(tasks: &[u16], i: usize, asks: &mut [u32], n: usize)
 }
 
 // The lists for task i, up to its deadline: its partition's curve, and what the higher tasks ask.
-pub fn draw_task(
-    rule: Rule,
-    plan: &[u16],
-    tasks: &[u16],
-    i: usize,
-    curve: &mut [u32],
-    asks: &mut [u32],
-)
-    requires { Judgeable tasks.now i × Zeros asks.old
-        × (longest < length curve.old) × (longest < length asks.old) }
-    ensures { Drawn rule plan.now tasks.now i curve.new asks.new }
+pub fn draw_task(rule: Rule, plan: &[u16], tasks: &[u16], i: usize) -> TaskLists
+    requires { Judgeable tasks.now i }
+    ensures { Drawn rule plan.now tasks.now i result.curve result.asks }
 {
     let n = usize::from(rules::records::deadline(tasks, i)) + 1;
     let p = usize::from(rules::records::partition(tasks, i));
-    plan_curve::draw(rule, plan, p, curve, n);
-    ask_rivals(tasks, i, asks, n);
+    let mut lists = TaskLists::blank();
+    plan_curve::draw(rule, plan, p, &mut lists.curve, n);
+    ask_rivals(tasks, i, &mut lists.asks, n);
+    lists
 }
 
 // Whether demand(t) is at most least(t), of a task with budget c.
-pub fn fits(curve: &[u32], asks: &[u32], c: u16, t: usize) -> bool
-    requires { (t < length curve.now) × (t < length asks.now) }
-    ensures { result ≡ fits_at curve.now asks.now c t }
+pub fn fits(lists: &TaskLists, c: u16, t: usize) -> bool
+    requires { t ≤ longest }
+    ensures { result ≡ fits_at lists.now.curve lists.now.asks c t }
 {
-    usize::from(c) + asks[t] as usize <= curve[t] as usize
+    usize::from(c) + lists.asks[t] as usize <= lists.curve[t] as usize
 }
 
 // The lowest tick from 1 to d that passes a test.

@@ -17,7 +17,7 @@ ghost use Rattle.task_page.specs.Inner.{point_in, short_in, Ready};
 use plan_service::worst_start;
 use rules::limits::ROW_WIDTH;
 use rules::{Refusal, Rule, Terms};
-use task_demand::TICKS;
+use task_demand::TaskLists;
 use task_points::point_at;
 
 // What is said of a task: it passes at a point, or it fails, with so many rows, the point with the smallest shortage and
@@ -33,36 +33,36 @@ pub enum Paged {
 }
 
 // By the list: how many scheduling points a task with deadline d has.
-fn points_in(asks: &[u32], d: u16) -> usize
-    requires { d < length asks.now }
-    ensures { (result ≤ d) × (result ≡ count (point_in asks.now d) (d + 1)) }
+fn points_in(lists: &TaskLists, d: u16) -> usize
+    requires { d ≤ longest }
+    ensures { (result ≤ d) × (result ≡ count (point_in lists.now.asks d) (d + 1)) }
 {
     let end = usize::from(d);
     let mut n = 0;
     for t in 1..end + 1 {
-        n += usize::from(point_at(asks, end, t));
+        n += usize::from(point_at(lists, end, t));
     }
     n
 }
 
 // By the lists: what is short at t, of a task with budget c.
-fn short_in(curve: &[u32], asks: &[u32], c: u16, t: usize) -> usize
-    requires { (t < length curve.now) × (t < length asks.now) }
-    ensures { result ≡ short_in curve.now asks.now c t }
+fn short_in(lists: &TaskLists, c: u16, t: usize) -> usize
+    requires { t ≤ longest }
+    ensures { result ≡ short_in lists.now.curve lists.now.asks c t }
 {
-    let needs = usize::from(c) + asks[t] as usize;
-    needs.saturating_sub(curve[t] as usize)
+    let needs = usize::from(c) + lists.asks[t] as usize;
+    needs.saturating_sub(lists.curve[t] as usize)
 }
 
 // Of a point and a lower tick the tighter point: on equals the lower.
-fn tighter(curve: &[u32], asks: &[u32], c: u16, d: usize, t: usize, best: usize) -> usize
-    requires { (t ≤ d) × (best ≤ d) × (d < length curve.now) × (d < length asks.now) }
-    ensures { result ≡ pick (point_at asks.now d t
-        && leb (short_in curve.now asks.now c t)
-        (short_in curve.now asks.now c best)) t best }
+fn tighter(lists: &TaskLists, c: u16, d: usize, t: usize, best: usize) -> usize
+    requires { (t ≤ d) × (best ≤ d) × (d ≤ longest) }
+    ensures { result ≡ pick (point_at lists.now.asks d t
+        && leb (short_in lists.now.curve lists.now.asks c t)
+        (short_in lists.now.curve lists.now.asks c best)) t best }
 {
-    if point_at(asks, d, t) {
-        if short_in(curve, asks, c, t) <= short_in(curve, asks, c, best) {
+    if point_at(lists, d, t) {
+        if short_in(lists, c, t) <= short_in(lists, c, best) {
             return t;
         }
     }
@@ -71,15 +71,15 @@ fn tighter(curve: &[u32], asks: &[u32], c: u16, d: usize, t: usize, best: usize)
 
 // By the lists: the scheduling point with the smallest shortage, the lowest on equals, so points are tried from the deadline
 // down.
-fn tightest_in(curve: &[u32], asks: &[u32], c: u16, d: u16) -> usize
-    requires { (1 ≤ d) × (d < length curve.now) × (d < length asks.now) }
-    ensures { (result ≤ d) × (result ≡ first_least (point_in asks.now d)
-        (short_in curve.now asks.now c) (d + 1)) }
+fn tightest_in(lists: &TaskLists, c: u16, d: u16) -> usize
+    requires { (1 ≤ d) × (d ≤ longest) }
+    ensures { (result ≤ d) × (result ≡ first_least (point_in lists.now.asks d)
+        (short_in lists.now.curve lists.now.asks c) (d + 1)) }
 {
     let end = usize::from(d);
     let mut best = end;
     for t in (1..end).rev() {
-        best = tighter(curve, asks, c, end, t, best);
+        best = tighter(lists, c, end, t, best);
     }
     best
 }
@@ -108,22 +108,21 @@ fn put_point(
     plan: &[u16],
     tasks: &[u16],
     i: usize,
-    curve: &[u32],
-    asks: &[u32],
+    lists: &TaskLists,
     t: usize,
     rows: &mut [u32],
     at: usize,
 ) -> usize
-    requires ready { Ready rule plan.now tasks.now i curve.now asks.now }
+    requires ready { Ready rule plan.now tasks.now i lists.now.curve lists.now.asks }
     requires in_reach { (1 ≤ t) × (t ≤ deadline tasks.now i) × (at < 2 ^ 32) }
     ensures { Put rows.old at (row_at rule plan.now tasks.now i t) result rows.new }
 {
     let d = usize::from(rules::records::deadline(tasks, i));
-    if point_at(asks, d, t) {
+    if point_at(lists, d, t) {
         let p = usize::from(rules::records::partition(tasks, i));
         let c = usize::from(rules::records::budget(tasks, i));
-        let needs = c + asks[t] as usize;
-        let has = curve[t] as usize;
+        let needs = c + lists.asks[t] as usize;
+        let has = lists.curve[t] as usize;
         let start = worst_start(rule, plan, p, t, has);
         return put_row(rows, at, t, needs, has, start);
     }
@@ -136,17 +135,16 @@ fn put_rows(
     plan: &[u16],
     tasks: &[u16],
     i: usize,
-    curve: &[u32],
-    asks: &[u32],
+    lists: &TaskLists,
     rows: &mut [u32],
 ) -> usize
-    requires { Ready rule plan.now tasks.now i curve.now asks.now }
+    requires { Ready rule plan.now tasks.now i lists.now.curve lists.now.asks }
     ensures { Put rows.old 0 (rows_of rule plan.now tasks.now i) result rows.new }
 {
     let d = usize::from(rules::records::deadline(tasks, i));
     let mut at = 0;
     for t in 1..d + 1 {
-        at = put_point(rule, plan, tasks, i, curve, asks, t, rows, at);
+        at = put_point(rule, plan, tasks, i, lists, t, rows, at);
     }
     at
 }
@@ -157,23 +155,22 @@ fn put_fail(
     plan: &[u16],
     tasks: &[u16],
     i: usize,
-    curve: &[u32],
-    asks: &[u32],
+    lists: &TaskLists,
     rows: &mut [u32],
 ) -> Result<Paged, Refusal>
-    requires { Ready rule plan.now tasks.now i curve.now asks.now }
+    requires { Ready rule plan.now tasks.now i lists.now.curve lists.now.asks }
     ensures { (result ≡ fail_of rule plan.now tasks.now i (length rows.old))
         × (rows.new ≡ page_left result (rows_of rule plan.now tasks.now i) rows.old) }
 {
     let c = rules::records::budget(tasks, i);
     let d = rules::records::deadline(tasks, i);
-    let n = points_in(asks, d);
+    let n = points_in(lists, d);
     if rows.len() < ROW_WIDTH * n {
         return Err(Refusal::Output);
     }
-    put_rows(rule, plan, tasks, i, curve, asks, rows);
-    let tightest = tightest_in(curve, asks, c, d);
-    let shortage = short_in(curve, asks, c, tightest);
+    put_rows(rule, plan, tasks, i, lists, rows);
+    let tightest = tightest_in(lists, c, d);
+    let shortage = short_in(lists, c, tightest);
     Ok(Paged::Fail {
         rows: n,
         tightest,
@@ -194,14 +191,12 @@ fn page_of(
         (fail_of rule plan.now tasks.now i (length rows.old)))
         × (rows.new ≡ page_left result (rows_of rule plan.now tasks.now i) rows.old) }
 {
-    let mut curve = [0u32; TICKS];
-    let mut asks = [0u32; TICKS];
-    task_demand::draw_task(rule, plan, tasks, i, &mut curve, &mut asks);
+    let lists = task_demand::draw_task(rule, plan, tasks, i);
     let c = rules::records::budget(tasks, i);
     let d = rules::records::deadline(tasks, i);
-    match task_points::point_in(&curve, &asks, c, d) {
+    match task_points::point_in(&lists, c, d) {
         Some(point) => Ok(Paged::Pass(point)),
-        None => put_fail(rule, plan, tasks, i, &curve, &asks, rows),
+        None => put_fail(rule, plan, tasks, i, &lists, rows),
     }
 }
 

@@ -1,7 +1,8 @@
 // The plain engine, to be followed with a pencil: every tick from 1 to the deadline is tried, in turn.
 #![tactic(auto)]
 
-ghost use Rattle.std.specs.Prelude.{◌≡◌, ◌+◌, ◌<◌, length};
+ghost use Rattle.std.specs.Prelude.{◌≡◌, ◌+◌, ◌≤◌};
+ghost use Rattle.rules.specs.Limits.{longest};
 ghost use Rattle.rules.specs.Walk.{first};
 ghost use Rattle.theory.specs.Task.{task_tick};
 ghost use Rattle.rules.specs.Table.{deadline};
@@ -9,14 +10,14 @@ ghost use Rattle.task_demand.specs.Inner.{Judgeable, in_time};
 ghost use Rattle.task_plain.specs.Inner.{tick_fits};
 
 use rules::Rule;
-use task_demand::{TICKS, draw_task, earliest, fits};
+use task_demand::{TaskLists, draw_task, earliest, fits};
 
 // By the lists: the smallest tick that holds, of a task with budget c and deadline d.
-pub fn tick_in(curve: &[u32], asks: &[u32], c: u16, d: u16) -> Option<usize>
-    requires { (d < length curve.now) × (d < length asks.now) }
-    ensures { result ≡ in_time d (first (tick_fits curve.now asks.now c) (d + 1)) }
+pub fn tick_in(lists: &TaskLists, c: u16, d: u16) -> Option<usize>
+    requires { d ≤ longest }
+    ensures { result ≡ in_time d (first (tick_fits lists.now.curve lists.now.asks c) (d + 1)) }
 {
-    earliest(d, |t| fits(curve, asks, c, t))
+    earliest(d, |t| fits(lists, c, t))
 }
 
 // The smallest tick that holds.
@@ -24,10 +25,8 @@ pub fn first_tick(rule: Rule, plan: &[u16], tasks: &[u16], i: usize) -> Option<u
     requires { Judgeable tasks.now i }
     ensures { result ≡ in_time (deadline tasks.now i) (task_tick rule plan.now tasks.now i) }
 {
-    let mut curve = [0u32; TICKS];
-    let mut asks = [0u32; TICKS];
-    draw_task(rule, plan, tasks, i, &mut curve, &mut asks);
+    let lists = draw_task(rule, plan, tasks, i);
     let c = rules::records::budget(tasks, i);
     let d = rules::records::deadline(tasks, i);
-    tick_in(&curve, &asks, c, d)
+    tick_in(&lists, c, d)
 }

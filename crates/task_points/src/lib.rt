@@ -1,7 +1,8 @@
 // The engine over scheduling points: the smallest of them that holds.
 #![tactic(auto)]
 
-ghost use Rattle.std.specs.Prelude.{◌≡◌, ◌+◌, ◌≤◌, ◌<◌, length};
+ghost use Rattle.std.specs.Prelude.{◌≡◌, ◌+◌, ◌≤◌};
+ghost use Rattle.rules.specs.Limits.{longest};
 ghost use Rattle.rules.specs.Walk.{first};
 ghost use Rattle.theory.specs.Task.{task_point};
 ghost use Rattle.rules.specs.Table.{deadline};
@@ -9,37 +10,34 @@ ghost use Rattle.task_demand.specs.Inner.{Judgeable, in_time};
 ghost use Rattle.task_points.specs.Inner.{point_at, point_fits};
 
 use rules::Rule;
-use task_demand::{TICKS, draw_task, earliest, fits};
+use task_demand::{TaskLists, draw_task, earliest, fits};
 
 // Whether t is a scheduling point, of a task with deadline d: t is d itself, or a multiple of a higher task's period. Behind
 // these alone more is asked.
-pub fn point_at(asks: &[u32], d: usize, t: usize) -> bool
-    requires { (t ≤ d) × (d < length asks.now) }
-    ensures { result ≡ point_at asks.now d t }
+pub fn point_at(lists: &TaskLists, d: usize, t: usize) -> bool
+    requires { (t ≤ d) × (d ≤ longest) }
+    ensures { result ≡ point_at lists.now.asks d t }
 {
     if t == d {
         return true;
     }
-    asks[t] < asks[t + 1]
+    lists.asks[t] < lists.asks[t + 1]
 }
 
 // Whether t is a scheduling point, and holds; few ticks hold, so that is looked at first.
-fn point_fits(curve: &[u32], asks: &[u32], c: u16, d: usize, t: usize) -> bool
-    requires { (1 ≤ t) × (t ≤ d) × (d < length curve.now) × (d < length asks.now) }
-    ensures { result ≡ point_fits curve.now asks.now c d t }
+fn point_fits(lists: &TaskLists, c: u16, d: usize, t: usize) -> bool
+    requires { (1 ≤ t) × (t ≤ d) × (d ≤ longest) }
+    ensures { result ≡ point_fits lists.now.curve lists.now.asks c d t }
 {
-    if fits(curve, asks, c, t) {
-        return point_at(asks, d, t);
-    }
-    false
+    fits(lists, c, t) && point_at(lists, d, t)
 }
 
 // By the lists: the smallest scheduling point that holds, of a task with budget c and deadline d.
-pub fn point_in(curve: &[u32], asks: &[u32], c: u16, d: u16) -> Option<usize>
-    requires { (d < length curve.now) × (d < length asks.now) }
-    ensures { result ≡ in_time d (first (point_fits curve.now asks.now c d) (d + 1)) }
+pub fn point_in(lists: &TaskLists, c: u16, d: u16) -> Option<usize>
+    requires { d ≤ longest }
+    ensures { result ≡ in_time d (first (point_fits lists.now.curve lists.now.asks c d) (d + 1)) }
 {
-    earliest(d, |t| point_fits(curve, asks, c, usize::from(d), t))
+    earliest(d, |t| point_fits(lists, c, usize::from(d), t))
 }
 
 // The smallest scheduling point that holds.
@@ -47,10 +45,8 @@ pub fn first_point(rule: Rule, plan: &[u16], tasks: &[u16], i: usize) -> Option<
     requires { Judgeable tasks.now i }
     ensures { result ≡ in_time (deadline tasks.now i) (task_point rule plan.now tasks.now i) }
 {
-    let mut curve = [0u32; TICKS];
-    let mut asks = [0u32; TICKS];
-    draw_task(rule, plan, tasks, i, &mut curve, &mut asks);
+    let lists = draw_task(rule, plan, tasks, i);
     let c = rules::records::budget(tasks, i);
     let d = rules::records::deadline(tasks, i);
-    point_in(&curve, &asks, c, d)
+    point_in(&lists, c, d)
 }
