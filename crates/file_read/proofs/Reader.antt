@@ -114,8 +114,19 @@ unfolding contents_of counts_of
 contents-right b c a g =
     let l : head_bytes ≤ length b = omega (arith, a.long) in
     rw (
-      le-ltb (length b) head_bytes l, a.edition, a.is_frame, a.parts_at, a.is_np, a.tasks_at_lem, a.is_nt, a.runs_at_lem, a.is_nr, g, a.counts,
-      right c.partitions c.tasks, eq-eqb (length b) (size_of (part_width * c.partitions) (task_width * c.tasks) (run_width * c.runs)) a.long,
+      le-ltb (length b) head_bytes l,
+      a.edition,
+      a.is_frame,
+      a.parts_at,
+      a.is_np,
+      a.tasks_at_lem,
+      a.is_nt,
+      a.runs_at_lem,
+      a.is_nr,
+      g,
+      a.counts,
+      right c.partitions c.tasks,
+      eq-eqb (length b) (size_of (part_width * c.partitions) (task_width * c.tasks) (run_width * c.runs)) a.long,
     ) refl
 
 pub counts_of_lem : (frame np nt nr : ℕ) → within_limits frame (part_width * np) (task_width * nt) ≡ true → runs_counted (run_width * nr) ≡ true → counts_right frame np nt nr ≡ true

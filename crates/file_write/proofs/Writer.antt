@@ -42,11 +42,9 @@ module _ (ed frame : ℕ) (ps ts rs : List ℕ) where
       step (Err r) e = refl
       step (Ok _) e = let s = good_small e in rw (le-ltb room size (omega arith), le-ltb longest_file size (omega arith))
 
-  module _ (room : ℕ) where
-    module _ (g : file_tables_of ed frame ps ts rs ≡ (Ok tt)) (size : ℕ) (e : size ≡ size_for ps ts rs) where
-      pub write-all : size ≤ room → Ok size ≡ write_of ed frame ps ts rs room
-      unfolding write_of
-      write-all h = rw (g, ← e, le-ltb room size h)
+  pub write-all : (room : ℕ) → file_tables_of ed frame ps ts rs ≡ (Ok tt) → (size : ℕ) → size ≡ size_for ps ts rs → size ≤ room → Ok size ≡ write_of ed frame ps ts rs room
+  unfolding write_of
+  write-all room g size e h = rw (g, ← e, le-ltb room size h)
 
 -- the bodies, one behind the other
 pub laid : (ed frame : ℕ) (ps ts rs d o1 o2 o3 o4 : List ℕ)
