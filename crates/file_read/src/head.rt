@@ -17,10 +17,8 @@ fn counts_right(frame: usize, np: usize, nt: usize, nr: usize) -> bool
     requires { (np < 2 ^ 16) × (nt < 2 ^ 16) × (nr < 2 ^ 16) }
     ensures { result ≡ counts_right frame np nt nr }
 {
-    if !tables::within_limits(frame, PART_WIDTH * np, TASK_WIDTH * nt) {
-        return false;
-    }
-    file_tables::runs_counted(RUN_WIDTH * nr)
+    tables::within_limits(frame, PART_WIDTH * np, TASK_WIDTH * nt)
+        && file_tables::runs_counted(RUN_WIDTH * nr)
 }
 
 fn offsets_right(po: usize, to: usize, ro: usize, np: usize, nt: usize) -> bool
@@ -28,16 +26,12 @@ fn offsets_right(po: usize, to: usize, ro: usize, np: usize, nt: usize) -> bool
     ensures { result ≡ offsets_right po to ro np nt }
 {
     let tasks = HEAD_BYTES + NUMBER_BYTES * (PART_WIDTH * np);
-    if po != HEAD_BYTES {
-        return false;
-    }
-    if to != tasks {
-        return false;
-    }
-    ro == tasks + NUMBER_BYTES * (TASK_WIDTH * nt)
+    let runs = tasks + NUMBER_BYTES * (TASK_WIDTH * nt);
+    po == HEAD_BYTES && to == tasks && ro == runs
 }
 
 // 3 to 5, of a file of this edition and so many bytes.
+#[tactic(auto, unfolding(crate::specs::Reader::counts_of))]
 fn counts(
     edition: usize,
     long: usize,
@@ -71,6 +65,7 @@ fn counts(
     })
 }
 
+#[tactic(auto, unfolding(crate::specs::Reader::contents_of))]
 pub fn contents(file: &[u8]) -> Result<Contents, Refusal>
     ensures { result ≡ contents_of file.now }
 {

@@ -26,6 +26,7 @@ pub fn body_at(c: Contents, which: Body) -> Range<usize>
 }
 
 // A body, at the start of a table.
+#[tactic(auto, using(crate::proofs::Reader::loaded_body))]
 fn load_body(file: &[u8], c: Contents, which: Body, table: &mut [u16])
     requires few { Few c }
     requires inside { Inside file.now c which }
@@ -56,6 +57,7 @@ fn judge_loaded(
 }
 
 // Reads a file: its tables are put at the start of the lent ones, which have room for any.
+#[tactic(auto, using(crate::proofs::Reader::few, crate::proofs::Reader::none_loaded, crate::proofs::Reader::read_loaded, crate::proofs::Reader::read_refused))]
 pub fn load_file(
     file: &[u8],
     parts: &mut [u16],

@@ -48,7 +48,7 @@ fn good_run(table: &[u16], parts: usize, frame: usize, k: usize, total: usize) -
         && (k + 1 < runs(table) || frame <= total)
 }
 
-// 8.
+// 8. (No `tables::lowest`: the lengths' total runs along.)
 #[tactic(auto, using(crate::proofs::Chain::total_more, crate::proofs::Chain::runs_8, crate::proofs::Chain::runs_good), unfolding(rules::specs::Walk::sum))]
 fn judge_runs(table: &[u16], parts: usize, frame: usize) -> Result<(), Refusal>
     requires { length table.now < 2 ^ 32 }
