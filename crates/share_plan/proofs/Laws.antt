@@ -33,12 +33,11 @@ use Rattle.file_runs.proofs.Ticks.{runs-some}
 use Rattle.rules.specs.Limits.{longest_line}
 use Rattle.output.specs.Refused.{refused_line}
 use Rattle.share_line.specs.Expected.{expected_line}
-use Rattle.share_text.specs.declared.Kind.TheVariants.{Partitions, Tasks}
 use Rattle.share_text.specs.declared.Numbers.{Numbers}
 use Rattle.share_text.specs.declared.Expected.{Expected}
 use Rattle.share_text.specs.declared.Unread.{Unread}
 use Rattle.share_text.specs.declared.Unread.TheVariants as unread
-use Rattle.share_text.specs.Table.{records_of, read_text_of}
+use Rattle.share_text.specs.Table.{part_in, task_in, records_of, read_text_of}
 use Rattle.share_text.specs.Table as text
 use Rattle.share_text.proofs.Order.{fits}
 use Rattle.share_plan.specs.Answer.{plan_runs, plan_file, checked_write, written_by, write_built_of, write_plan_of, why_line, file_or_line, answer_of}
@@ -159,20 +158,20 @@ line_put terms ps ts out o w x ew eo e p =
 
 -- ---- a text's tables
 
-pub parts-front : (t l o : List ℕ) (r : Result Numbers Unread) (a b : ℕ) (n : Numbers) → length l ≡ a → r ≡ read_text_of t a b → o ≡ text.table_left r (records_of Partitions t) l → r ≡ Ok n
-    → (n.partitions ≤ length o) × (take n.partitions o ≡ records_of Partitions t)
-parts-front t l o r a b n el er eo e = let f = fits t a b n (sym er ∙ e) in front (records_of Partitions t) l o n.partitions f.parts_are (rw el f.parts_fit) (rw e at eo)
+pub parts-front : (t l o : List ℕ) (r : Result Numbers Unread) (a b : ℕ) (n : Numbers) → length l ≡ a → r ≡ read_text_of t a b → o ≡ text.table_left r (records_of part_in t) l → r ≡ Ok n
+    → (n.partitions ≤ length o) × (take n.partitions o ≡ records_of part_in t)
+parts-front t l o r a b n el er eo e = let f = fits t a b n (sym er ∙ e) in front (records_of part_in t) l o n.partitions f.parts_are (rw el f.parts_fit) (rw e at eo)
 
-pub tasks-front : (t l o : List ℕ) (r : Result Numbers Unread) (a b : ℕ) (n : Numbers) → length l ≡ b → r ≡ read_text_of t a b → o ≡ text.table_left r (records_of Tasks t) l → r ≡ Ok n
-    → (n.tasks ≤ length o) × (take n.tasks o ≡ records_of Tasks t)
-tasks-front t l o r a b n el er eo e = let f = fits t a b n (sym er ∙ e) in front (records_of Tasks t) l o n.tasks f.tasks_are (rw el f.tasks_fit) (rw e at eo)
+pub tasks-front : (t l o : List ℕ) (r : Result Numbers Unread) (a b : ℕ) (n : Numbers) → length l ≡ b → r ≡ read_text_of t a b → o ≡ text.table_left r (records_of task_in t) l → r ≡ Ok n
+    → (n.tasks ≤ length o) × (take n.tasks o ≡ records_of task_in t)
+tasks-front t l o r a b n el er eo e = let f = fits t a b n (sym er ∙ e) in front (records_of task_in t) l o n.tasks f.tasks_are (rw el f.tasks_fit) (rw e at eo)
 
 -- 2 first of all
 pub answer-edition : (i : ℕ) (t out : List ℕ) {o : List ℕ} {n : ℕ} → good_edition i ≡ false → Put out 0 (refused_line Edition) n o → Put out 0 (answer_of i t (length out)) n o
 unfolding answer_of
 answer-edition i t out e s = rw e s
 
-pub answer-tables : (i : ℕ) → good_edition i ≡ true → (t ps ts out : List ℕ) {o : List ℕ} {k : ℕ} (r : Result Numbers Unread) (n : Numbers) → r ≡ read_text_of t (part_width * most_partitions) (task_width * most_tasks) → r ≡ Ok n → ps ≡ records_of Partitions t → ts ≡ records_of Tasks t
+pub answer-tables : (i : ℕ) → good_edition i ≡ true → (t ps ts out : List ℕ) {o : List ℕ} {k : ℕ} (r : Result Numbers Unread) (n : Numbers) → r ≡ read_text_of t (part_width * most_partitions) (task_width * most_tasks) → r ≡ Ok n → ps ≡ records_of part_in t → ts ≡ records_of task_in t
     → Put out 0 (file_or_line (given i n.granule) ps ts (length out)) k o → Put out 0 (answer_of i t (length out)) k o
 unfolding answer_of
 answer-tables i h t ps ts out r n er e ep et s =

@@ -33,10 +33,9 @@ use Rattle.plan_build.proofs.Answers.{built_serves, frame_exactly}
 use Rattle.plan_build.proofs.Orders.{counted-few, laid}
 use Rattle.rules.specs.Refusals.{told, told_done, told_count}
 use Rattle.rules.proofs.Known.{by_number, filling_as}
-use Rattle.share_text.specs.declared.Kind.TheVariants.{Partitions, Tasks}
 use Rattle.share_text.specs.declared.Numbers.{Numbers}
 use Rattle.share_text.specs.declared.Unread.{Unread}
-use Rattle.share_text.specs.Table.{longest_text, records_of, granule_of, read_text_of, table_left}
+use Rattle.share_text.specs.Table.{longest_text, part_in, task_in, records_of, granule_of, read_text_of, table_left}
 use Rattle.file_read.specs.declared.Body.TheVariants as body
 use Rattle.file_read.specs.Reader as file
 use Rattle.file_write.specs.Writer.{file_of, size_for, write_of}
@@ -190,7 +189,7 @@ answer_first i t n room h = by_length (le-or-lt (length t) n)
 
 answer_room : AnswerRoom
 unfolding answer_of file_or_line write_plan_of write_built_of
-answer_room i t room h = rw (built terms (records_of Partitions t) (records_of Tasks t) (build_of terms (records_of Partitions t) longest))
+answer_room i t room h = rw (built terms (records_of part_in t) (records_of task_in t) (build_of terms (records_of part_in t) longest))
   where
     terms : Terms
     terms = given i (granule_of t)
@@ -205,8 +204,8 @@ text_one : TextOne
 text_one t parts tasks p p' q q' r r' a b =
     let e : r ≡ r' = a.0 ∙ sym b.0 in (
       e,
-      a.1 ∙ ap (λ (x : Result Numbers Unread). table_left x (records_of Partitions t) parts) e ∙ sym b.1,
-      a.2 ∙ ap (λ (x : Result Numbers Unread). table_left x (records_of Tasks t) tasks) e ∙ sym b.2,
+      a.1 ∙ ap (λ (x : Result Numbers Unread). table_left x (records_of part_in t) parts) e ∙ sym b.1,
+      a.2 ∙ ap (λ (x : Result Numbers Unread). table_left x (records_of task_in t) tasks) e ∙ sym b.2,
     )
 
 pub proved : Proved

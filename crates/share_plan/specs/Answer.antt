@@ -18,11 +18,10 @@ use Rattle.output.specs.Decimal.{decimal}
 use Rattle.output.specs.Refused.{refused_line}
 use Rattle.share_words.specs.Words.{numeral}
 use Rattle.share_line.specs.Expected.{expected_line}
-use Rattle.share_text.specs.declared.Kind.TheVariants.{Partitions, Tasks}
 use Rattle.share_text.specs.declared.Numbers.{Numbers}
 use Rattle.share_text.specs.declared.Unread.{Unread}
 use Rattle.share_text.specs.declared.Unread.TheVariants as unread
-use Rattle.share_text.specs.Table.{records_of, granule_of, read_text_of}
+use Rattle.share_text.specs.Table.{part_in, task_in, records_of, granule_of, read_text_of}
 
 -- the runs of the harmonic rule's plan, and the file of tables with it, of the edition asked for
 abbrev pub plan_runs : Terms → List ℕ → List ℕ
@@ -75,7 +74,7 @@ answer_by (Err (unread.Refused r)) of_tables = refused_line r
 unfoldable pub answer_of : ℕ → List ℕ → ℕ → List ℕ
 answer_of e t room =
     unless refused_line (edition_judged e)
-    (answer_by (read_text_of t (part_width * most_partitions) (task_width * most_tasks)) (file_or_line (given e (granule_of t)) (records_of Partitions t) (records_of Tasks t) room))
+    (answer_by (read_text_of t (part_width * most_partitions) (task_width * most_tasks)) (file_or_line (given e (granule_of t)) (records_of part_in t) (records_of task_in t) room))
 
 -- the answer r of the call, the length of what it puts, and o what the output then holds
 abbrev pub Plans : ℕ → List ℕ → List ℕ → List ℕ → ℕ → Type 0

@@ -1,5 +1,5 @@
 -- Laws of lines and of what is gathered from them. Assumes nothing.
-use Prim.Native.Nat.{ℕ, suc, ◌+◌, ◌-◌, ◌≤◌, ◌<◌}
+use Prim.Native.Nat.{ℕ, ◌+◌, ◌-◌, ◌≤◌, ◌<◌}
 use mathlib.Core.Path.{◌≡◌, refl, sym, ap, subst, ◌∙◌}
 use mathlib.Core.Logic.{◌⊎◌, inl, inr}
 use mathlib.Core.Bool.{Bool, true, false, ◌||◌}
@@ -7,8 +7,8 @@ use mathlib.Core.List.{List, [], ◌∷◌, ◌++◌, append-nil}
 use native.Mathlib.Numerals.{add-one}
 use native.Mathlib.Decide.{le_ind}
 use native.Mathlib.Omega.{arith}
-use lib.ListN.{length, get_or, set, take, drop, drop_of_length-le}
-use lib.Seq.{sets, get_or-set_other, drop-length, drop-drop}
+use lib.ListN.{length, get_or, take, drop, drop_of_length-le}
+use lib.Seq.{sets, drop-length, drop-drop}
 use Rattle.share_words.proofs.WordLaws.{tail}
 use lib.Dec.{ltb}
 use borrow.Author.Tests.{lt-ltb, le-ltb, ltb-true, ltb-false}
@@ -17,21 +17,20 @@ use Rattle.rules.specs.declared.Refusal.TheVariants.{Limits}
 use Rattle.rules.specs.Walk.{pick, first, some, gathered}
 use Rattle.rules.proofs.Sum.{le-or-lt}
 use Rattle.rules.proofs.Tests.{pick_second}
-use Rattle.rules.proofs.First.{first-zero, first_more, first_at, first-none, some-none, some_at, gathered_more}
+use Rattle.rules.proofs.First.{first-zero, first_more, first_at, first-none, some-none, some_at, gathered-zero, gathered_more}
 use Rattle.output.specs.Put.{Put}
-use Rattle.output.proofs.Put.{and_then}
-use Rattle.std.specs.Prelude.{Result, Ok, Err}
+use Rattle.output.proofs.Put.{and_then, put_none}
+use Rattle.std.specs.Prelude.{Option, Some, None, unwrap_or, Result, Ok, Err}
+use Rattle.std.specs.Option.{option_or}
 use Rattle.share_text.specs.declared.Expected.{Expected}
 use Rattle.share_text.specs.declared.Numbers.{Numbers}
 use Rattle.share_text.specs.declared.Unread.TheVariants as unread
 use Rattle.share_line.specs.declared.What.{What}
-use Rattle.share_text.specs.declared.Kind.{Kind}
-use Rattle.share_text.specs.declared.Kind.TheVariants.{Granules, Partitions, Tasks}
 use Rattle.share_line.specs.declared.Row.{Row}
 use Rattle.share_line.specs.declared.Row.TheVariants.{Nothing}
 use Rattle.share_words.specs.Words.{newline, found, width, word_of}
 use Rattle.share_line.specs.Rows.{record_of, row_of, closes, is_wrong, what_of}
-use Rattle.share_text.specs.Table.{line_of, after_line, from_line, row_at, closes_at, closed_at, wrong_at, first_wrong, nums_in, nums_at, records_of, granule_of, longest_text, seen_of, sized_of, read_by, read_text_of}
+use Rattle.share_text.specs.Table.{line_of, after_line, from_line, row_at, closes_at, closed_at, wrong_at, first_wrong, granule_in, part_in, task_in, nums_at, records_of, granule_of, longest_text, numbers_of, seen_of, sized_of, read_by, read_text_of}
 
 -- the line that begins at a place, and where the next one does
 pub line_is : (t : List ℕ) (at e : ℕ) → e ≡ found newline (take (length t - at) (drop at t)) → take e (take (length t - at) (drop at t)) ≡ line_of (drop at t)
@@ -130,28 +129,66 @@ closed_more t k e c f = f ∙ rw (e, c) (some_more (closes_at t) k)
 
 -- ---- what is gathered
 
-pub nums_nothing : (kind : Kind) → nums_in kind (Ok Nothing) ≡ []
-nums_nothing Granules = refl
-nums_nothing Partitions = refl
-nums_nothing Tasks = refl
-
-pub nums_wrong : (kind : Kind) (w : What) → nums_in kind (Err w) ≡ []
-nums_wrong Granules w = refl
-nums_wrong Partitions w = refl
-nums_wrong Tasks w = refl
-
 gathered-rest : (f : ℕ → List ℕ) (k n : ℕ) → k ≤ n → ((j : ℕ) → k ≤ j → f j ≡ []) → gathered f n ≡ gathered f k
 unfolding gathered
 gathered-rest f k n h g = le_ind {n = k} (λ m. gathered f m ≡ gathered f k) refl (λ m l i. ap (λ (x : List ℕ). gathered f m ++ x) (g m l) ∙ append-nil (gathered f m) ∙ i) n h
 
-pub gather_turn : (kind : Kind) (t : List ℕ) (k : ℕ) {out m o : List ℕ} {i r : ℕ} {row : Result Row What} → row ≡ row_at t k → Put out 0 (gathered (nums_at kind t) k) i m → Put m i (nums_in kind row) r o
-    → Put out 0 (gathered (nums_at kind t) (k + 1)) r o
-unfolding nums_at
-gather_turn kind t k e p q = rw (gathered_more (nums_at kind t) k, ← e) (and_then p q)
-
-pub gather_end : (kind : Kind) {t : List ℕ} {at k : ℕ} → Reached t at k → at ≤ length t → length t ≤ at → gathered (nums_at kind t) k ≡ records_of kind t
+gathered-end : (nums : Result Row What → List ℕ) → nums (Ok Nothing) ≡ [] → {t : List ℕ} {at k : ℕ} → Reached t at k → length t ≤ at → k ≤ length t → gathered (nums_at nums t) k ≡ records_of nums t
 unfolding records_of nums_at
-gather_end kind {t} {at} {k} a h l = sym (gathered-rest (nums_at kind t) k (length t) (omega (arith, a.within)) (λ j m. ap (nums_in kind) (row-empty t k j m (past a l)) ∙ nums_nothing kind))
+gathered-end nums z {t} {at} {k} a l h = sym (gathered-rest (nums_at nums t) k (length t) h (λ j m. ap nums (row-empty t k j m (past a l)) ∙ z))
+
+abbrev pub head : List ℕ → Option ℕ
+head [] = None
+head (x ∷ l) = Some x
+
+head-append : (l m : List ℕ) → head (l ++ m) ≡ option_or (head l) (head m)
+head-append [] m = refl
+head-append (x ∷ l) m = refl
+
+head_or : (l : List ℕ) (d : ℕ) → unwrap_or (head l) d ≡ get_or l 0 d
+head_or [] d = refl
+head_or (x ∷ l) d = refl
+
+pub option_or_none : (o : Option ℕ) → o ≡ option_or o None
+option_or_none None = refl
+option_or_none (Some x) = refl
+
+-- what is gathered from the rows in front of row k, put into the tables ps and ts
+pub record Gathered (t ps ts : List ℕ) (k : ℕ) (granule : Option ℕ) (p q : ℕ) (ps' ts' : List ℕ) : Type 0 where
+  pub granule_is : granule ≡ head (gathered (nums_at granule_in t) k)
+  pub parts : Put ps 0 (gathered (nums_at part_in t) k) p ps'
+  pub tasks : Put ts 0 (gathered (nums_at task_in t) k) q ts'
+
+pub gathered-none : (t ps ts : List ℕ) → Gathered t ps ts 0 None 0 0 ps ts
+gathered-none t ps ts =
+    record {
+      granule_is = ap head (sym (gathered-zero (nums_at granule_in t)));
+      parts = rw (gathered-zero (nums_at part_in t)) (put_none ps 0);
+      tasks = rw (gathered-zero (nums_at task_in t)) (put_none ts 0);
+    }
+
+pub gathered-turn :
+    {t ps ts : List ℕ} {k : ℕ} {granule granule' : Option ℕ} {p q p' q' : ℕ} {ps' ts' ps'' ts'' : List ℕ} {row : Result Row What} → Gathered t ps ts k granule p q ps' ts' → row ≡ row_at t k
+    → granule' ≡ option_or granule (head (granule_in row)) → Put ps' p (part_in row) p' ps'' → Put ts' q (task_in row) q' ts'' → Gathered t ps ts (k + 1) granule' p' q' ps'' ts''
+unfolding nums_at
+gathered-turn {t} {k = k} {row = row} a e g p q =
+    record {
+      granule_is = rw (gathered_more (nums_at granule_in t) k, ← e, head-append (gathered (nums_at granule_in t) k) (granule_in row), ← a.granule_is) g;
+      parts = rw (gathered_more (nums_at part_in t) k, ← e) (and_then a.parts p);
+      tasks = rw (gathered_more (nums_at task_in t) k, ← e) (and_then a.tasks q);
+    }
+
+pub gathered-all : {t ps ts : List ℕ} {at k : ℕ} {granule : Option ℕ} {p q : ℕ} {ps' ts' : List ℕ} {g : ℕ} → Gathered t ps ts k granule p q ps' ts' → g ≡ unwrap_or granule 1 → Reached t at k → at ≤ length t → length t ≤ at
+    → ◌≡◌ {A = Numbers} (record { granule = g; partitions = p; tasks = q }) (numbers_of t) × (ps' ≡ sets ps 0 (records_of part_in t)) × (ts' ≡ sets ts 0 (records_of task_in t))
+gathered-all {t} {ps} {ts} {at} {k} {granule} {p} {q} {g = g} a e r h l =
+    let m : k ≤ length t = omega (arith, r.within) in
+    let f = gathered-end granule_in refl r l m in
+    let x : Put ps 0 (records_of part_in t) p _ = rw (gathered-end part_in refl r l m) at a.parts in
+    let y : Put ts 0 (records_of task_in t) q _ = rw (gathered-end task_in refl r l m) at a.tasks in
+    let eg : g ≡ granule_of t = e ∙ ap (λ (o : Option ℕ). unwrap_or o 1) (a.granule_is ∙ ap head f) ∙ head_or (records_of granule_in t) 1 in
+    let ep : p ≡ length (records_of part_in t) = omega (arith, x.place) in
+    let eq : q ≡ length (records_of task_in t) = omega (arith, y.place) in
+    (rw (eg, ep, eq), x.bytes, y.bytes)
 
 -- ---- what an answer of numbers says
 
@@ -159,9 +196,9 @@ gather_end kind {t} {at} {k} a h l = sym (gathered-rest (nums_at kind t) k (leng
 pub record Fits (t : List ℕ) (parts tasks : ℕ) (n : Numbers) : Type 0 where
   pub short : length t ≤ longest_text
   pub granule_is : n.granule ≡ granule_of t
-  pub parts_are : n.partitions ≡ length (records_of Partitions t)
+  pub parts_are : n.partitions ≡ length (records_of part_in t)
   pub parts_fit : n.partitions ≤ parts
-  pub tasks_are : n.tasks ≡ length (records_of Tasks t)
+  pub tasks_are : n.tasks ≡ length (records_of task_in t)
   pub tasks_fit : n.tasks ≤ tasks
 
 not_read : {E : Type 0} (e : E) (n : Numbers) → ¬ (Err e ≡ Ok n)
@@ -175,9 +212,9 @@ seen_good n (Err x) s e = absurd (not_read (unread.Expected x) n e)
 pub fits : (t : List ℕ) (parts tasks : ℕ) (n : Numbers) → read_text_of t parts tasks ≡ Ok n → Fits t parts tasks n
 unfolding read_text_of sized_of
 fits t parts tasks n e =
-    let p = length (records_of Partitions t) in
-    let q = length (records_of Tasks t) in
-    let all : Numbers = record { granule = granule_of t; partitions = p; tasks = q } in
+    let p = length (records_of part_in t) in
+    let q = length (records_of task_in t) in
+    let all = numbers_of t in
     let y2 : Result Numbers Refusal = pick (ltb tasks q) (Err Limits) (Ok all) in
     let y1 : Result Numbers Refusal = pick (ltb parts p) (Err Limits) y2 in
     let e1 = pick_second (ltb longest_text (length t)) (Err (unread.Refused Limits)) (read_by (seen_of t) y1) (Ok n) (not_read (unread.Refused Limits) n) e in
@@ -194,13 +231,3 @@ fits t parts tasks n e =
       tasks_fit = ltb-false _ _ e3.0;
     } in
     subst (Fits t parts tasks) g w
-
--- ---- the granule, put in front of a 1
-
-kept-first : (s l : List ℕ) (i : ℕ) → get_or (sets l (suc i) s) 0 0 ≡ get_or l 0 0
-kept-first [] l i = refl
-kept-first (x ∷ s) l i = kept-first s (set l (suc i) x) (suc i) ∙ get_or-set_other l (suc i) 0 x 0 (λ e. absurd (omega arith))
-
-pub granule-first : (s : List ℕ) → get_or (sets (1 ∷ []) 0 s) 0 0 ≡ get_or s 0 1
-granule-first [] = refl
-granule-first (x ∷ s) = kept-first s (x ∷ []) 0

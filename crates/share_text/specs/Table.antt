@@ -8,8 +8,6 @@ use Rattle.share_text.specs.declared.Expected.{Expected}
 use Rattle.share_text.specs.declared.Numbers.{Numbers}
 use Rattle.share_text.specs.declared.Unread.{Unread}
 use Rattle.share_text.specs.declared.Unread.TheVariants as unread
-use Rattle.share_text.specs.declared.Kind.{Kind}
-use Rattle.share_text.specs.declared.Kind.TheVariants.{Granules, Partitions, Tasks}
 use Rattle.share_line.specs.declared.Row.{Row}
 use Rattle.share_line.specs.declared.Row.TheVariants.{Nothing, Granule, Partition, Task}
 use Rattle.share_line.specs.declared.What.{What}
@@ -47,34 +45,38 @@ wrong_at t k = is_wrong (closed_at t k) (row_at t k)
 abbrev pub first_wrong : List ℕ → ℕ
 first_wrong t = first (wrong_at t) (length t)
 
--- the numbers of a row of one kind
-abbrev pub nums_in : Kind → Result Row What → List ℕ
-nums_in Granules (Ok (Granule g)) = g ∷ []
-nums_in Partitions (Ok (Partition m n d)) = m ∷ n ∷ d ∷ []
-nums_in Tasks (Ok (Task p c d t)) = p ∷ c ∷ d ∷ t ∷ []
-nums_in Granules (Ok Nothing) = []
-nums_in Granules (Ok (Partition m n d)) = []
-nums_in Granules (Ok (Task p c d t)) = []
-nums_in Granules (Err w) = []
-nums_in Partitions (Ok Nothing) = []
-nums_in Partitions (Ok (Granule g)) = []
-nums_in Partitions (Ok (Task p c d t)) = []
-nums_in Partitions (Err w) = []
-nums_in Tasks (Ok Nothing) = []
-nums_in Tasks (Ok (Granule g)) = []
-nums_in Tasks (Ok (Partition m n d)) = []
-nums_in Tasks (Err w) = []
+-- the numbers of a row that gives the granule, a partition or a task
+abbrev pub granule_in : Result Row What → List ℕ
+granule_in (Ok Nothing) = []
+granule_in (Ok (Granule g)) = g ∷ []
+granule_in (Ok (Partition m n d)) = []
+granule_in (Ok (Task p c d t)) = []
+granule_in (Err w) = []
 
-unfoldable pub nums_at : Kind → List ℕ → ℕ → List ℕ
-nums_at kind t k = nums_in kind (row_at t k)
+abbrev pub part_in : Result Row What → List ℕ
+part_in (Ok Nothing) = []
+part_in (Ok (Granule g)) = []
+part_in (Ok (Partition m n d)) = m ∷ n ∷ d ∷ []
+part_in (Ok (Task p c d t)) = []
+part_in (Err w) = []
 
--- the table of a kind: its records in the order of their lines
-unfoldable pub records_of : Kind → List ℕ → List ℕ
-records_of kind t = gathered (nums_at kind t) (length t)
+abbrev pub task_in : Result Row What → List ℕ
+task_in (Ok Nothing) = []
+task_in (Ok (Granule g)) = []
+task_in (Ok (Partition m n d)) = []
+task_in (Ok (Task p c d t)) = p ∷ c ∷ d ∷ t ∷ []
+task_in (Err w) = []
+
+unfoldable pub nums_at : (Result Row What → List ℕ) → List ℕ → ℕ → List ℕ
+nums_at nums t k = nums (row_at t k)
+
+-- the table of such numbers: its records in the order of their lines
+unfoldable pub records_of : (Result Row What → List ℕ) → List ℕ → List ℕ
+records_of nums t = gathered (nums_at nums t) (length t)
 
 -- the granule that a line gives, or 1: "g = 1 gives today's answers"
 abbrev pub granule_of : List ℕ → ℕ
-granule_of t = get_or (records_of Granules t) 0 1
+granule_of t = get_or (records_of granule_in t) 0 1
 
 -- in bytes: a longer text is not read
 abbrev pub longest_text : ℕ
@@ -84,12 +86,16 @@ longest_text = 65536
 unfoldable pub seen_of : List ℕ → Result (Unit {0}) Expected
 seen_of t = pick (ltb (first_wrong t) (length t)) (Err (record { line = first_wrong t + 1; what = what_of (row_at t (first_wrong t)) })) (Ok tt)
 
--- the granule, and how many numbers there are of each kind, where the lent tables have room for so many; "a count outside its limits" where they have not
+-- the granule, and how many numbers the partitions and the tasks have
+abbrev pub numbers_of : List ℕ → Numbers
+numbers_of t = record { granule = granule_of t; partitions = length (records_of part_in t); tasks = length (records_of task_in t) }
+
+-- these, where the lent tables have room for so many; "a count outside its limits" where they have not
 unfoldable pub sized_of : List ℕ → ℕ → ℕ → Result Numbers Refusal
 sized_of t parts tasks =
-    pick (ltb parts (length (records_of Partitions t))) (Err Limits)
-    (pick (ltb tasks (length (records_of Tasks t))) (Err Limits)
-    (Ok (record { granule = granule_of t; partitions = length (records_of Partitions t); tasks = length (records_of Tasks t) })))
+    pick (ltb parts (length (records_of part_in t))) (Err Limits)
+    (pick (ltb tasks (length (records_of task_in t))) (Err Limits)
+    (Ok (numbers_of t)))
 
 abbrev pub read_by : Result (Unit {0}) Expected → Result Numbers Refusal → Result Numbers Unread
 read_by (Ok u) (Ok n) = Ok n
@@ -108,4 +114,4 @@ table_left (Err u) nums out = out
 -- the answer r of the call, and p and q what the lent tables then hold
 abbrev pub ReadsText : List ℕ → List ℕ → List ℕ → List ℕ → List ℕ → Result Numbers Unread → Type 0
 ReadsText t parts tasks p q r =
-    (r ≡ read_text_of t (length parts) (length tasks)) × (p ≡ table_left r (records_of Partitions t) parts) × (q ≡ table_left r (records_of Tasks t) tasks)
+    (r ≡ read_text_of t (length parts) (length tasks)) × (p ≡ table_left r (records_of part_in t) parts) × (q ≡ table_left r (records_of task_in t) tasks)

@@ -14,13 +14,6 @@ mod tables; // tables.rt: the numbers of each kind
 
 pub const LONGEST_TEXT: usize = 65536; // in bytes
 
-#[derive(Clone, Copy)]
-pub enum Kind {
-    Granules,
-    Partitions,
-    Tasks,
-}
-
 // The granule, and how many numbers each table has.
 #[derive(Clone, Copy, PartialEq, Eq)]
 pub struct Numbers {
@@ -65,7 +58,6 @@ pub fn read(text: &[u8], parts: &mut [u16], tasks: &mut [u16]) -> Result<Numbers
         parts.new tasks.new result }
 {
     let numbers = read_of(text, parts.len(), tasks.len())?;
-    gather(text, Kind::Partitions, parts);
-    gather(text, Kind::Tasks, tasks);
+    gather(text, parts, tasks);
     Ok(numbers)
 }

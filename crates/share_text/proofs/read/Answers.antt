@@ -4,6 +4,3 @@ use Rattle.share_text.proofs.read.Goals as goal
 
 pub gather-requires : goal.gather-requires
 gather-requires c = (fits _ _ _ _ (sym c.read_of.ensures ∙ c.in_ok-numbers.was)).short
-
-pub gather-requires-2 : goal.gather-requires-2
-gather-requires-2 c = (fits _ _ _ _ (sym c.read_of.ensures ∙ c.in_ok-numbers.was)).short
