@@ -18,36 +18,21 @@ use Rattle.desk.specs.declared.Desk.{Desk}
 use Rattle.desk_reading.specs.declared.checking.Checking.{Checking}
 use Rattle.desk_reading.specs.declared.searching.Searching.{Searching}
 use Rattle.desk_reading.specs.declared.scan.Scan.{Scan}
-use Rattle.desk_reading.specs.Reading.{follows, opening, searched_on, scan_step, scan_on, check_end, search_in, search_step}
+use Rattle.desk_reading.specs.Reading.{follows, scan_step, scan_on, check_end, search_step}
 use Rattle.desk_reading.proofs.Broken.{none_stays}
-use Rattle.desk_engine.specs.Beginning.{sizes_ok, scan_from, searching_from, opening_of, asking_of}
+use Rattle.desk_engine.specs.Beginning.{sizes_ok, searching_none, searching_from, opening_of, asking_of}
 use Rattle.std.specs.Prelude.{Option, None, Some}
 
--- ---- what stays: a broken rule, and whether it is an opening
-
-fails : (l : List Job) → check_end (fold scan_on None l) ≡ false
-fails l = rw (none_stays l)
-
-opening_stays : (o : Bool) (q : Option Searching) (j : Job) → opening q ≡ o → opening (searched_on q j) ≡ o
-opening_stays o None j h = h
-opening_stays o (Some q) j h = h
-
-none_searched : (l : List Job) → fold searched_on None l ≡ None
-unfolding fold
-none_searched [] = refl
-none_searched (j ∷ l) = none_searched l
-
-all_searched : (q : Searching) (l : List Job) → fold searched_on (Some q) l ≡ Some (fold search_step q l)
-unfolding fold
-all_searched q [] = refl
-all_searched q (j ∷ l) = all_searched (search_step q j) l
+-- a broken rule stays broken
+fails : (o : Bool) (l : List Job) → check_end o (fold (scan_on o) None l) ≡ false
+fails o l = rw (none_stays o l)
 
 -- ---- the rules, as the pass tests them
 
 abbrev chk : Job → Checking
 chk p = record { end = ends p; own = x_of p []; flex = p.flex }
 
-abbrev sc : ℕ → Job → Option Searching → Scan
+abbrev sc : ℕ → Job → Searching → Scan
 sc m p q = record { left = m; checking = chk p; searching = q }
 
 -- each x is the rule's, or is not looked at
@@ -112,38 +97,45 @@ rule_listed o p j m l =
     (swap_listed (job_ok j) (leb (ends p) j.start) (eqb p.flex (min (p.deadline - p.start - p.budget) (j.flex + j.start - (p.start + p.budget))) || o) (eqb j.flex (x_of j (take m l)) || o) (ordered (ends j) (take m l)) (right_by o (take m l)) (all_zeros (drop m l)))
 
 module _ (o : Bool) where
+  -- what was searched
+  abbrev Seen : Searching → List Job → Option Scan → Type 0
+  Seen q js r = (s : Scan) → r ≡ Some s → s.searching ≡ fold search_step q js
+
   -- what the pass finds, on from a job p
-  record Looked (p : Job) (m : ℕ) (q : Option Searching) (l : List Job) (r : Option Scan) : Type 0 where
-    pub right : check_end r ≡ rule o p m l
-    pub seen : rule o p m l ≡ true → search_in r ≡ fold searched_on q (take m l)
+  record Looked (p : Job) (m : ℕ) (q : Searching) (l : List Job) (r : Option Scan) : Type 0 where
+    pub right : check_end o r ≡ rule o p m l
+    pub seen : rule o p m l ≡ true → Seen q (take m l) r
 
-  listed : (p j : Job) (m : ℕ) (q : Option Searching) → opening q ≡ o → follows o (chk p) j ≡ true → scan_step (sc (suc m) p q) j ≡ Some (sc m j (searched_on q j))
-  listed p j m q h e = rw (some_more m, one_less m, h, e)
+  listed : (p j : Job) (m : ℕ) (q : Searching) → follows o (chk p) j ≡ true → scan_step o (sc (suc m) p q) j ≡ Some (sc m j (search_step q j))
+  listed p j m q e = rw (some_more m, one_less m, e)
 
-  unlisted : (p j : Job) (m : ℕ) (q : Option Searching) → opening q ≡ o → follows o (chk p) j ≡ false → scan_step (sc (suc m) p q) j ≡ None
-  unlisted p j m q h e = rw (some_more m, h, e)
+  unlisted : (p j : Job) (m : ℕ) (q : Searching) → follows o (chk p) j ≡ false → scan_step o (sc (suc m) p q) j ≡ None
+  unlisted p j m q e = rw (some_more m, e)
 
-  look : (l : List Job) (m : ℕ) (p : Job) (q : Option Searching) → opening q ≡ o → Looked p m q l (fold scan_on (Some (sc m p q)) l)
+  the_same : (m : ℕ) (p : Job) (q : Searching) (s : Scan) → ◌≡◌ {A = Option Scan} (Some (sc m p q)) (Some s) → s.searching ≡ q
+  the_same m p q s e = let z : sc m p q ≡ s = cc in rw (← z)
+
+  look : (l : List Job) (m : ℕ) (p : Job) (q : Searching) → Looked p m q l (fold (scan_on o) (Some (sc m p q)) l)
   unfolding fold
-  look [] zero p q h = record { right = rw h (last_only (eqb p.flex (x_of p []) || o)); seen = λ _. refl }
-  look [] (suc m) p q h = record { right = rw h (last_only (eqb p.flex (x_of p []) || o)); seen = λ _. refl }
-  look (j ∷ l) zero p q h = by_zeros (zeros j) refl (look l zero p q h) where
-    by_zeros : (v : Bool) → zeros j ≡ v → Looked p 0 q l (fold scan_on (Some (sc 0 p q)) l) → Looked p 0 q (j ∷ l) (fold scan_on (scan_step (sc 0 p q) j) l)
+  look [] zero p q = record { right = last_only (eqb p.flex (x_of p []) || o); seen = λ _ s e. the_same 0 p q s e }
+  look [] (suc m) p q = record { right = last_only (eqb p.flex (x_of p []) || o); seen = λ _ s e. the_same (suc m) p q s e }
+  look (j ∷ l) zero p q = by_zeros (zeros j) refl (look l zero p q) where
+    by_zeros : (v : Bool) → zeros j ≡ v → Looked p 0 q l (fold (scan_on o) (Some (sc 0 p q)) l) → Looked p 0 q (j ∷ l) (fold (scan_on o) (scan_step o (sc 0 p q) j) l)
     by_zeros true e more =
         let is : rule o p 0 (j ∷ l) ≡ rule o p 0 l = swap_past (zeros j) (after o p []) (all_zeros l) ∙ rw e in
         rw e (record { right = more.right ∙ sym is; seen = λ g. more.seen (sym is ∙ g) })
     by_zeros false e more =
         let no : rule o p 0 (j ∷ l) ≡ false = swap_past (zeros j) (after o p []) (all_zeros l) ∙ rw e in
-        rw e (record { right = fails l ∙ sym no; seen = λ g. absurd (true≢false (sym g ∙ no)) })
-  look (j ∷ l) (suc m) p q h = by_follows (follows o (chk p) j) refl (look l m j (searched_on q j) (opening_stays o q j h)) where
-    by_follows : (v : Bool) → follows o (chk p) j ≡ v → Looked j m (searched_on q j) l (fold scan_on (Some (sc m j (searched_on q j))) l)
-        → Looked p (suc m) q (j ∷ l) (fold scan_on (scan_step (sc (suc m) p q) j) l)
+        rw e (record { right = fails o l ∙ sym no; seen = λ g. absurd (true≢false (sym g ∙ no)) })
+  look (j ∷ l) (suc m) p q = by_follows (follows o (chk p) j) refl (look l m j (search_step q j)) where
+    by_follows : (v : Bool) → follows o (chk p) j ≡ v → Looked j m (search_step q j) l (fold (scan_on o) (Some (sc m j (search_step q j))) l)
+        → Looked p (suc m) q (j ∷ l) (fold (scan_on o) (scan_step o (sc (suc m) p q) j) l)
     by_follows true e more =
         let is : rule o p (suc m) (j ∷ l) ≡ rule o j m l = rule_listed o p j m l ∙ rw e in
-        rw (listed p j m q h e) (record { right = more.right ∙ sym is; seen = λ g. more.seen (sym is ∙ g) })
+        rw (listed p j m q e) (record { right = more.right ∙ sym is; seen = λ g. more.seen (sym is ∙ g) })
     by_follows false e more =
         let no : rule o p (suc m) (j ∷ l) ≡ false = rule_listed o p j m l ∙ rw e in
-        rw (unlisted p j m q h e) (record { right = fails l ∙ sym no; seen = λ g. absurd (true≢false (sym g ∙ no)) })
+        rw (unlisted p j m q e) (record { right = fails o l ∙ sym no; seen = λ g. absurd (true≢false (sym g ∙ no)) })
 
   -- in front of all no job stands
   none_x : (js : List Job) → eqb 0 (x_of none js) ≡ true
@@ -154,15 +146,15 @@ module _ (o : Bool) where
   first_rule m l = rw (none_x (take m l))
 
   -- with the sizes and the clock told by b
-  looked : (b : Bool) (m : ℕ) (q : Option Searching) (l : List Job) → opening q ≡ o
-      → check_end (fold scan_on (pick b (Some (sc m none q)) None) l) ≡ b && ((ordered 0 (take m l) && right_by o (take m l)) && all_zeros (drop m l))
-  looked true m q l h = (look l m none q h).right ∙ first_rule m l
-  looked false m q l h = fails l
+  looked : (b : Bool) (m : ℕ) (q : Searching) (l : List Job)
+      → check_end o (fold (scan_on o) (pick b (Some (sc m none q)) None) l) ≡ b && ((ordered 0 (take m l) && right_by o (take m l)) && all_zeros (drop m l))
+  looked true m q l = (look l m none q).right ∙ first_rule m l
+  looked false m q l = fails o l
 
-  seen : (b : Bool) (m : ℕ) (q : Option Searching) (l : List Job) → opening q ≡ o → check_end (fold scan_on (pick b (Some (sc m none q)) None) l) ≡ true
-      → search_in (fold scan_on (pick b (Some (sc m none q)) None) l) ≡ fold searched_on q (take m l)
-  seen true m q l h g = let at = look l m none q h in at.seen (sym at.right ∙ g)
-  seen false m q l h g = absurd (true≢false (sym g ∙ fails l))
+  seen : (b : Bool) (m : ℕ) (q : Searching) (l : List Job) → check_end o (fold (scan_on o) (pick b (Some (sc m none q)) None) l) ≡ true
+      → Seen q (take m l) (fold (scan_on o) (pick b (Some (sc m none q)) None) l)
+  seen true m q l g = let at = look l m none q in at.seen (sym at.right ∙ g)
+  seen false m q l g = absurd (true≢false (sym g ∙ fails o l))
 
 swap_table : (e n o a : Bool) → (e && n) && ((o && true) && a) ≡ e && (n && (o && a))
 swap_table false n o a = refl
@@ -185,14 +177,11 @@ module _ (k : Desk) (l : List Job) where
   n = k.count
 
   -- at an opening: the table's rules
-  pub opening_law : check_end (fold scan_on (opening_of k (length l)) l) ≡ table_ok n l
+  pub opening_law : check_end true (fold (scan_on true) (opening_of k (length l)) l) ≡ table_ok n l
   opening_law =
-      looked true (sizes_ok k (length l)) n None l refl
+      looked true (sizes_ok k (length l)) n searching_none l
       ∙ ap (λ (r : Bool). sizes_ok k (length l) && ((ordered 0 (take n l) && r) && all_zeros (drop n l))) (right_any (take n l))
       ∙ swap_table (eqb (length l) places) (leb n places) (ordered 0 (take n l)) (all_zeros (drop n l))
-
-  pub opening_seen : table_ok n l ≡ true → search_in (fold scan_on (opening_of k (length l)) l) ≡ None
-  opening_seen h = seen true (sizes_ok k (length l)) n None l refl (opening_law ∙ h) ∙ none_searched (take n l)
 
   module _ (t c d : ℕ) where
     abbrev q : Searching
@@ -202,12 +191,12 @@ module _ (k : Desk) (l : List Job) where
     sized = leb k.clock latest && sizes_ok k (length l)
 
     -- at a request: the clock and each x too
-    pub asking_law : check_end (fold scan_on (asking_of k (length l) t c d) l) ≡ desk_ok k.clock n l
+    pub asking_law : check_end false (fold (scan_on false) (asking_of k (length l) t c d) l) ≡ desk_ok k.clock n l
     asking_law =
-        looked false sized n (Some q) l refl
+        looked false sized n q l
         ∙ ap (λ (r : Bool). sized && ((ordered 0 (take n l) && r) && all_zeros (drop n l))) (right_looked (take n l))
         ∙ swap_desk (leb k.clock latest) (eqb (length l) places) (leb n places) (ordered 0 (take n l)) (right_x (take n l)) (all_zeros (drop n l))
 
     -- where the rules are kept, the search has seen the listed jobs
-    pub seen_law : desk_ok k.clock n l ≡ true → search_in (fold scan_on (asking_of k (length l) t c d) l) ≡ Some (fold search_step q (take n l))
-    seen_law h = seen false sized n (Some q) l refl (asking_law ∙ h) ∙ all_searched q (take n l)
+    pub seen_law : desk_ok k.clock n l ≡ true → (s : Scan) → fold (scan_on false) (asking_of k (length l) t c d) l ≡ Some s → s.searching ≡ fold search_step q (take n l)
+    seen_law h = seen false sized n q l (asking_law ∙ h)

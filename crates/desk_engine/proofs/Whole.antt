@@ -14,7 +14,7 @@ use Rattle.rules.specs.declared.Refusal.{Refusal}
 use Rattle.rules.specs.declared.Refusal.TheVariants.{Rules, Numbers, Past, Busy, Full, NoPlace}
 use Rattle.rules.specs.Limits.{places, latest}
 use Rattle.desk.specs.declared.Job.{Job}
-use Rattle.std.specs.Prelude.{Option, Ok, Err}
+use Rattle.std.specs.Prelude.{Option, None, Some, Ok, Err}
 use Rattle.desk.specs.declared.Done.TheVariants.{Opened}
 use Rattle.desk.specs.Table.{job, x_of, filled, flexes, outcome, right_x, table_ok, desk_ok, open_of, ends, Outcome}
 use Rattle.desk.specs.Places.{early, shift}
@@ -39,11 +39,11 @@ use Rattle.desk.specs.declared.Ask.TheVariants.{Open, Request}
 use Rattle.desk_reading.specs.declared.searching.Searching.{Searching}
 use Rattle.desk_reading.specs.declared.scan.Scan.{Scan}
 use Rattle.desk_engine.specs.declared.effect.Effect.{Effect}
-use Rattle.desk_engine.specs.Beginning.{searching_from, opening_of, asking_of, scan_for}
-use Rattle.desk_reading.specs.Reading.{scan_on, scanned, search_in, search_step, search_end, behind_by, explanation_by}
-use Rattle.desk_engine.specs.Deciding.{keep_effect, drop_effect, take_effect, request_effect, effect_by, effect_of, applied}
+use Rattle.desk_engine.specs.Beginning.{opens, searching_from, opening_of, asking_of, scan_for}
+use Rattle.desk_reading.specs.Reading.{scan_on, scanned, check_end, search_step, search_end, behind_by, explanation_by}
+use Rattle.desk_engine.specs.Deciding.{open_effect, keep_effect, drop_effect, take_effect, request_effect, effect_of, applied}
 use Rattle.desk.specs.Call.{call_of, Leaves}
-use Rattle.desk_engine.proofs.Checked.{opening_law, opening_seen, asking_law, seen_law}
+use Rattle.desk_engine.proofs.Checked.{opening_law, asking_law, seen_law}
 use Rattle.desk_engine.proofs.Explained.{explained_is}
 use Rattle.desk_engine.proofs.Searched.{Searched, searched}
 
@@ -74,23 +74,21 @@ behind-shift e (j ∷ js) n = omega (arith, n.0)
 -- AN OPENING
 
 module _ (k : Desk) (l : List Job) where
-  abbrev read_open : Option Scan
-  read_open = fold scan_on (opening_of k (length l)) l
-
   by_table : (v : Bool) → table_ok k.count l ≡ v
-      → Made l (pick v (effect_by k (search_in read_open)) (keep_effect Rules k)) (pick v (outcome (filled (flexes (take k.count l))) k.count 0 (Ok Opened)) (outcome l k.count k.clock (Err Rules)))
+      → Made l (pick v (open_effect k) (keep_effect Rules k)) (pick v (outcome (filled (flexes (take k.count l))) k.count 0 (Ok Opened)) (outcome l k.count k.clock (Err Rules)))
   unfolding applied
-  by_table true h =
-      subst (λ (q : Option Searching). Made l (effect_by k q) (outcome (filled (flexes (take k.count l))) k.count 0 (Ok Opened))) (sym (opening_seen k l h))
-      (refl, refl, open_table k.count l h)
+  by_table true h = (refl, refl, open_table k.count l h)
   by_table false h = keeps_made k l Rules
 
+  by_read : (r : Option Scan) → check_end true r ≡ table_ok k.count l → Made l (effect_of k true r) (open_of k.clock k.count l)
+  unfolding effect_of open_of
+  by_read None h = rw (← h) (keeps_made k l Rules)
+  by_read (Some s) h = rw h (by_table (table_ok k.count l) refl)
+
   -- answer, record and table at exit are those of the desk's opening
-  open_law : Made l (effect_of k (scanned (opening_of k (length l)) l)) (open_of k.clock k.count l)
-  unfolding effect_of open_of scanned
-  open_law =
-      subst (λ (v : Bool). Made l (pick v (effect_by k (search_in read_open)) (keep_effect Rules k)) (open_of k.clock k.count l)) (sym (opening_law k l))
-      (by_table (table_ok k.count l) refl)
+  open_law : Made l (effect_of k true (scanned true (opening_of k (length l)) l)) (open_of k.clock k.count l)
+  unfolding scanned
+  open_law = by_read (fold (scan_on true) (opening_of k (length l)) l) (opening_law k l)
 
 -- A REQUEST
 
@@ -106,9 +104,6 @@ module _ (k : Desk) (l : List Job) (t c d : ℕ) where
 
   abbrev e : Searching
   e = fold search_step (searching_from t c d) js
-
-  abbrev read_asked : Option Scan
-  read_asked = fold scan_on (asking_of k (length l) t c d) l
 
   -- what is left where refusals 13 to 15 don't hold
   abbrev left : Bool → Outcome
@@ -227,18 +222,23 @@ module _ (k : Desk) (l : List Job) (t c d : ℕ) where
   asked v = pick (not v) (outcome l n k.clock (Err Rules))
       (pick (not (numbers_ok t c d)) (outcome l n k.clock (Err Numbers)) (pick (ltb t k.clock) (outcome l n k.clock (Err Past)) (left (busy t ks))))
 
-  by_rules : (v : Bool) → desk_ok k.clock n l ≡ v → Made l (pick v (effect_by k (search_in read_asked)) (keep_effect Rules k)) (asked v)
-  by_rules false h = keeps_made k l Rules
-  by_rules true h = subst (λ (q : Option Searching). Made l (effect_by k q) (asked true)) (sym (seen_law k l t c d h)) (request_made h)
+  by_seen : (v : Bool) (s : Scan) → desk_ok k.clock n l ≡ v → (desk_ok k.clock n l ≡ true → s.searching ≡ e)
+      → Made l (pick v (request_effect k s.searching) (keep_effect Rules k)) (asked v)
+  by_seen false s h f = keeps_made k l Rules
+  by_seen true s h f = subst (λ (q : Searching). Made l (request_effect k q) (asked true)) (sym (f h)) (request_made h)
+
+  by_asked : (r : Option Scan) → check_end false r ≡ desk_ok k.clock n l → (desk_ok k.clock n l ≡ true → (s : Scan) → r ≡ Some s → s.searching ≡ e)
+      → Made l (effect_of k false r) (request_of k.clock n l t c d)
+  unfolding effect_of request_of
+  by_asked None h f = rw (← h) (keeps_made k l Rules)
+  by_asked (Some s) h f = rw h (by_seen (desk_ok k.clock n l) s refl (λ g. f g s refl))
 
   -- answer, record and table at exit are those of the desk's request
-  request_law : Made l (effect_of k (scanned (asking_of k (length l) t c d) l)) (request_of k.clock n l t c d)
-  unfolding effect_of request_of scanned
-  request_law =
-      subst (λ (v : Bool). Made l (pick v (effect_by k (search_in read_asked)) (keep_effect Rules k)) (request_of k.clock n l t c d)) (sym (asking_law k l t c d))
-      (by_rules (desk_ok k.clock n l) refl)
+  request_law : Made l (effect_of k false (scanned false (asking_of k (length l) t c d) l)) (request_of k.clock n l t c d)
+  unfolding scanned
+  request_law = by_asked (fold (scan_on false) (asking_of k (length l) t c d) l) (asking_law k l t c d) (seen_law k l t c d)
 
 -- what a call leaves
-pub call_law : (k : Desk) (l : List Job) (ask : Ask) → Made l (effect_of k (scanned (scan_for k (length l) ask) l)) (call_of k.clock k.count l ask)
+pub call_law : (k : Desk) (l : List Job) (ask : Ask) → Made l (effect_of k (opens ask) (scanned (opens ask) (scan_for k (length l) ask) l)) (call_of k.clock k.count l ask)
 call_law k l Open = open_law k l
 call_law k l (Request q) = request_law k l q.time q.budget q.deadline

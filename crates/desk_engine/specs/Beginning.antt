@@ -1,11 +1,12 @@
 -- Words that only inner contracts use: no statement and no entry's contract cites them. Assumes nothing.
 -- What the reading pass begins with.
-use Rattle.std.specs.Prelude.{ℕ, Bool, false, ◌&&◌, leb, eqb, Option, None, Some}
+use Rattle.std.specs.Prelude.{ℕ, Bool, true, false, ◌&&◌, leb, eqb, Option, None, Some}
 use Rattle.rules.specs.Walk.{pick}
 use Rattle.rules.specs.Limits.{places, latest}
 use Rattle.desk.specs.declared.Desk.{Desk}
 use Rattle.desk.specs.declared.Ask.{Ask}
 use Rattle.desk.specs.declared.Ask.TheVariants.{Open, Request}
+use Rattle.desk_records.specs.Sums.{most32}
 use Rattle.desk_reading.specs.Best.{no_best}
 use Rattle.desk_reading.specs.declared.checking.Checking.{Checking}
 use Rattle.desk_reading.specs.declared.searching.Searching.{Searching}
@@ -18,7 +19,7 @@ abbrev pub sizes_ok : Desk → ℕ → Bool
 sizes_ok k n = eqb n places && leb k.count places
 
 -- in front of all jobs
-abbrev pub scan_from : Desk → Option Searching → Scan
+abbrev pub scan_from : Desk → Searching → Scan
 scan_from k searching = record { left = k.count; checking = record { end = 0; own = 0; flex = 0 }; searching = searching }
 
 abbrev pub searching_from : ℕ → ℕ → ℕ → Searching
@@ -34,14 +35,33 @@ searching_from t c d = record {
   best = no_best;
 }
 
+-- at an opening the search has ended before it began
+abbrev pub searching_none : Searching
+searching_none = record {
+  time = 0;
+  budget = 0;
+  deadline = 0;
+  gone = 0;
+  busy = false;
+  place = 0;
+  start = 0;
+  closed = Some (record { found = false; behind = most32 });
+  best = no_best;
+}
+
 -- "Opening takes any x of a listed job and any clock"
 abbrev pub opening_of : Desk → ℕ → Option Scan
-opening_of k n = pick (sizes_ok k n) (Some (scan_from k None)) None
+opening_of k n = pick (sizes_ok k n) (Some (scan_from k searching_none)) None
 
 -- "A request at time t has budget C and deadline d."
 abbrev pub asking_of : Desk → ℕ → ℕ → ℕ → ℕ → Option Scan
 asking_of k n t c d =
-    pick (leb k.clock latest && sizes_ok k n) (Some (scan_from k (Some (searching_from t c d)))) None
+    pick (leb k.clock latest && sizes_ok k n) (Some (scan_from k (searching_from t c d))) None
+
+-- whether a call opens
+abbrev pub opens : Ask → Bool
+opens Open = true
+opens (Request q) = false
 
 abbrev pub scan_for : Desk → ℕ → Ask → Option Scan
 scan_for k n Open = opening_of k n

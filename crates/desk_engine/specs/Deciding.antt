@@ -1,6 +1,6 @@
 -- Words that only inner contracts use: no statement and no entry's contract cites them. Assumes nothing.
 -- What is decided at the end of the reading pass, and what the writing passes then make of the table; laws tie it to the desk's rules.
-use Rattle.std.specs.Prelude.{ℕ, ◌-◌, List, leb, ltb, Option, None, Some, Ok, Err}
+use Rattle.std.specs.Prelude.{ℕ, ◌-◌, Bool, List, leb, ltb, Option, None, Some, Ok, Err}
 use Rattle.rules.specs.Walk.{pick}
 use Rattle.rules.specs.declared.Refusal.{Refusal}
 use Rattle.rules.specs.declared.Refusal.TheVariants.{Rules, Numbers, Past, Busy, Full, NoPlace}
@@ -16,7 +16,7 @@ use Rattle.desk_writing.specs.Writing.{shift_from, shifted_by, fit_from, fitted_
 use Rattle.desk_reading.specs.declared.scan.Scan.{Scan}
 use Rattle.desk_engine.specs.declared.effect.Effect.{Effect}
 use Rattle.desk_reading.specs.declared.searching.Searching.{Searching}
-use Rattle.desk_reading.specs.Reading.{check_end, search_in, new_job, search_end, behind_by, explanation_by}
+use Rattle.desk_reading.specs.Reading.{right_end, new_job, search_end, behind_by, explanation_by}
 
 -- the jobs left: those listed, without those dropped
 abbrev pub rest_of : Desk → Searching → ℕ
@@ -70,14 +70,13 @@ request_effect k q =
     (pick (search_end q) (take_effect k q) (drop_effect (NoPlace (explanation_by q)) k q)))))
     (keep_effect Numbers k)
 
--- an opening searches nothing
-abbrev pub effect_by : Desk → Option Searching → Effect
-effect_by k None = open_effect k
-effect_by k (Some q) = request_effect k q
+abbrev pub effect_by : Desk → Bool → Searching → Effect
+effect_by k opening q = pick opening (open_effect k) (request_effect k q)
 
 -- 13 first
-unfoldable pub effect_of : Desk → Option Scan → Effect
-effect_of k s = pick (check_end s) (effect_by k (search_in s)) (keep_effect Rules k)
+unfoldable pub effect_of : Desk → Bool → Option Scan → Effect
+effect_of k opening None = keep_effect Rules k
+effect_of k opening (Some s) = pick (right_end opening s) (effect_by k opening s.searching) (keep_effect Rules k)
 
 -- the three writing passes
 unfoldable pub applied : Effect → List Job → List Job

@@ -1,15 +1,22 @@
 // What the reading pass begins with; none where the sizes or the clock break the rules.
 ghost use Rattle.std.specs.Prelude.{◌≡◌, ◌&&◌, leb};
 ghost use Rattle.rules.specs.Limits.{latest};
-ghost use Rattle.desk_engine.specs.Beginning.{sizes_ok, scan_from, searching_from, scan_for};
+ghost use Rattle.desk_engine.specs.Beginning.{opens, sizes_ok, scan_from, searching_none, searching_from, scan_for};
 
 use desk::{Ask, Asked, Desk};
 use desk_reading::best::no_best;
 use desk_reading::checking::Checking;
 use desk_reading::scan::Scan;
-use desk_reading::searching::Searching;
-use desk_records::numbers::ALL_PLACES;
+use desk_reading::searching::{Closed, Searching};
+use desk_records::numbers::{ALL_PLACES, FAR};
 use rules::limits::{LATEST, PLACES};
+
+// Whether a call opens.
+pub fn opens(ask: Ask) -> bool
+    ensures { result ≡ opens ask }
+{
+    matches!(ask, Ask::Open)
+}
 
 // As many places as there must be, and a count of at most so many.
 pub fn sizes_ok(k: Desk, n: usize) -> bool
@@ -26,7 +33,7 @@ pub fn clock_ok(k: Desk, n: usize) -> bool
 }
 
 // In front of all jobs.
-fn scan_from(k: Desk, searching: Option<Searching>) -> Scan
+fn scan_from(k: Desk, searching: Searching) -> Scan
     ensures { result ≡ scan_from k searching }
 {
     Scan {
@@ -56,6 +63,23 @@ fn searching_from(q: Asked) -> Searching
     }
 }
 
+// At an opening: the search has ended before it began.
+fn searching_none() -> Searching
+    ensures { result ≡ searching_none }
+{
+    Searching {
+        closed: Some(Closed {
+            found: false,
+            behind: FAR,
+        }),
+        ..searching_from(Asked {
+            time: 0,
+            budget: 0,
+            deadline: 0,
+        })
+    }
+}
+
 // What the pass begins with.
 pub fn scan_for(k: Desk, n: usize, ask: Ask) -> Option<Scan>
     ensures { result ≡ scan_for k n ask }
@@ -63,13 +87,13 @@ pub fn scan_for(k: Desk, n: usize, ask: Ask) -> Option<Scan>
     match ask {
         Ask::Open => {
             if sizes_ok(k, n) {
-                return Some(scan_from(k, None));
+                return Some(scan_from(k, searching_none()));
             }
             None
         }
         Ask::Request(q) => {
             if clock_ok(k, n) {
-                return Some(scan_from(k, Some(searching_from(q))));
+                return Some(scan_from(k, searching_from(q)));
             }
             None
         }

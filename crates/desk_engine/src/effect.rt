@@ -130,23 +130,23 @@ fn request_effect(k: Desk, q: Searching) -> Effect
 }
 
 // Of any call on such a table.
-fn effect_by(k: Desk, searched: Option<Searching>) -> Effect
-    ensures { result ≡ effect_by k searched }
+fn effect_by(k: Desk, opening: bool, q: Searching) -> Effect
+    ensures { result ≡ effect_by k opening q }
 {
-    match searched {
-        Some(q) => request_effect(k, q),
-        None => open_effect(k),
+    if opening {
+        return open_effect(k);
     }
+    request_effect(k, q)
 }
 
 // What is decided, and so done.
 #[tactic(auto, unfolding(crate::specs::Deciding::effect_of))]
-pub fn effect_of(k: Desk, read: Option<Scan>) -> Effect
-    ensures { result ≡ effect_of k read }
+pub fn effect_of(k: Desk, opening: bool, read: Option<Scan>) -> Effect
+    ensures { result ≡ effect_of k opening read }
 {
     if let Some(s) = read {
-        if right_end(s) {
-            return effect_by(k, s.searching);
+        if right_end(opening, s) {
+            return effect_by(k, opening, s.searching);
         }
     }
     keep_effect(Refusal::Rules, k)

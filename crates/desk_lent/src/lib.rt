@@ -8,7 +8,7 @@ ghost use Rattle.desk_reading.specs.Reading.{scanned};
 ghost use Rattle.desk_engine.specs.Deciding.{effect_of, applied};
 
 use desk::{Ask, Desk, Done, Job};
-use desk_engine::begin::scan_for;
+use desk_engine::begin::{opens, scan_for};
 use desk_engine::effect::{Effect, effect_of};
 use desk_reading::scan::Scan;
 use desk_walks::{drop_pass, fit_pass, scan_pass, shift_pass};
@@ -29,11 +29,11 @@ fn apply(jobs: &mut [Job], p: Effect)
 }
 
 // One reading pass, what is decided by it, and the writing passes.
-fn serve(jobs: &mut [Job], k: Desk, s: Option<Scan>) -> Effect
-    ensures { (result ≡ effect_of k (scanned s jobs.old))
+fn serve(jobs: &mut [Job], k: Desk, opening: bool, s: Option<Scan>) -> Effect
+    ensures { (result ≡ effect_of k opening (scanned opening s jobs.old))
         × (jobs.new ≡ applied result jobs.old) }
 {
-    let done = effect_of(k, scan_pass(&*jobs, s));
+    let done = effect_of(k, opening, scan_pass(&*jobs, opening, s));
     apply(jobs, done);
     done
 }
@@ -45,7 +45,7 @@ pub fn call(desk: &mut Desk, jobs: &mut [Job], ask: Ask) -> Result<Done, Refusal
         result desk.new jobs.new }
 {
     let s = scan_for(*desk, jobs.len(), ask);
-    let done = serve(jobs, *desk, s);
+    let done = serve(jobs, *desk, opens(ask), s);
     *desk = done.desk;
     done.answer
 }

@@ -135,43 +135,29 @@ explanation_by s =
 
 -- ---- the whole pass
 
--- an opening searches nothing
-abbrev pub opening : Option Searching → Bool
-opening None = true
-opening (Some b) = false
-
-abbrev pub searched_on : Option Searching → Job → Option Searching
-searched_on None j = None
-searched_on (Some b) j = Some (search_step b j)
-
 -- a listed job is checked and searched at once; none where a rule is broken
-abbrev pub listed_step : Scan → Job → Option Scan
-listed_step s j =
-    pick (follows (opening s.searching) s.checking j)
-    (Some (record { left = s.left - 1; checking = behind j; searching = searched_on s.searching j }))
+abbrev pub listed_step : Bool → Scan → Job → Option Scan
+listed_step opening s j =
+    pick (follows opening s.checking j)
+    (Some (record { left = s.left - 1; checking = behind j; searching = search_step s.searching j }))
     None
 
 -- a place past the count is held against zeros
-abbrev pub scan_step : Scan → Job → Option Scan
-scan_step s j = pick (ltb 0 s.left) (listed_step s j) (pick (zeros j) (Some s) None)
-
--- after the last place
-abbrev pub right_end : Scan → Bool
-right_end s = last_ok (opening s.searching) s.checking
+abbrev pub scan_step : Bool → Scan → Job → Option Scan
+scan_step opening s j = pick (ltb 0 s.left) (listed_step opening s j) (pick (zeros j) (Some s) None)
 
 -- a broken rule stays broken
-abbrev pub scan_on : Option Scan → Job → Option Scan
-scan_on None j = None
-scan_on (Some s) j = scan_step s j
+abbrev pub scan_on : Bool → Option Scan → Job → Option Scan
+scan_on opening None j = None
+scan_on opening (Some s) j = scan_step opening s j
 
-abbrev pub check_end : Option Scan → Bool
-check_end None = false
-check_end (Some s) = right_end s
+-- after the last place
+abbrev pub right_end : Bool → Scan → Bool
+right_end opening s = last_ok opening s.checking
 
--- what was searched
-abbrev pub search_in : Option Scan → Option Searching
-search_in None = None
-search_in (Some s) = s.searching
+abbrev pub check_end : Bool → Option Scan → Bool
+check_end opening None = false
+check_end opening (Some s) = right_end opening s
 
-unfoldable pub scanned : Option Scan → List Job → Option Scan
-scanned s l = fold scan_on s l
+unfoldable pub scanned : Bool → Option Scan → List Job → Option Scan
+scanned opening s l = fold (scan_on opening) s l

@@ -7,35 +7,35 @@ use crate::searching::{Searching, search_step};
 use desk::Job;
 use desk_records::records::no_job;
 
-// Listed jobs still to come, the check, and a request's search: an opening searches nothing.
+// Listed jobs still to come, the check, and the search, which is of no account at an opening.
 #[derive(Clone, Copy)]
 pub struct Scan {
     pub left: u32,
     pub checking: Checking,
-    pub searching: Option<Searching>,
+    pub searching: Searching,
 }
 
 // One more listed job.
-fn listed_step(s: Scan, j: Job) -> Option<Scan>
+fn listed_step(opening: bool, s: Scan, j: Job) -> Option<Scan>
     requires { 0 < s.left }
-    ensures { result ≡ listed_step s j }
+    ensures { result ≡ listed_step opening s j }
 {
-    if follows_on(s.searching.is_none(), s.checking, j) {
+    if follows_on(opening, s.checking, j) {
         return Some(Scan {
             left: s.left - 1,
             checking: behind_it(j),
-            searching: s.searching.map(|b| search_step(b, j)),
+            searching: search_step(s.searching, j),
         });
     }
     None
 }
 
 // One more place; none where a rule is broken.
-pub fn scan_step(s: Scan, j: Job) -> Option<Scan>
-    ensures { result ≡ scan_step s j }
+pub fn scan_step(opening: bool, s: Scan, j: Job) -> Option<Scan>
+    ensures { result ≡ scan_step opening s j }
 {
     if 0 < s.left {
-        return listed_step(s, j);
+        return listed_step(opening, s, j);
     }
     if j == no_job() {
         return Some(s);
@@ -44,8 +44,8 @@ pub fn scan_step(s: Scan, j: Job) -> Option<Scan>
 }
 
 // Whether the table keeps the rules, after its last place.
-pub fn right_end(s: Scan) -> bool
-    ensures { result ≡ right_end s }
+pub fn right_end(opening: bool, s: Scan) -> bool
+    ensures { result ≡ right_end opening s }
 {
-    last_ok(s.searching.is_none(), s.checking)
+    last_ok(opening, s.checking)
 }

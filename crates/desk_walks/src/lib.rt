@@ -13,12 +13,12 @@ use desk_writing::fit::{Fit, fit_out, fit_step};
 use desk_writing::shift::{Shift, shift_out, shift_step};
 
 // The whole table, read once from the front.
-pub fn scan_pass(jobs: &[Job], s: Option<Scan>) -> Option<Scan>
-    ensures { result ≡ scanned s jobs.now }
+pub fn scan_pass(jobs: &[Job], opening: bool, s: Option<Scan>) -> Option<Scan>
+    ensures { result ≡ scanned opening s jobs.now }
 {
     let mut st = s?;
     for j in jobs {
-        st = scan_step(st, *j)?;
+        st = scan_step(opening, st, *j)?;
     }
     Some(st)
 }

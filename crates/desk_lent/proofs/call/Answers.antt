@@ -11,6 +11,6 @@ use Rattle.desk_lent.proofs.call.Goals as goal
 -- what the one reading pass decides is what the call leaves
 pub returns : goal.returns
 returns c =
-    let e = c.serve-done.ensures.0 ∙ ap (λ (v : Option Scan). effect_of c.args.desk.now (scanned v c.args.jobs.now)) c.scan_for-s.ensures in
+    let e = c.serve-done.ensures.0 ∙ rw (c.opens.ensures, c.scan_for-s.ensures) in
     let w = subst (λ (p : Effect). Made c.args.jobs.now p (call_of c.args.desk.now.clock c.args.desk.now.count c.args.jobs.now c.args.ask)) (sym e) (call_law c.args.desk.now c.args.jobs.now c.args.ask) in
     (w.0, w.1, c.serve-done.ensures.1 ∙ w.2)
