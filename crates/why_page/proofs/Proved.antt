@@ -20,7 +20,8 @@ use Rattle.theory.specs.Load.{demand, shortage}
 use Rattle.theory.specs.Task.{task_load}
 use Rattle.task_verdict.proofs.Engines as verdicts
 use Rattle.task_page.specs.declared.Paged.{Paged}
-use Rattle.task_page.specs.declared.Paged.TheVariants.{Refused}
+use Rattle.std.specs.Prelude.{Result, Ok, Err}
+use Rattle.rules.specs.declared.Refusal.{Refusal}
 use Rattle.task_page.proofs.Proved as pages
 use Rattle.task_page.specs.Page.{rows_of, points_of, tightest_of, fail_of, page_of}
 use Rattle.output.specs.Text.{bytes}

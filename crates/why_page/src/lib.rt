@@ -1,7 +1,7 @@
 // The page of a task of a plan file, as text: at the start of an output, as far as there is room.
 #![tactic(auto)]
 
-ghost use Rattle.std.specs.Prelude.{◌≡◌, ◌+◌, ◌-◌, ◌*◌, ◌^◌, ◌≤◌, ◌<◌, length};
+ghost use Rattle.std.specs.Prelude.{◌≡◌, ◌+◌, ◌-◌, ◌*◌, ◌^◌, ◌≤◌, ◌<◌, length, Ok};
 ghost use Rattle.rules.specs.Limits.{longest, longest_line, longest_why};
 ghost use Rattle.rules.specs.Walk.{gathered};
 ghost use Rattle.output.specs.Put.{Put};
@@ -11,12 +11,11 @@ ghost use Rattle.why_page.specs.Why.{line_of, spare_of, short_of, pass_text, fai
 ghost use Rattle.why_page.specs.Inner.{InReach, Sized, Rowed, PagedSo};
 
 use file_read::load::load_file;
+use rules::Rule;
 use rules::limits::{
     LONGEST, PART_NUMBERS, PART_WIDTH, ROW_WIDTH, RUN_NUMBERS, RUN_WIDTH, TASK_NUMBERS, TASK_WIDTH,
 };
-use rules::{Refusal, Rule};
 use share_words::numbers::numeral;
-use task_demand::TICKS;
 use task_page::Paged;
 
 // A page's numbers, at most: a row for each tick up to the longest deadline.
@@ -60,11 +59,9 @@ fn size_at(rule: Rule, plan: &[u16], table: &[u16], i: usize, t: usize) -> Size
     requires { InReach plan.now table.now i t }
     ensures { Sized rule plan.now table.now i t result.needs result.has }
 {
-    let mut curve = [0u32; TICKS];
-    let mut asks = [0u32; TICKS];
-    task_demand::draw_task(rule, plan, table, i, &mut curve, &mut asks);
-    let needs = usize::from(rules::records::budget(table, i)) + asks[t] as usize;
-    let has = curve[t] as usize;
+    let lists = task_demand::draw_task(rule, plan, table, i);
+    let needs = usize::from(rules::records::budget(table, i)) + lists.asks[t] as usize;
+    let has = lists.curve[t] as usize;
     Size { needs, has }
 }
 
@@ -150,7 +147,7 @@ fn put_failing(
     put_short(rule, plan, table, i, tightest, out, c)
 }
 
-// What the page answered, as text; a fail left its rows.
+// What the page says of the task, as text; a fail left its rows.
 fn put_paged(
     edition: usize,
     plan: &[u16],
@@ -158,25 +155,22 @@ fn put_paged(
     table: &[u16],
     place: usize,
     rows: &[u32],
-    paged: Result<Paged, Refusal>,
+    paged: Paged,
     out: &mut [u8],
 ) -> usize
-    requires { PagedSo edition plan.now parts.now table.now place rows.now paged }
+    requires { PagedSo edition plan.now parts.now table.now place rows.now (Ok paged) }
     ensures { Put out.old 0
         (tables_text edition plan.now parts.now table.now place) result out.new
         × (result ≤ longest_why) }
 {
     let rule = rules::rule_of(edition);
     match paged {
-        Err(r) => output::put_refusal(out, r),
-        Ok(Paged::Pass(point)) => put_passing(rule, plan, table, place, point, out),
-        Ok(
-            Paged::Fail {
-                rows: n,
-                tightest,
-                ..
-            },
-        ) => put_failing(rule, plan, table, place, rows, n, tightest, out),
+        Paged::Pass(point) => put_passing(rule, plan, table, place, point, out),
+        Paged::Fail {
+            rows: n,
+            tightest,
+            shortage: _,
+        } => put_failing(rule, plan, table, place, rows, n, tightest, out),
     }
 }
 
@@ -195,8 +189,10 @@ fn put_page(
 {
     let mut rows = [0u32; MOST_NUMBERS];
     let terms = rules::filed(edition);
-    let paged = task_page::page(terms, plan, parts, table, place, &mut rows);
-    put_paged(edition, plan, parts, table, place, &rows, paged, out)
+    match task_page::page(terms, plan, parts, table, place, &mut rows) {
+        Ok(paged) => put_paged(edition, plan, parts, table, place, &rows, paged, out),
+        Err(r) => output::put_refusal(out, r),
+    }
 }
 
 // The tables of an accepted file: its runs as ticks.
