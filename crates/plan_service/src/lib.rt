@@ -141,9 +141,10 @@ fn next_stretch(rule: Rule, plan: &[u16], p: usize, s: usize, stretch: Stretch) 
 {
     let enters = stretch.enters;
     let next = rules::numbers::after(enters, plan.len());
-    let more = stretch.held + usize::from(serves_at(rule, plan, p, enters));
+    let more = usize::from(serves_at(rule, plan, p, enters));
+    let less = usize::from(serves_at(rule, plan, p, s));
     Stretch {
-        held: more - usize::from(serves_at(rule, plan, p, s)),
+        held: stretch.held + more - less,
         enters: next,
         ..stretch
     }
