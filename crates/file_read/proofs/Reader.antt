@@ -21,7 +21,7 @@ use Rattle.file_codec.specs.Bytes.{nums_of, part}
 use Rattle.file_tables.specs.Inner.{runs_counted}
 use Rattle.file_codec.specs.Inner.{over}
 use Rattle.file_codec.specs.Contents.{tasks_at, runs_at, size_of}
-use Rattle.file_codec.proofs.Bytes.{nums_of-length, nums_of-take}
+use Rattle.file_codec.proofs.Bytes.{nums_of_length, nums_of-take}
 use Rattle.file_tables.proofs.Chain.{GoodFile, counted-runs, of_good, follows}
 use Rattle.file_read.specs.declared.Contents.{Contents}
 use Rattle.file_read.specs.declared.Body.{Body}
@@ -155,7 +155,7 @@ part_length b a e h l = length-take-le (e - a) (drop a b) (rw (length-drop a b) 
 
 -- how many numbers a part of 2·n bytes holds
 part_nums : (b : List ℕ) (a n e : ℕ) → e ≡ a + 2 * n → e ≤ length b → length (nums_of (part b a e)) ≡ n
-part_nums b a n e q l = let m : length (part b a e) ≡ e - a = part_length b a e (omega arith) l in omega (arith, nums_of-length (part b a e))
+part_nums b a n e q l = let m : length (part b a e) ≡ e - a = part_length b a e (omega arith) l in omega (arith, nums_of_length (part b a e))
 
 module _ (b : List ℕ) (c : Contents) (long : length b ≡ size_of (part_width * c.partitions) (task_width * c.tasks) (run_width * c.runs)) where
   pub parts_are : length (table_by (Ok c) b Partitions) ≡ part_width * c.partitions
@@ -172,7 +172,7 @@ module _ (b : List ℕ) (c : Contents) (long : length b ≡ size_of (part_width 
 
 -- a body loaded
 loaded : (body t o : List ℕ) → o ≡ over (nums_of body) (min (length t) (length body / number_bytes)) t → o ≡ front (nums_of body) t
-loaded body t o e = rw (nums_of-length body) e
+loaded body t o e = rw (nums_of_length body) e
 
 pub loaded_body : (b : List ℕ) (c : Contents) (which : Body) (s : Range ℕ) (t o : List ℕ) → s ≡ body_of c which
     → o ≡ over (nums_of (part b s.start s.end)) (min (length t) (length (part b s.start s.end) / number_bytes)) t

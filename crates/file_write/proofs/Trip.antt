@@ -10,7 +10,7 @@ use Rattle.rules.specs.Table.{partitions, tasks}
 use Rattle.file_codec.specs.Bytes.{nums_of, bytes_of, part, Bytes}
 use Rattle.file_tables.specs.Runs.{runs}
 use Rattle.file_codec.specs.Contents.{tasks_at, runs_at, size_of, contents}
-use Rattle.file_codec.proofs.Bytes.{nums_of-length, nums_of-take, bytes_of-length, bytes_of-append, nums_bytes, bytes_nums}
+use Rattle.file_codec.proofs.Bytes.{nums_of_length, nums_of-take, bytes_of-length, bytes_of-append, nums_bytes, bytes_nums}
 use Rattle.file_tables.proofs.Chain.{GoodFile, of_good, sizes}
 use Rattle.file_read.specs.declared.Contents.{Contents}
 use Rattle.file_read.specs.declared.Body.TheVariants.{Partitions, Tasks, Runs}
@@ -153,7 +153,7 @@ head_numbers : (b : List ℕ) (c : Contents) → Contained b c → nums_of (take
 head_numbers b c a =
     let l : 16 ≤ length b = omega (arith, a.long) in
     let n : length (take 16 b) ≡ 16 = length-take-le 16 b l in
-    let m : length (nums_of (take 16 b)) ≡ 8 = omega (arith, nums_of-length (take 16 b)) in
+    let m : length (nums_of (take 16 b)) ≡ 8 = omega (arith, nums_of_length (take 16 b)) in
     let w : (k : ℕ) → k < 8 → get_or (nums_of (take 16 b)) k 0 ≡ head_number b k = λ k h. nums_of-take b 16 k l (omega arith) in
     let qp : c.partitions ≡ 3 * c.partitions / 3 = omega arith in
     let qt : c.tasks ≡ 4 * c.tasks / 4 = omega arith in
