@@ -53,8 +53,8 @@ fn plan_all<R: Read, W: Write, E: Write>(
 // The edition that the program was started with; 0, which is no edition, where it was started with none that is one.
 fn edition_given(rt: &HostRuntime) -> usize {
     let mut word = [0u8; WORD];
-    let n = streams::word(rt, 1, &mut word);
-    share_plan::edition_asked(streams::word_count(rt), &word[..n]).unwrap_or(0)
+    let word = streams::word(rt, 1, &mut word).unwrap_or(&[]);
+    share_plan::edition_asked(streams::word_count(rt), word).unwrap_or(0)
 }
 
 fn main(rt: HostRuntime) {

@@ -1,6 +1,7 @@
 // The numbers of each kind: gathered, counted, and held to the lent tables' room.
-ghost use Rattle.std.specs.Prelude.{◌≡◌, [], ◌∷◌, ◌+◌, ◌≤◌, ◌<◌, ◌^◌, length};
+ghost use Rattle.std.specs.Prelude.{◌≡◌, ◌+◌, ◌≤◌, ◌<◌, ◌^◌, length};
 ghost use Rattle.std.proofs.lemmas.List.Edits.{sets};
+ghost use Rattle.rules.specs.Limits.{task_width};
 ghost use Rattle.output.specs.Put.{Put};
 ghost use Rattle.share_text.specs.Table.{part_in, task_in, records_of, longest_text, numbers_of, sized_of, read_text_of};
 
@@ -10,21 +11,15 @@ use output::put_one;
 use rules::Refusal;
 use share_line::Row;
 
-fn put_three(out: &mut [u16], at: usize, x: u16, y: u16, z: u16) -> usize
-    requires { at < 2 ^ 40 }
-    ensures { Put out.old at (x ∷ y ∷ z ∷ []) result out.new × (result ≡ at + 3) }
+// A record's numbers; the answer is the place behind them.
+fn put_record(out: &mut [u16], at: usize, xs: &[u16]) -> usize
+    requires { (at < 2 ^ 40) × (length xs.now ≤ task_width) }
+    ensures { Put out.old at xs.now result out.new × (result ≡ at + length xs.now) }
 {
-    let a = put_one(out, at, x);
-    let b = put_one(out, a, y);
-    put_one(out, b, z)
-}
-
-fn put_four(out: &mut [u16], at: usize, x: u16, y: u16, z: u16, w: u16) -> usize
-    requires { at < 2 ^ 40 }
-    ensures { Put out.old at (x ∷ y ∷ z ∷ w ∷ []) result out.new × (result ≡ at + 4) }
-{
-    let a = put_three(out, at, x, y, z);
-    put_one(out, a, w)
+    for (k, x) in xs.iter().enumerate() {
+        put_one(out, at + k, *x);
+    }
+    at + xs.len()
 }
 
 // The granule that a line gives, or 1, and how many numbers the partitions and the tasks have: these are put into their tables, as
@@ -44,7 +39,7 @@ pub fn gather(text: &[u8], parts: &mut [u16], tasks: &mut [u16]) -> Numbers
         at = next_line(text, at);
         match row {
             Ok(Row::Granule(g)) => granule = granule.or(Some(g)),
-            Ok(Row::Partition { cycle, num, den }) => p = put_three(parts, p, cycle, num, den),
+            Ok(Row::Partition { cycle, num, den }) => p = put_record(parts, p, &[cycle, num, den]),
             Ok(
                 Row::Task {
                     partition,
@@ -52,7 +47,7 @@ pub fn gather(text: &[u8], parts: &mut [u16], tasks: &mut [u16]) -> Numbers
                     deadline,
                     period,
                 },
-            ) => q = put_four(tasks, q, partition, budget, deadline, period),
+            ) => q = put_record(tasks, q, &[partition, budget, deadline, period]),
             Ok(Row::Nothing) => {}
             Err(_) => {}
         }

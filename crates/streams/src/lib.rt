@@ -14,7 +14,8 @@ pub fn zeros<const N: usize>() -> [u8; N]
     [0; N]
 }
 
-// What was read: how many bytes, and whether that ended with a read that failed.
+// What was read: how many bytes, and whether that ended with a read that failed. A Result would leave out one of the two, and both are
+// wanted: what came in is planned or listed even where a read failed behind it.
 #[derive(Clone, Copy)]
 pub struct Taken {
     pub count: usize,
@@ -66,18 +67,15 @@ pub fn write_or_say<W: Write, E: Write>(output: &mut W, said: &mut E, answer: &[
 
 // How many words the program was started with, its own name among them.
 pub fn word_count(rt: &HostRuntime) -> usize {
-    for i in 0..usize::MAX {
-        if matches!(rt.arg(i, &mut []), Err(FillError::NotPresent)) {
-            return i;
-        }
-    }
-    usize::MAX
+    (0..usize::MAX)
+        .find(|&i| matches!(rt.arg(i, &mut []), Err(FillError::NotPresent)))
+        .unwrap_or(usize::MAX)
 }
 
-// Word i, its own name being word 0, at the start of `buf`. The answer is its length: 0 where there is no such word, and where
-// it is longer than `buf`.
-pub fn word(rt: &HostRuntime, i: usize, buf: &mut [u8]) -> usize
-    ensures { result ≤ length buf.new }
+// Word i, its own name being word 0, read into `buf`; none where there is no such word, or where it is longer than `buf`.
+pub fn word<'a>(rt: &HostRuntime, i: usize, buf: &'a mut [u8]) -> Option<&'a [u8]>
+    ensures { IfSome result (λ w. length w.now ≤ length buf.old) }
 {
-    rt.arg(i, buf).unwrap_or(0)
+    let n = rt.arg(i, buf).ok()?;
+    Some(&buf[..n])
 }

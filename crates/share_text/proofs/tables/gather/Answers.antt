@@ -17,13 +17,13 @@ pub loop-at-preserved-in-Ok-Partition : goal.loop-at-preserved-in-Ok-Partition
 loop-at-preserved-in-Ok-Partition c =
     let i = c.loop-at.invariant.3 in
     let e : c.row_at-row.result ≡ Ok (Partition c.in-Ok-Partition.cycle c.in-Ok-Partition.num c.in-Ok-Partition.den) = search rules in
-    (search rules, search rules, search rules, (i.0 + 1, reached-next _ i.1 c.next_line-at.ensures.0 c.next_line-at.ensures.2, gathered-turn i.2 (sym e ∙ reached-row i.1 c.row_at-row.ensures) (option_or_none _) c.put_three-p.ensures.0 (put_none _ _)))
+    (search rules, search rules, search rules, (i.0 + 1, reached-next _ i.1 c.next_line-at.ensures.0 c.next_line-at.ensures.2, gathered-turn i.2 (sym e ∙ reached-row i.1 c.row_at-row.ensures) (option_or_none _) c.put_record-p.ensures.0 (put_none _ _)))
 
 pub loop-at-preserved-in-Ok-Task : goal.loop-at-preserved-in-Ok-Task
 loop-at-preserved-in-Ok-Task c =
     let i = c.loop-at.invariant.3 in
     let e : c.row_at-row.result ≡ Ok (Task c.in-Ok-Task.partition c.in-Ok-Task.budget c.in-Ok-Task.deadline c.in-Ok-Task.period) = search rules in
-    (search rules, search rules, search rules, (i.0 + 1, reached-next _ i.1 c.next_line-at.ensures.0 c.next_line-at.ensures.2, gathered-turn i.2 (sym e ∙ reached-row i.1 c.row_at-row.ensures) (option_or_none _) (put_none _ _) c.put_four-q.ensures.0))
+    (search rules, search rules, search rules, (i.0 + 1, reached-next _ i.1 c.next_line-at.ensures.0 c.next_line-at.ensures.2, gathered-turn i.2 (sym e ∙ reached-row i.1 c.row_at-row.ensures) (option_or_none _) (put_none _ _) c.put_record-q.ensures.0))
 
 pub loop-at-preserved-in-Ok-Nothing : goal.loop-at-preserved-in-Ok-Nothing
 loop-at-preserved-in-Ok-Nothing c =
