@@ -1,7 +1,7 @@
 // The roomiest place that the search has come past, and the deadline that binds it: what 18 tells.
 ghost use Rattle.std.specs.Prelude.{◌≡◌, ◌-◌, ltb};
 ghost use Rattle.desk.specs.Table.{start, flex};
-ghost use Rattle.desk_reading.specs.Best.{no_best, outdone, bound_at, best_with, tight, sought_on, sought_at, binding_of, explained};
+ghost use Rattle.desk_reading.specs.Best.{no_best, outdone, bound_at, best_with, tight, sought_at, binding_of, explained};
 
 use desk::Job;
 use rules::{Binding, Explanation};
@@ -76,24 +76,19 @@ fn is_tight(j: Job) -> bool
 
 // The job that binds, sought at one more job: a move beyond x breaks that job's own deadline or pushes the next one
 // beyond its x.
-fn sought_on(b: Bound, j: Job) -> Bound
-    ensures { result ≡ sought_on b j }
-{
-    if let Bound::Seeking(k) = b {
-        if is_tight(j) {
-            return Bound::ByJob(k);
-        }
-        return Bound::Seeking(k.saturating_add(1));
-    }
-    b
-}
-
 pub fn sought_at(b: Best, j: Job) -> Best
     ensures { result ≡ sought_at b j }
 {
-    Best {
-        bound: sought_on(b.bound, j),
-        ..b
+    match b.bound {
+        Bound::Seeking(k) if is_tight(j) => Best {
+            bound: Bound::ByJob(k),
+            ..b
+        },
+        Bound::Seeking(k) => Best {
+            bound: Bound::Seeking(k.saturating_add(1)),
+            ..b
+        },
+        _ => b,
     }
 }
 
