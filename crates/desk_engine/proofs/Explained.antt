@@ -22,9 +22,11 @@ use Rattle.desk.proofs.Late.{before_tight}
 use Rattle.desk.proofs.Rooms.{early-none, early_at, at_drop, room-early}
 use Rattle.desk.proofs.Reason.{binds_own, binds_listed, told_one, told_none}
 use Rattle.desk_records.specs.Folds.{fold}
-use Rattle.desk_records.specs.Sums.{most32}
+use Rattle.desk_records.specs.Sums.{most32, sum_to}
 use Rattle.desk_reading.specs.declared.best.Best.{Best}
-use Rattle.desk_reading.specs.Best.{no_best, outdone, best_with, tight, found_job, next_job, sought_at, binding_of, explained}
+use Rattle.desk_reading.specs.declared.best.Bound.{Bound}
+use Rattle.desk_reading.specs.declared.best.Bound.TheVariants.{ByRequest, Seeking, ByJob}
+use Rattle.desk_reading.specs.Best.{no_best, outdone, bound_at, best_with, tight, sought_on, sought_at, binding_of, explained}
 use Rattle.desk_engine.proofs.Counts.{sum_is}
 
 -- what the search keeps of the jobs ks, from place p and time s on, where none of them has room
@@ -42,6 +44,21 @@ tight-few (j ∷ js) = cases (tight j) (tight-few js) where
   cases true h = omega arith
   cases false h = omega arith
 
+-- a listed job's deadline binds, and the job that is told, with the jobs ks still to be looked at
+abbrev listed_in : Bound → Bool
+listed_in ByRequest = false
+listed_in (Seeking k) = true
+listed_in (ByJob k) = true
+
+abbrev job_in : Bound → List Job → ℕ
+job_in ByRequest ks = 0
+job_in (Seeking k) ks = k + before_tight ks
+job_in (ByJob k) ks = k
+
+listed_is : (p : ℕ) (v : Bool) → listed_in (bound_at p v) ≡ v
+listed_is p true = refl
+listed_is p false = refl
+
 some : (p : ℕ) → (p ≡ 0 → ⊥) → 0 < p
 some p h = omega arith
 
@@ -54,10 +71,10 @@ listed_tick s d a x h g f = omega arith
 module _ (t d : ℕ) (js : List Job) (order : Chain t js) (right : right_x js ≡ true) (few : length js ≤ most32) where
   -- what is known of the deadline that binds, with the jobs ks still to be looked at
   record Binds (ks : List Job) (b : Best) : Type 0 where
-    own : b.listed ≡ false → d < start_at t js b.place + (b.room + 1)
-    before : b.listed ≡ true → b.place < early d js
-    due : b.listed ≡ true → start_at t js b.place + (b.room + 1) ≤ d
-    job : b.listed ≡ true → pick b.seeking (b.job + before_tight ks) b.job ≡ b.place + before_tight (drop b.place js)
+    own : listed_in b.bound ≡ false → d < start_at t js b.place + (b.room + 1)
+    before : listed_in b.bound ≡ true → b.place < early d js
+    due : listed_in b.bound ≡ true → start_at t js b.place + (b.room + 1) ≤ d
+    job : listed_in b.bound ≡ true → job_in b.bound ks ≡ b.place + before_tight (drop b.place js)
 
   -- b is the roomiest of the first p places, where there are any
   record Known (p : ℕ) (ks : List Job) (b : Best) : Type 0 where
@@ -107,16 +124,19 @@ module _ (t d : ℕ) (js : List Job) (order : Chain t js) (right : right_x js �
         let small : i ≤ p = omega arith in
         ⊎_elim (λ e. rw e (omega (arith, v.room_is))) (λ (f : i < p). below i f) (eq-or-lt_of_le small)
 
-    job_is : listed ≡ true → pick listed (p + before_tight ks) p ≡ p + before_tight (drop p js)
+    is : listed_in (bound_at p listed) ≡ listed
+    is = listed_is p listed
+
+    job_is : listed ≡ true → job_in (bound_at p listed) ks ≡ p + before_tight (drop p js)
     job_is e = rw (e, v.rest e)
 
-    cases : (o : Bool) → outdone b p r ≡ o → Known (p + 1) ks (pick o (record { place = p; room = r; job = p; listed = listed; seeking = listed }) b)
+    cases : (o : Bool) → outdone b p r ≡ o → Known (p + 1) ks (pick o (record { place = p; room = r; bound = bound_at p listed }) b)
     cases true h = record {
       inside = λ e. omega arith;
       room_is = λ e. v.room_is;
       largest = λ e. upto r (λ i l. let z = under p ks b r w h i l in omega arith) (omega arith);
       lowest = λ e. under p ks b r w h;
-      binds = λ e. record { own = v.own; before = v.before; due = v.due; job = job_is };
+      binds = λ e. record { own = λ z. v.own (sym is ∙ z); before = λ z. v.before (sym is ∙ z); due = λ z. v.due (sym is ∙ z); job = λ z. job_is (sym is ∙ z) };
     }
     cases false h =
         let two = stays_under p b r h in
@@ -131,41 +151,41 @@ module _ (t d : ℕ) (js : List Job) (order : Chain t js) (right : right_x js �
   -- ---- one more job
 
   -- the same place, with what is known of the job that binds
-  known_as : (p : ℕ) (ks js₂ : List Job) (b : Best) (seeking : Bool) (n : ℕ) → Known p ks b
-      → (0 < p → b.listed ≡ true → pick seeking (n + before_tight js₂) n ≡ b.place + before_tight (drop b.place js))
-      → Known p js₂ (record { place = b.place; room = b.room; job = n; listed = b.listed; seeking = seeking })
-  known_as p ks js₂ b seeking n w f = record {
+  known_as : (p : ℕ) (ks js₂ : List Job) (b : Best) (u : Bound) → Known p ks b → listed_in u ≡ listed_in b.bound
+      → (0 < p → listed_in u ≡ true → job_in u js₂ ≡ b.place + before_tight (drop b.place js))
+      → Known p js₂ (record { place = b.place; room = b.room; bound = u })
+  known_as p ks js₂ b u w is f = record {
     inside = w.inside;
     room_is = w.room_is;
     largest = w.largest;
     lowest = w.lowest;
-    binds = λ e. let v = w.binds e in record { own = v.own; before = v.before; due = v.due; job = f e };
+    binds = λ e. let v = w.binds e in record { own = λ z. v.own (sym is ∙ z); before = λ z. v.before (sym is ∙ z); due = λ z. v.due (sym is ∙ z); job = f e };
   }
 
   sought_known : (p : ℕ) (j : Job) (ks : List Job) (b : Best) → Known p (j ∷ ks) b → Known p ks (sought_at b j)
-  sought_known p j ks b w = by_seeking b.seeking refl where
+  sought_known p j ks b w = by_bound b.bound refl where
     -- what is known of it before
-    told : (u v : Bool) → b.seeking ≡ u → tight j ≡ v → 0 < p → b.listed ≡ true
-        → pick u (b.job + pick v 0 (suc (before_tight ks))) b.job ≡ b.place + before_tight (drop b.place js)
-    told u v e f h g = rw (e, f) at ((w.binds h).job g)
+    told : (u : Bound) → b.bound ≡ u → 0 < p → listed_in u ≡ true → job_in u (j ∷ ks) ≡ b.place + before_tight (drop b.place js)
+    told u e h g = rw e at ((w.binds h).job (ap listed_in e ∙ g))
 
-    small : 0 < p → b.listed ≡ true → b.place + before_tight (drop b.place js) ≤ length js
-    small h g =
-        let short = (early_at t d b.place js order ((w.binds h).before g)).0 in
+    small : (k : ℕ) → b.bound ≡ Seeking k → 0 < p → b.place + before_tight (drop b.place js) ≤ length js
+    small k e h =
+        let short = (early_at t d b.place js order ((w.binds h).before (ap listed_in e))).0 in
         omega (arith, tight-few (drop b.place js), length-drop b.place js)
 
-    by_tight : (v : Bool) → tight j ≡ v → b.seeking ≡ true → Known p ks (pick v (found_job b) (next_job b))
-    by_tight true f e = known_as p (j ∷ ks) ks b false b.job w (λ h g. let z = told true true e f h g in omega arith)
-    by_tight false f e =
-        known_as p (j ∷ ks) ks b b.seeking _ w
+    by_tight : (k : ℕ) → b.bound ≡ Seeking k → (v : Bool) → tight j ≡ v → Known p ks (record { place = b.place; room = b.room; bound = pick v (ByJob k) (Seeking (sum_to k 1)) })
+    by_tight k e true f = known_as p (j ∷ ks) ks b (ByJob k) w (ap listed_in (sym e)) (λ h g. let z : k + 0 ≡ b.place + before_tight (drop b.place js) = rw f at (told (Seeking k) e h refl) in omega arith)
+    by_tight k e false f =
+        known_as p (j ∷ ks) ks b (Seeking (sum_to k 1)) w (ap listed_in (sym e))
         (λ h g.
-        let z = told true false e f h g in
-        let one = sum_is b.job 1 (omega (arith, small h g)) in
-        rw (e, one) (omega arith))
+        let z : k + suc (before_tight ks) ≡ b.place + before_tight (drop b.place js) = rw f at (told (Seeking k) e h refl) in
+        let one = sum_is k 1 (omega (arith, small k e h)) in
+        rw one (omega arith))
 
-    by_seeking : (u : Bool) → b.seeking ≡ u → Known p ks (pick u (pick (tight j) (found_job b) (next_job b)) b)
-    by_seeking true e = by_tight (tight j) refl e
-    by_seeking false e = known_as p (j ∷ ks) ks b b.seeking b.job w (λ h g. rw e (told false (tight j) e refl h g))
+    by_bound : (u : Bound) → b.bound ≡ u → Known p ks (record { place = b.place; room = b.room; bound = sought_on u j })
+    by_bound ByRequest e = known_as p (j ∷ ks) ks b ByRequest w (ap listed_in (sym e)) (λ h g. absurd (true≢false (sym g)))
+    by_bound (Seeking k) e = by_tight k e (tight j) refl
+    by_bound (ByJob k) e = known_as p (j ∷ ks) ks b (ByJob k) w (ap listed_in (sym e)) (λ h g. told (ByJob k) e h refl)
 
   all_sought : (p : ℕ) (ks : List Job) (b : Best) → Known p ks b → Known p [] (fold sought_at b ks)
   unfolding fold
@@ -241,21 +261,21 @@ module _ (t d : ℕ) (js : List Job) (order : Chain t js) (right : right_x js �
 
   told_known : (b : Best) → 0 < places_of t d js → Known (places_of t d js) [] b → explained b ≡ explanation_of t d js
   told_known b h w =
-      told_one t d js b.place b.room (binding_of b)
+      told_one t d js b.place b.room (binding_of b.bound)
       (record { inside = w.inside h; room_is = w.room_is h; largest = w.largest h; lowest = w.lowest h })
-      (by_listed b.listed refl) where
-        by_seeking : (v : Bool) (n m : ℕ) → pick v (n + 0) n ≡ m → n ≡ m
-        by_seeking true n m e = omega arith
-        by_seeking false n m e = e
-
-        by_listed : (v : Bool) → b.listed ≡ v → binding_at t d js b.place ≡ pick v (Listed b.job) Own
-        by_listed true e =
+      (by_bound b.bound refl) where
+        by_listed : (k : ℕ) → listed_in b.bound ≡ true → k ≡ job_in b.bound [] → binding_at t d js b.place ≡ Listed k
+        by_listed k e f =
             let v = w.binds h in
             let due = rw (← w.room_is h) at (v.due e) in
-            binds_listed t d js order right b.place (v.before e) due ∙ ap (λ (k : ℕ). Listed k) (sym (by_seeking b.seeking b.job _ (v.job e)))
-        by_listed false e =
-            let over = rw (← w.room_is h) at ((w.binds h).own e) in
+            binds_listed t d js order right b.place (v.before e) due ∙ ap (λ (m : ℕ). Listed m) (sym (f ∙ v.job e))
+
+        by_bound : (u : Bound) → b.bound ≡ u → binding_at t d js b.place ≡ binding_of u
+        by_bound ByRequest e =
+            let over = rw (← w.room_is h) at ((w.binds h).own (ap listed_in e)) in
             binds_own t d js b.place over
+        by_bound (Seeking k) e = by_listed k (ap listed_in e) (rw e (omega arith))
+        by_bound (ByJob k) e = by_listed k (ap listed_in e) (rw e refl)
 
   -- with place l, where it starts by d
   told_last : (b : Best) → Known l [] b

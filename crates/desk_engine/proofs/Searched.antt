@@ -19,13 +19,27 @@ use Rattle.desk_records.specs.Folds.{fold}
 use Rattle.desk.proofs.Rooms.{start-next, early-none}
 use Rattle.desk_reading.specs.declared.best.Best.{Best}
 use Rattle.desk_reading.specs.Best.{no_best, best_with, sought_at}
-use Rattle.desk_reading.specs.Reading.{found_by, behind_by, search_step}
+use Rattle.desk_reading.specs.Reading.{found_by, behind_at, behind_by, search_step}
 use Rattle.desk_engine.proofs.Explained.{best_from}
 use Rattle.desk_engine.proofs.Counts.{sum_is}
 use Rattle.desk_engine.proofs.Dropped.{gone_by, gone-none}
 use Rattle.desk_engine.proofs.Fitted.{behind_of}
 use Rattle.desk.specs.Table.{ends}
-use Rattle.std.specs.Prelude.{None, Some}
+use Rattle.desk_reading.specs.declared.searching.Stage.{Stage}
+use Rattle.desk_reading.specs.declared.searching.Stage.TheVariants.{Looking, Found, Late}
+
+-- where the search has ended
+abbrev stage_at : Bool → ℕ → Stage
+stage_at true h = Found h
+stage_at false h = Late h
+
+found_is : (f : Bool) (h : ℕ) → found_by (stage_at f h) ≡ f
+found_is true h = refl
+found_is false h = refl
+
+behind_stays : (f : Bool) (h : ℕ) → behind_at (stage_at f h) ≡ h
+behind_stays true h = refl
+behind_stays false h = refl
 
 module _ (t c d : ℕ) where
   -- the search goes on, and has ended
@@ -38,7 +52,7 @@ module _ (t c d : ℕ) where
     busy = b;
     place = p;
     start = s;
-    closed = None;
+    stage = Looking;
     best = m;
   }
 
@@ -51,7 +65,7 @@ module _ (t c d : ℕ) where
     busy = b;
     place = p;
     start = s;
-    closed = Some (record { found = f; behind = h });
+    stage = stage_at f h;
     best = m;
   }
 
@@ -59,10 +73,11 @@ module _ (t c d : ℕ) where
   off_stays : (g : ℕ) (b f : Bool) (p s h : ℕ) (m : Best) (l : List Job) → fold search_step (off g b f p s h m) l ≡ off g b f p s h (fold sought_at m l)
   unfolding fold
   off_stays g b f p s h m [] = refl
-  off_stays g b f p s h m (j ∷ l) = off_stays g b f p s h (sought_at m j) l
+  off_stays g b true p s h m (j ∷ l) = off_stays g b true p s h (sought_at m j) l
+  off_stays g b false p s h m (j ∷ l) = off_stays g b false p s h (sought_at m j) l
 
   abbrev spot_of : Searching → Place
-  spot_of e = pick (found_by e.closed || leb (e.start + c) d) (At e.place e.start) Nowhere
+  spot_of e = pick (found_by e.stage || leb (e.start + c) d) (At e.place e.start) Nowhere
 
   abbrev Asks : Searching → Type 0
   Asks e = (e.time ≡ t) × (e.budget ≡ c) × (e.deadline ≡ d)
@@ -135,9 +150,9 @@ module _ (t c d : ℕ) where
     asks = (refl, refl, refl);
     gone_is = refl;
     busy_is = refl;
-    spot_is = spot;
+    spot_is = rw (found_is f (j.flex + j.start)) spot;
     from = omega arith;
-    behind_is = rw (none_off p);
+    behind_is = rw (behind_stays f (j.flex + j.start), none_off p);
     last = λ q. at_last (high q);
   }) where
     at_last : leb j.start d ≡ false → Last p s m (j ∷ ks) (off g (busy_from p b (j ∷ ks)) f p s (j.flex + j.start) (fold sought_at (sought_at m j) ks))

@@ -10,6 +10,7 @@ use Rattle.desk_records.specs.Sums.{most32}
 use Rattle.desk_reading.specs.Best.{no_best}
 use Rattle.desk_reading.specs.declared.checking.Checking.{Checking}
 use Rattle.desk_reading.specs.declared.searching.Searching.{Searching}
+use Rattle.desk_reading.specs.declared.searching.Stage.TheVariants.{Looking, Late}
 use Rattle.desk_reading.specs.declared.scan.Scan.{Scan}
 
 -- a table of other than 64 places, or a count or clock out of bounds, is not right from the start
@@ -31,7 +32,7 @@ searching_from t c d = record {
   busy = false;
   place = 0;
   start = t;
-  closed = None;
+  stage = Looking;
   best = no_best;
 }
 
@@ -45,7 +46,7 @@ searching_none = record {
   busy = false;
   place = 0;
   start = 0;
-  closed = Some (record { found = false; behind = most32 });
+  stage = Late most32;
   best = no_best;
 }
 

@@ -7,7 +7,7 @@ use desk::{Ask, Asked, Desk};
 use desk_reading::best::no_best;
 use desk_reading::checking::Checking;
 use desk_reading::scan::Scan;
-use desk_reading::searching::{Closed, Searching};
+use desk_reading::searching::{Searching, Stage};
 use desk_records::numbers::{ALL_PLACES, FAR};
 use rules::limits::{LATEST, PLACES};
 
@@ -58,7 +58,7 @@ fn searching_from(q: Asked) -> Searching
         busy: false,
         place: 0,
         start: q.time,
-        closed: None,
+        stage: Stage::Looking,
         best: no_best(),
     }
 }
@@ -68,10 +68,7 @@ fn searching_none() -> Searching
     ensures { result ≡ searching_none }
 {
     Searching {
-        closed: Some(Closed {
-            found: false,
-            behind: FAR,
-        }),
+        stage: Stage::Late(FAR),
         ..searching_from(Asked {
             time: 0,
             budget: 0,

@@ -8,7 +8,8 @@ use Rattle.desk.specs.declared.Job.{Job}
 use Rattle.desk.specs.Table.{job, start, budget, flex, ends, x_of, job_ok, zeros}
 use Rattle.desk.specs.Places.{room}
 use Rattle.desk_reading.specs.declared.checking.Checking.{Checking}
-use Rattle.desk_reading.specs.declared.searching.Closed.{Closed}
+use Rattle.desk_reading.specs.declared.searching.Stage.{Stage}
+use Rattle.desk_reading.specs.declared.searching.Stage.TheVariants.{Looking, Found, Late}
 use Rattle.desk_reading.specs.declared.searching.Searching.{Searching}
 use Rattle.desk_reading.specs.declared.scan.Scan.{Scan}
 use Rattle.desk_reading.specs.Best.{best_with, sought_at, explained}
@@ -42,13 +43,13 @@ search_dropped s = record {
   busy = s.busy;
   place = s.place;
   start = s.start;
-  closed = s.closed;
+  stage = s.stage;
   best = s.best;
 }
 
 -- the place is the one before j
-abbrev pub search_closed : Searching → Bool → Bool → Job → Searching
-search_closed s busy found j = record {
+abbrev pub search_closed : Searching → Bool → Stage → Job → Searching
+search_closed s busy stage j = record {
   time = s.time;
   budget = s.budget;
   deadline = s.deadline;
@@ -56,7 +57,7 @@ search_closed s busy found j = record {
   busy = busy;
   place = s.place;
   start = s.start;
-  closed = Some (record { found = found; behind = flex j + start j });
+  stage = stage;
   best = sought_at s.best j;
 }
 
@@ -70,7 +71,7 @@ search_past s busy r j = record {
   busy = busy;
   place = sum_to s.place 1;
   start = sum_to (start j) (budget j);
-  closed = s.closed;
+  stage = s.stage;
   best = sought_at (best_with s.best s.place r (ltb (flex j) (s.deadline - start j))) j;
 }
 
@@ -84,7 +85,7 @@ search_behind s j = record {
   busy = s.busy;
   place = s.place;
   start = s.start;
-  closed = s.closed;
+  stage = s.stage;
   best = sought_at s.best j;
 }
 
@@ -95,37 +96,40 @@ busy_after s j = pick (eqb s.place 0) (ltb (start j) s.time) s.busy
 -- "The lowest place with R ≥ C is taken", among those with a ≤ d
 abbrev pub search_look : Searching → Job → Searching
 search_look s j =
-    pick (ltb s.deadline (start j)) (search_closed s (busy_after s j) false j)
+    pick (ltb s.deadline (start j)) (search_closed s (busy_after s j) (Late (flex j + start j)) j)
     (pick (ltb (room s.start s.deadline j) s.budget) (search_past s (busy_after s j) (room s.start s.deadline j) j)
-    (search_closed s (busy_after s j) true j))
+    (search_closed s (busy_after s j) (Found (flex j + start j)) j))
 
 -- one more job: one that ends by t is dropped, any other is looked at; behind the place only the job that binds is sought
-abbrev pub search_by : Option Closed → Searching → Job → Searching
-search_by None s j = pick (leb (ends j) s.time) (search_dropped s) (search_look s j)
-search_by (Some z) s j = search_behind s j
+abbrev pub search_by : Stage → Searching → Job → Searching
+search_by Looking s j = pick (leb (ends j) s.time) (search_dropped s) (search_look s j)
+search_by (Found _) s j = search_behind s j
+search_by (Late _) s j = search_behind s j
 
 abbrev pub search_step : Searching → Job → Searching
-search_step s j = search_by s.closed s j
+search_step s j = search_by s.stage s j
 
 -- the job asked for, at the start that the search has come to
 abbrev pub new_job : Searching → Job
 new_job s = job s.start s.budget s.deadline 0
 
 -- after the last place: one with room is found, or place l "is taken when s + C ≤ d"
-abbrev pub found_by : Option Closed → Bool
-found_by None = false
-found_by (Some z) = z.found
+abbrev pub found_by : Stage → Bool
+found_by Looking = false
+found_by (Found _) = true
+found_by (Late _) = false
 
 abbrev pub search_end : Searching → Bool
-search_end s = found_by s.closed || leb (ends (new_job s)) s.deadline
+search_end s = found_by s.stage || leb (ends (new_job s)) s.deadline
 
 -- when the job behind the place has to start at the latest, far off if there is none
-abbrev pub behind_at : Option Closed → ℕ
-behind_at None = most32
-behind_at (Some z) = z.behind
+abbrev pub behind_at : Stage → ℕ
+behind_at Looking = most32
+behind_at (Found behind) = behind
+behind_at (Late behind) = behind
 
 abbrev pub behind_by : Searching → ℕ
-behind_by s = behind_at s.closed
+behind_by s = behind_at s.stage
 
 -- with place l, which "has room d − s, bound by the request's deadline; a place with room below 0 is none"
 abbrev pub explanation_by : Searching → Explanation

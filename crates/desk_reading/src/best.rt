@@ -1,20 +1,26 @@
 // The roomiest place that the search has come past, and the deadline that binds it: what 18 tells.
 ghost use Rattle.std.specs.Prelude.{◌≡◌, ◌-◌, ltb};
 ghost use Rattle.desk.specs.Table.{start, flex};
-ghost use Rattle.desk_reading.specs.Best.{no_best, outdone, best_with, tight, sought_at, binding_of, explained};
+ghost use Rattle.desk_reading.specs.Best.{no_best, outdone, bound_at, best_with, tight, sought_at, binding_of, explained};
 
 use desk::Job;
 use rules::{Binding, Explanation};
 
-// The lowest with its room, once a place has been gone past, and whether a listed job's deadline binds it. The first
-// such job is sought from the place on, `job` being the next one to look at until it is found.
+// What binds the room of a place: the request's own deadline, or a listed job's. The first such job is sought from the
+// place on, the next one to look at being told until it is found.
+#[derive(Clone, Copy)]
+pub enum Bound {
+    ByRequest,
+    Seeking(u32),
+    ByJob(u32),
+}
+
+// The lowest with its room, once a place has been gone past, and what binds it.
 #[derive(Clone, Copy)]
 pub struct Best {
     pub place: u32,
-    pub job: u32,
     pub room: u32,
-    pub listed: bool,
-    pub seeking: bool,
+    pub bound: Bound,
 }
 
 pub fn no_best() -> Best
@@ -22,10 +28,8 @@ pub fn no_best() -> Best
 {
     Best {
         place: 0,
-        job: 0,
         room: 0,
-        listed: false,
-        seeking: false,
+        bound: Bound::ByRequest,
     }
 }
 
@@ -39,17 +43,25 @@ fn is_outdone(b: Best, place: u32, room: u32) -> bool
     b.room < room
 }
 
+// What binds a place's room before any job is looked at for it.
+fn bound_at(place: u32, listed: bool) -> Bound
+    ensures { result ≡ bound_at place listed }
+{
+    if listed {
+        return Bound::Seeking(place);
+    }
+    Bound::ByRequest
+}
+
 // The better of the place so far and the next one.
 pub fn best_with(b: Best, place: u32, room: u32, listed: bool) -> Best
     ensures { result ≡ best_with b place room listed }
 {
     if is_outdone(b, place, room) {
         return Best {
-            place: place,
-            job: place,
-            room: room,
-            listed: listed,
-            seeking: listed,
+            place,
+            room,
+            bound: bound_at(place, listed),
         };
     }
     b
@@ -67,16 +79,17 @@ fn is_tight(j: Job) -> bool
 pub fn sought_at(b: Best, j: Job) -> Best
     ensures { result ≡ sought_at b j }
 {
-    if b.seeking {
-        let mut r = b;
-        if is_tight(j) {
-            r.seeking = false;
-            return r;
-        }
-        r.job = b.job.saturating_add(1);
-        return r;
+    match b.bound {
+        Bound::Seeking(k) if is_tight(j) => Best {
+            bound: Bound::ByJob(k),
+            ..b
+        },
+        Bound::Seeking(k) => Best {
+            bound: Bound::Seeking(k.saturating_add(1)),
+            ..b
+        },
+        _ => b,
     }
-    b
 }
 
 // Whether the room at j is bound by its x and not by the deadline d.
@@ -86,28 +99,21 @@ pub fn listed_binds(d: u32, j: Job) -> bool
     j.flex < d.saturating_sub(j.start)
 }
 
-// As a number of an answer.
-fn told(x: u32) -> usize
-    ensures { result ≡ x }
-{
-    x as usize
-}
-
-fn binding_of(b: Best) -> Binding
+fn binding_of(b: Bound) -> Binding
     ensures { result ≡ binding_of b }
 {
-    if b.listed {
-        return Binding::Listed(told(b.job));
+    match b {
+        Bound::ByRequest => Binding::Own,
+        Bound::Seeking(k) | Bound::ByJob(k) => Binding::Listed(k as usize),
     }
-    Binding::Own
 }
 
 pub fn explain(b: Best) -> Explanation
     ensures { result ≡ explained b }
 {
     Explanation::Roomiest {
-        place: told(b.place),
-        room: told(b.room),
-        binding: binding_of(b),
+        place: b.place as usize,
+        room: b.room as usize,
+        binding: binding_of(b.bound),
     }
 }

@@ -18,24 +18,15 @@ pub struct Checking {
 fn right_x(opening: bool, s: Checking, room: u64) -> bool
     ensures { result ≡ (eqb s.flex (min s.own room) || opening) }
 {
-    if u64::from(s.flex) == s.own.min(room) {
-        return true;
-    }
-    opening
+    opening || u64::from(s.flex) == s.own.min(room)
 }
 
 // Whether j may stand behind the job before.
 pub fn follows_on(opening: bool, s: Checking, j: Job) -> bool
     ensures { result ≡ follows opening s j }
 {
-    if job_ok(j) {
-        let start = u64::from(j.start);
-        if s.end <= start {
-            return right_x(opening, s, start - s.end + u64::from(j.flex));
-        }
-        return false;
-    }
-    false
+    let start = u64::from(j.start);
+    job_ok(j) && s.end <= start && right_x(opening, s, start - s.end + u64::from(j.flex))
 }
 
 // j, which keeps the rules, as the job before.

@@ -11,16 +11,18 @@ use desk_records::numbers::FAR;
 use desk_records::records::{ends_by, last_start, room_at};
 use rules::Explanation;
 
-// Where the search has ended: whether the place has room, and when the job behind it has to start at the latest.
+// The search goes on, has found a place with room, or has come to a job with a > d; with when the job behind the place
+// has to start at the latest.
 #[derive(Clone, Copy)]
-pub struct Closed {
-    pub found: bool,
-    pub behind: u64,
+pub enum Stage {
+    Looking,
+    Found(u64),
+    Late(u64),
 }
 
 // The request, jobs dropped so far, whether the first one left is running, and the place: found, or the next one to try
-// with the end of the job before it, which is place l once a job has a > d or none follows. The end of the search, once
-// it is there, and the roomiest place gone past.
+// with the end of the job before it, which is place l once a job has a > d or none follows. How far the search is, and
+// the roomiest place gone past.
 #[derive(Clone, Copy)]
 pub struct Searching {
     pub time: u32,
@@ -30,20 +32,17 @@ pub struct Searching {
     pub busy: bool,
     pub place: u32,
     pub start: u32,
-    pub closed: Option<Closed>,
+    pub stage: Stage,
     pub best: Best,
 }
 
 // The place is the one before j.
-fn closes(s: Searching, busy: bool, found: bool, j: Job) -> Searching
-    ensures { result ≡ search_closed s busy found j }
+fn closes(s: Searching, busy: bool, stage: Stage, j: Job) -> Searching
+    ensures { result ≡ search_closed s busy stage j }
 {
     Searching {
         busy,
-        closed: Some(Closed {
-            found,
-            behind: last_start(j),
-        }),
+        stage,
         best: sought_at(s.best, j),
         ..s
     }
@@ -79,13 +78,13 @@ fn look_at(s: Searching, j: Job) -> Searching
 {
     let busy = busy_after(s, j);
     if s.deadline < j.start {
-        return closes(s, busy, false, j);
+        return closes(s, busy, Stage::Late(last_start(j)), j);
     }
     let room = room_at(s.start, s.deadline, j);
     if room < s.budget {
         return goes_past(s, busy, room, j);
     }
-    closes(s, busy, true, j)
+    closes(s, busy, Stage::Found(last_start(j)), j)
 }
 
 // A job that ends by t is dropped.
@@ -112,13 +111,13 @@ fn seeks_on(s: Searching, j: Job) -> Searching
 pub fn search_step(s: Searching, j: Job) -> Searching
     ensures { result ≡ search_step s j }
 {
-    if s.closed.is_some() {
-        return seeks_on(s, j);
+    if let Stage::Looking = s.stage {
+        if ends_by(j, s.time) {
+            return drops(s);
+        }
+        return look_at(s, j);
     }
-    if ends_by(j, s.time) {
-        return drops(s);
-    }
-    look_at(s, j)
+    seeks_on(s, j)
 }
 
 // The job asked for, at the start that the search has come to.
@@ -137,14 +136,17 @@ pub fn new_job(s: Searching) -> Job
 pub fn search_end(s: Searching) -> bool
     ensures { result ≡ search_end s }
 {
-    s.closed.is_some_and(|z| z.found) || ends_by(new_job(s), s.deadline)
+    matches!(s.stage, Stage::Found(_)) || ends_by(new_job(s), s.deadline)
 }
 
 // When the job behind the place has to start at the latest, far off if there is none.
 pub fn behind_by(s: Searching) -> u64
     ensures { result ≡ behind_by s }
 {
-    s.closed.map_or(FAR, |z| z.behind)
+    match s.stage {
+        Stage::Looking => FAR,
+        Stage::Found(behind) | Stage::Late(behind) => behind,
+    }
 }
 
 // Why there is no place, after the last job: place l is one too where it starts by d, bound by the request's deadline.
