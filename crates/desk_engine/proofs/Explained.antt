@@ -11,7 +11,7 @@ use lib.Dec.{leb, ltb, eqb}
 use lib.ListN.{length, drop, get_or, length-drop}
 use borrow.Author.Tests.{le-ltb, ltb-true, ltb-false, leb-true, eqb-true, eqb-false}
 use Rattle.rules.specs.Walk.{pick}
-use Rattle.rules.specs.declared.Binding.TheVariants.{Own, Listed}
+use Rattle.rules.specs.declared.Binding.TheVariants.{Listed}
 use Rattle.rules.specs.declared.Explanation.TheVariants.{Nowhere}
 use Rattle.desk.specs.declared.Job.{Job}
 use Rattle.desk.specs.Table.{start, flex, ends, none, right_x}

@@ -8,7 +8,6 @@ use Rattle.desk.specs.declared.Ask.{Ask}
 use Rattle.desk.specs.declared.Ask.TheVariants.{Open, Request}
 use Rattle.desk_records.specs.Sums.{most32}
 use Rattle.desk_reading.specs.Best.{no_best}
-use Rattle.desk_reading.specs.declared.checking.Checking.{Checking}
 use Rattle.desk_reading.specs.declared.searching.Searching.{Searching}
 use Rattle.desk_reading.specs.declared.searching.Stage.TheVariants.{Looking, Late}
 use Rattle.desk_reading.specs.declared.scan.Scan.{Scan}

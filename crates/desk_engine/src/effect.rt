@@ -60,17 +60,17 @@ fn keep_effect(why: Refusal, k: Desk) -> Effect
 }
 
 // A refusal that sets the clock and drops the finished jobs.
-fn drop_effect(why: Refusal, k: Desk, q: Searching) -> Effect
-    ensures { result ≡ drop_effect why k q }
+fn drop_effect(why: Refusal, k: Desk, left: Searching) -> Effect
+    ensures { result ≡ drop_effect why k left }
 {
-    let rest = rest_of(k, q);
+    let rest = rest_of(k, left);
     Effect {
         answer: Err(why),
         desk: Desk {
-            clock: q.time,
+            clock: left.time,
             count: rest,
         },
-        drop: q.gone as usize,
+        drop: left.gone as usize,
         shift: Some(Shift {
             before: rest,
             put: 0,

@@ -4,7 +4,7 @@ use mathlib.Core.Path.{◌≡◌, refl, sym, ap, ◌∙◌}
 use mathlib.Core.List.{List, [], ◌∷◌, ◌++◌, append_assoc, append-nil}
 use native.Mathlib.Omega.{arith}
 use native.Mathlib.Numerals.{add-one}
-use lib.ListN.{length, take, drop, get_or, set, length-append, length-take, length-drop, take-append-drop}
+use lib.ListN.{length, take, drop, get_or, set, length-drop, take-append-drop}
 use lib.Seq.{take-length, drop-length, take-suc, drop-cons, set_at, get_or_at, length-take-le, get_or-append-add, get_or-drop}
 use Rattle.desk.specs.declared.Job.{Job}
 use Rattle.desk.specs.Table.{none}
@@ -70,10 +70,6 @@ module _ {S : Type 0} (step : S → Job → S) where
     unfolding forth_at
     forth_at_end s l = rw (take-length l, drop-length l) (append-nil _)
 
-    pub forth_at_length : (s : S) (l : List Job) (i : ℕ) → i ≤ length l → length (forth_at s l i) ≡ length l
-    unfolding forth_at
-    forth_at_length s l i h = omega (arith, length-append (forth step out s (take i l)) (drop i l), length-forth s (take i l), length-take-le i l h, length-drop i l)
-
     pub forth_at_read : (s : S) (l : List Job) (i : ℕ) → i < length l → get_or (forth_at s l i) i none ≡ get_or l i none
     unfolding forth_at
     forth_at_read s l i h =
@@ -86,11 +82,6 @@ module _ {S : Type 0} (step : S → Job → S) where
         rw (add-one i, take-suc l i none h, forth_snoc s (take i l) (get_or l i none), append_assoc, drop-cons l i none h)
         (set_at (forth step out s (take i l)) (get_or l i none) (drop (suc i) l) _ i (length-forth s (take i l) ∙ length-take-le i l (omega arith)))
 
-    pub length_back : (s : S) (l : List Job) → length (back step out s l) ≡ length l
-    unfolding back
-    length_back s [] = refl
-    length_back s (j ∷ l) = ap suc (length_back s l)
-
     -- the table when i jobs are left
     unfoldable pub back_at : S → List Job → ℕ → List Job
     back_at s l i = take i l ++ back step out s (drop i l)
@@ -102,10 +93,6 @@ module _ {S : Type 0} (step : S → Job → S) where
     pub back_at_end : (s : S) (l : List Job) → back_at s l 0 ≡ back step out s l
     unfolding back_at
     back_at_end s l = refl
-
-    pub back_at_length : (s : S) (l : List Job) (i : ℕ) → i ≤ length l → length (back_at s l i) ≡ length l
-    unfolding back_at
-    back_at_length s l i h = omega (arith, length-append (take i l) (back step out s (drop i l)), length_back s (drop i l), length-take-le i l h, length-drop i l)
 
     back_seam : (s : S) (l : List Job) (i : ℕ) → i < length l → take (i + 1) l ++ back step out s (drop (i + 1) l) ≡ take i l ++ (get_or l i none ∷ back step out s (drop (i + 1) l))
     back_seam s l i h =
@@ -136,10 +123,6 @@ move_at_zero k l = refl
 
 length-take-drop : (k : ℕ) (l : List Job) (i : ℕ) → k + i ≤ length l → length (take i (drop k l)) ≡ i
 length-take-drop k l i h = length-take-le i (drop k l) (omega (arith, length-drop k l))
-
-pub move_at_length : (k : ℕ) (l : List Job) (i : ℕ) → k + i ≤ max (length l) k → length (move_at k l i) ≡ length l
-unfolding move_at
-move_at_length k l i h = omega (arith, h, length-append (take i (drop k l)) (drop i l), length-take i (drop k l), length-drop k l, length-drop i l)
 
 pub move_at_more : (k : ℕ) (l : List Job) (i : ℕ) → k + i < length l → set (move_at k l i) i (get_or l (k + i) none) ≡ move_at k l (i + 1)
 unfolding move_at

@@ -1,2 +1,1 @@
-pub mod Up
 pub mod Along

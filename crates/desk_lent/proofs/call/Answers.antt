@@ -1,10 +1,6 @@
-use mathlib.Core.Path.{sym, ◌∙◌, ap, subst}
-use Rattle.std.specs.Prelude.{Option}
+use mathlib.Core.Path.{sym, ◌∙◌, subst}
 use Rattle.desk.specs.Call.{call_of}
-use Rattle.desk_reading.specs.Reading.{scanned}
-use Rattle.desk_reading.specs.declared.scan.Scan.{Scan}
 use Rattle.desk_engine.specs.declared.effect.Effect.{Effect}
-use Rattle.desk_engine.specs.Deciding.{effect_of}
 use Rattle.desk_engine.proofs.Whole.{Made, call_law}
 use Rattle.desk_lent.proofs.call.Goals as goal
 
