@@ -10,12 +10,13 @@ ghost use Rattle.file_read.specs.Reader.{told_contents};
 ghost use Rattle.file_read.specs.Inner.{Few};
 ghost use Rattle.desk.specs.declared.Ask.TheVariants.{Request};
 ghost use Rattle.desk.specs.Call.{said_done};
-ghost use Rattle.answers.specs.Parts.{named_part, part_at, told_stretch, told_part};
+ghost use Rattle.answers.specs.Parts.{named_part, part_at, told_range, told_part};
 
 use desk::{Ask, Asked, Done};
 use file_read::load::body_at;
-use file_read::{Body, Contents, Stretch};
+use file_read::{Body, Contents};
 use rules::{Refusal, Told};
+use std::ops::Range;
 use task_page::Paged;
 
 // What a call answers where it refuses nothing.
@@ -107,11 +108,11 @@ impl Answer for Contents {
 }
 
 // A part of a file.
-impl Answer for Stretch {
-    ghost told = { told_stretch };
+impl Answer for Range<usize> {
+    ghost told = { told_range };
 
     fn tell(self) -> Told {
-        told(self.offset, self.end)
+        told(self.start, self.end)
     }
 }
 
@@ -149,13 +150,13 @@ fn named_part(which: usize) -> Option<Body>
 }
 
 // Where that part lies in an accepted file; the empty part where the number stands for none.
-fn part_at(which: usize, contents: Contents) -> Stretch
+fn part_at(which: usize, contents: Contents) -> Range<usize>
     requires { Few contents }
     ensures { result ≡ part_at which contents }
 {
     match named_part(which) {
         Some(body) => body_at(contents, body),
-        None => Stretch { offset: 0, end: 0 },
+        None => 0..0,
     }
 }
 

@@ -13,6 +13,7 @@ ghost use Rattle.file_page.specs.Inner.{GoodRecords, line_by};
 use file_lines::{put_fail, put_frame, put_partition, put_pass};
 use rules::Rule;
 use rules::limits::MOST_TASKS;
+use task_all::Times;
 
 #[tactic(auto, unfolding(crate::specs::Page::part_line))]
 fn put_part(rule: Rule, plan: &[u16], parts: &[u16], k: usize, out: &mut [u8], at: usize) -> usize
@@ -41,47 +42,35 @@ fn put_parts(rule: Rule, plan: &[u16], parts: &[u16], out: &mut [u8], start: usi
     at
 }
 
-// A task's line, by the point and the tick that were found for it.
+// A task's line, by what was found for it.
 #[tactic(auto, unfolding(crate::specs::Inner::line_by))]
 fn put_task(
     table: &[u16],
-    points: &[usize],
-    ticks: &[usize],
+    found: &[Option<Times>],
     j: usize,
     out: &mut [u8],
     at: usize,
 ) -> usize
-    requires { (j < most_tasks) × (at < 2 ^ 40) × (j < length points.now) × (j < length ticks.now) }
-    ensures { Put out.old at
-        (line_by table.now points.now ticks.now j) result out.new
+    requires { (j < most_tasks) × (at < 2 ^ 40) × (j < length found.now) }
+    ensures { Put out.old at (line_by table.now found.now j) result out.new
         × (result ≤ at + longest_line) }
 {
     let partition = usize::from(rules::records::partition(table, j));
-    let point = points[j];
-    if usize::from(rules::records::deadline(table, j)) < point {
-        return put_fail(out, at, j + 1, partition);
+    match found[j] {
+        Some(times) => put_pass(out, at, j + 1, partition, times.point, times.tick),
+        None => put_fail(out, at, j + 1, partition),
     }
-    put_pass(out, at, j + 1, partition, point, ticks[j])
 }
 
 // All tasks' lines, in the table's order.
-fn put_lines(
-    table: &[u16],
-    points: &[usize],
-    ticks: &[usize],
-    out: &mut [u8],
-    start: usize,
-) -> usize
-    requires { (tasks table.now ≤ most_tasks) × (start < 2 ^ 32)
-        × (most_tasks ≤ length points.now) × (most_tasks ≤ length ticks.now) }
-    ensures { Put out.old start
-        (gathered (line_by table.now points.now ticks.now) (tasks table.now))
-        result out.new
+fn put_lines(table: &[u16], found: &[Option<Times>], out: &mut [u8], start: usize) -> usize
+    requires { (tasks table.now ≤ most_tasks) × (start < 2 ^ 32) × (most_tasks ≤ length found.now) }
+    ensures { Put out.old start (gathered (line_by table.now found.now) (tasks table.now)) result out.new
         × (result ≤ start + most_tasks * longest_line) }
 {
     let mut at = start;
     for j in 0..rules::records::tasks(table) {
-        at = put_task(table, points, ticks, j, out, at);
+        at = put_task(table, found, j, out, at);
     }
     at
 }
@@ -102,11 +91,10 @@ fn put_tasks(
         result out.new
         × (result ≤ start + most_tasks * longest_line) }
 {
-    let mut points = [0usize; MOST_TASKS];
-    let mut ticks = [0usize; MOST_TASKS];
+    let mut found = [None; MOST_TASKS];
     let n = rules::records::partitions(parts);
-    task_all::judge_all(rule, plan, table, n as u16, &mut points, &mut ticks);
-    put_lines(table, &points, &ticks, out, start)
+    task_all::judge_all(rule, plan, table, n as u16, &mut found);
+    put_lines(table, &found, out, start)
 }
 
 // The listing of a plan that serves: at most 1 + 16 + 128 lines.

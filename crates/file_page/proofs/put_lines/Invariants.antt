@@ -8,4 +8,4 @@ use Rattle.file_page.specs.Inner.{line_by}
 use Rattle.file_page.proofs.put_lines.Given as goal
 
 abbrev pub invariant-loop-j : goal.invariant-loop-j
-invariant-loop-j l = Put l.initial.out l.start (gathered (line_by l.table l.points l.ticks) l.j) l.at l.out × (l.at ≤ l.start + longest_line * l.j) × (length l.out ≡ length l.initial.out)
+invariant-loop-j l = Put l.initial.out l.start (gathered (line_by l.table l.found) l.j) l.at l.out × (l.at ≤ l.start + longest_line * l.j) × (length l.out ≡ length l.initial.out)
