@@ -10,7 +10,7 @@ ghost use Rattle.task_all.specs.Inner.{deadline_in, times_by, times_of, marked, 
 
 use plan_curve::draw;
 use rules::Rule;
-use task_demand::{TaskLists, ask_task};
+use task_demand::{TICKS, TaskLists, ask_task};
 use task_plain::tick_in;
 use task_points::point_in;
 
@@ -74,7 +74,10 @@ fn judge_partition(rule: Rule, plan: &[u16], table: &[u16], p: u16, found: &mut 
     if d == 0 {
         return;
     }
-    let mut lists = TaskLists::blank();
+    let mut lists = TaskLists {
+        curve: [0; TICKS],
+        asks: [0; TICKS],
+    };
     draw(rule, plan, usize::from(p), &mut lists.curve, d + 1);
     for j in 0..rules::records::tasks(table) {
         judge_task(&lists, table, p, j, found);

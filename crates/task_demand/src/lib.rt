@@ -21,18 +21,6 @@ pub struct TaskLists {
     pub asks: [u32; TICKS],
 }
 
-impl TaskLists {
-    // Nothing is drawn yet.
-    pub fn blank() -> TaskLists
-        ensures { Zeros result.asks }
-    {
-        TaskLists {
-            curve: [0; TICKS],
-            asks: [0; TICKS],
-        }
-    }
-}
-
 // A number added to those from b to e - 1.
 fn add_row(asks: &mut [u32], b: usize, e: usize, all: usize)
     requires { (b ≤ e) × (e ≤ length asks.old) × (all < 2 ^ 31) × SmallFrom b asks.old }
@@ -85,17 +73,16 @@ fn ask_rivals(tasks: &[u16], i: usize, asks: &mut [u32], n: usize)
     }
 }
 
-// The lists for task i, up to its deadline: its partition's curve, and what the higher tasks ask.
-pub fn draw_task(rule: Rule, plan: &[u16], tasks: &[u16], i: usize) -> TaskLists
-    requires { Judgeable tasks.now i }
-    ensures { Drawn rule plan.now tasks.now i result.curve result.asks }
+// The lists for task i, up to its deadline: its partition's curve, and what the higher tasks ask. They are lent: to hand out
+// 32 kB costs ten times a short verdict.
+pub fn draw_task(rule: Rule, plan: &[u16], tasks: &[u16], i: usize, lists: &mut TaskLists)
+    requires { Judgeable tasks.now i × Zeros lists.old.asks }
+    ensures { Drawn rule plan.now tasks.now i lists.new.curve lists.new.asks }
 {
     let n = usize::from(rules::records::deadline(tasks, i)) + 1;
     let p = usize::from(rules::records::partition(tasks, i));
-    let mut lists = TaskLists::blank();
     plan_curve::draw(rule, plan, p, &mut lists.curve, n);
     ask_rivals(tasks, i, &mut lists.asks, n);
-    lists
 }
 
 // Whether demand(t) is at most least(t), of a task with budget c.

@@ -17,7 +17,7 @@ ghost use Rattle.task_page.specs.Inner.{point_in, short_in, Ready};
 use plan_service::worst_start;
 use rules::limits::ROW_WIDTH;
 use rules::{Refusal, Rule, Terms};
-use task_demand::TaskLists;
+use task_demand::{TICKS, TaskLists};
 use task_points::point_at;
 
 // What is said of a task: it passes at a point, or it fails, with so many rows, the point with the smallest shortage and
@@ -191,7 +191,11 @@ fn page_of(
         (fail_of rule plan.now tasks.now i (length rows.old)))
         × (rows.new ≡ page_left result (rows_of rule plan.now tasks.now i) rows.old) }
 {
-    let lists = task_demand::draw_task(rule, plan, tasks, i);
+    let mut lists = TaskLists {
+        curve: [0; TICKS],
+        asks: [0; TICKS],
+    };
+    task_demand::draw_task(rule, plan, tasks, i, &mut lists);
     let c = rules::records::budget(tasks, i);
     let d = rules::records::deadline(tasks, i);
     match task_points::point_in(&lists, c, d) {

@@ -10,7 +10,7 @@ ghost use Rattle.task_demand.specs.Inner.{Judgeable, in_time};
 ghost use Rattle.task_plain.specs.Inner.{tick_fits};
 
 use rules::Rule;
-use task_demand::{TaskLists, draw_task, earliest, fits};
+use task_demand::{TICKS, TaskLists, draw_task, earliest, fits};
 
 // By the lists: the smallest tick that holds, of a task with budget c and deadline d.
 pub fn tick_in(lists: &TaskLists, c: u16, d: u16) -> Option<usize>
@@ -25,7 +25,11 @@ pub fn first_tick(rule: Rule, plan: &[u16], tasks: &[u16], i: usize) -> Option<u
     requires { Judgeable tasks.now i }
     ensures { result ≡ in_time (deadline tasks.now i) (task_tick rule plan.now tasks.now i) }
 {
-    let lists = draw_task(rule, plan, tasks, i);
+    let mut lists = TaskLists {
+        curve: [0; TICKS],
+        asks: [0; TICKS],
+    };
+    draw_task(rule, plan, tasks, i, &mut lists);
     let c = rules::records::budget(tasks, i);
     let d = rules::records::deadline(tasks, i);
     tick_in(&lists, c, d)

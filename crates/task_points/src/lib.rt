@@ -10,7 +10,7 @@ ghost use Rattle.task_demand.specs.Inner.{Judgeable, in_time};
 ghost use Rattle.task_points.specs.Inner.{point_at, point_fits};
 
 use rules::Rule;
-use task_demand::{TaskLists, draw_task, earliest, fits};
+use task_demand::{TICKS, TaskLists, draw_task, earliest, fits};
 
 // Whether t is a scheduling point, of a task with deadline d: t is d itself, or a multiple of a higher task's period. Behind
 // these alone more is asked.
@@ -45,7 +45,11 @@ pub fn first_point(rule: Rule, plan: &[u16], tasks: &[u16], i: usize) -> Option<
     requires { Judgeable tasks.now i }
     ensures { result ≡ in_time (deadline tasks.now i) (task_point rule plan.now tasks.now i) }
 {
-    let lists = draw_task(rule, plan, tasks, i);
+    let mut lists = TaskLists {
+        curve: [0; TICKS],
+        asks: [0; TICKS],
+    };
+    draw_task(rule, plan, tasks, i, &mut lists);
     let c = rules::records::budget(tasks, i);
     let d = rules::records::deadline(tasks, i);
     point_in(&lists, c, d)

@@ -1,7 +1,9 @@
+use Prim.Native.Nat.{◌+◌}
+use Rattle.rules.specs.Limits.{longest}
 use mathlib.Core.Path.{refl, ◌∙◌}
 use native.Mathlib.Omega.{arith}
 use Rattle.rules.proofs.Named.{named_self}
-use Rattle.task_demand.proofs.Asking.{asked-none, asked-small, asked_more}
+use Rattle.task_demand.proofs.Asking.{zeros-all, asked-none, asked-small, asked_more}
 use Rattle.task_all.proofs.Marks.{found-none, found-end, times_are, mark-turn, mark-long, judgeable_in, longest-short, none_of, drawn_in}
 use borrow.Author.Rules.{rules}
 use Rattle.task_all.proofs.judge_partition.Goals as goal
@@ -16,7 +18,7 @@ pub draw-requires : goal.draw-requires
 draw-requires c = let l = longest-short _ c.requires.0 _ _ c.longest_deadline-d.ensures in (omega (arith, l), search (rules, l))
 
 pub loop-j-init : goal.loop-j-init
-loop-j-init c = (refl, refl, refl, asked-none _ _ _ _ c.blank-lists.ensures, λ rule w. found-none _ _)
+loop-j-init c = (refl, refl, refl, asked-none _ _ _ _ (zeros-all (longest + 1)), λ rule w. found-none _ _)
 
 pub overflow_add-d-in-loop-j : goal.overflow_add-d-in-loop-j
 overflow_add-d-in-loop-j c = omega (arith, longest-short _ c.requires.0 _ _ c.longest_deadline-d.ensures)
@@ -29,7 +31,7 @@ ask_task-requires c = let l = c.loop-j in
       omega arith,
       omega (arith, d),
       search (rules, d, l.invariant.1),
-      asked-small _ _ _ _ _ _ (search (rules, pre.0.few)) (omega (arith, d)) (λ k h. pre.0.in_order k (search rules)) c.blank-lists.ensures l.invariant.3,
+      asked-small _ _ _ _ _ _ (search (rules, pre.0.few)) (omega (arith, d)) (λ k h. pre.0.in_order k (search rules)) (zeros-all (longest + 1)) l.invariant.3,
     )
 
 pub loop-j-preserved : goal.loop-j-preserved
