@@ -38,7 +38,7 @@ fn end(l: &[u8]) -> Result<(), What>
 }
 
 // `G`, behind the word `granule`.
-#[tactic(auto, unfolding(crate::specs::Inner::BeginsWithNumber, crate::specs::Inner::Ends, crate::specs::Rows::granule_row))]
+#[tactic(auto, unfolding(crate::specs::Inner::BeginsWithNumber, crate::specs::Inner::Ends, crate::specs::Rows::granule_row,))]
 fn granule_row(l: &[u8]) -> Result<Row, What>
     ensures { result ≡ granule_row l.now }
 {
@@ -48,7 +48,7 @@ fn granule_row(l: &[u8]) -> Result<Row, What>
 }
 
 // `CYCLE NUM/DEN`, behind the word `partition`.
-#[tactic(auto, unfolding(crate::specs::Inner::BeginsWithNumber, crate::specs::Inner::BeginsWithSlash, crate::specs::Inner::Ends, crate::specs::Rows::part_row))]
+#[tactic(auto, unfolding(crate::specs::Inner::BeginsWithNumber, crate::specs::Inner::BeginsWithSlash, crate::specs::Inner::Ends, crate::specs::Rows::part_row,))]
 fn part_row(l: &[u8]) -> Result<Row, What>
     ensures { result ≡ part_row l.now }
 {
@@ -61,7 +61,7 @@ fn part_row(l: &[u8]) -> Result<Row, What>
 }
 
 // `PARTITION C D T`, behind the word `task`.
-#[tactic(auto, unfolding(crate::specs::Inner::BeginsWithNumber, crate::specs::Inner::Ends, crate::specs::Rows::task_row))]
+#[tactic(auto, unfolding(crate::specs::Inner::BeginsWithNumber, crate::specs::Inner::Ends, crate::specs::Rows::task_row,))]
 fn task_row(l: &[u8]) -> Result<Row, What>
     ensures { result ≡ task_row l.now }
 {

@@ -16,7 +16,7 @@ fn ends_word(b: u8) -> bool
     is_blank(b) || b == b'/'
 }
 
-// The first place at which the search stops, or the end.
+// The first place at which the search stops, or the end: every caller cuts there, so that None would only be turned back.
 pub fn find<S: Fn(u8) -> bool>(l: &[u8], stops: S) -> usize
     requires { S.IsAlwaysCallable stops }
     ensures bound { result ≤ length l.now }
