@@ -9,21 +9,21 @@ use Rattle.share_words.specs.Words.{word_of, rest_of, ends_at, numeral}
 use Rattle.share_line.specs.Rows.{closes, is_wrong, what_of}
 
 -- the number that l begins with, and what stands behind it
-unfoldable pub BeginsWithNumber : List ℕ → Result (ℕ × Bor (List ℕ)) What → Type 0
+abbrev pub BeginsWithNumber : List ℕ → Result (ℕ × Bor (List ℕ)) What → Type 0
 BeginsWithNumber l (Ok p) = (numeral (word_of l) ≡ Some p.0) × (p.1.now ≡ rest_of l)
 BeginsWithNumber l (Err w) = (numeral (word_of l) ≡ None) × (w ≡ Number)
 
 -- what stands behind the slash that l begins with
-unfoldable pub BeginsWithSlash : List ℕ → Result (Bor (List ℕ)) What → Type 0
+abbrev pub BeginsWithSlash : List ℕ → Result (Bor (List ℕ)) What → Type 0
 BeginsWithSlash l (Ok r) = (bytes_eq (word_of l) (bytes "/") ≡ true) × (r.now ≡ rest_of l)
 BeginsWithSlash l (Err w) = (bytes_eq (word_of l) (bytes "/") ≡ false) × (w ≡ Slash)
 
 -- nothing stands in l any more
-unfoldable pub Ends : List ℕ → Result (Unit {0}) What → Type 0
+abbrev pub Ends : List ℕ → Result (Unit {0}) What → Type 0
 Ends l (Ok u) = ends_at l 0 ≡ true
 Ends l (Err w) = (ends_at l 0 ≡ false) × (w ≡ End)
 
 -- a row behind others: whether a granule comes too late behind it, or what was expected in it, where it is wrong
-unfoldable pub Judged : Bool → Result Row What → Result Bool What → Type 0
+abbrev pub Judged : Bool → Result Row What → Result Bool What → Type 0
 Judged closed row (Ok c) = (is_wrong closed row ≡ false) × (c ≡ closes row || closed)
 Judged closed row (Err w) = (is_wrong closed row ≡ true) × (w ≡ what_of row)

@@ -8,7 +8,6 @@ use share_words::numbers::first_number;
 use share_words::words::{after_word, begins_with, find, no_word};
 
 // The number that words begin with, and what stands behind it.
-#[tactic(auto, unfolding(crate::specs::Inner::BeginsWithNumber))]
 fn number(l: &[u8]) -> Result<(u16, &[u8]), What>
     ensures { BeginsWithNumber l.now result }
 {
@@ -17,7 +16,6 @@ fn number(l: &[u8]) -> Result<(u16, &[u8]), What>
 }
 
 // What stands behind the slash that words begin with.
-#[tactic(auto, unfolding(crate::specs::Inner::BeginsWithSlash))]
 fn slash(l: &[u8]) -> Result<&[u8], What>
     ensures { BeginsWithSlash l.now result }
 {
@@ -27,7 +25,6 @@ fn slash(l: &[u8]) -> Result<&[u8], What>
     Err(What::Slash)
 }
 
-#[tactic(auto, unfolding(crate::specs::Inner::Ends))]
 fn end(l: &[u8]) -> Result<(), What>
     ensures { Ends l.now result }
 {
@@ -38,7 +35,7 @@ fn end(l: &[u8]) -> Result<(), What>
 }
 
 // `G`, behind the word `granule`.
-#[tactic(auto, unfolding(crate::specs::Inner::BeginsWithNumber, crate::specs::Inner::Ends, crate::specs::Rows::granule_row))]
+#[tactic(auto, unfolding(crate::specs::Rows::granule_row))]
 fn granule_row(l: &[u8]) -> Result<Row, What>
     ensures { result ≡ granule_row l.now }
 {
@@ -48,7 +45,7 @@ fn granule_row(l: &[u8]) -> Result<Row, What>
 }
 
 // `CYCLE NUM/DEN`, behind the word `partition`.
-#[tactic(auto, unfolding(crate::specs::Inner::BeginsWithNumber, crate::specs::Inner::BeginsWithSlash, crate::specs::Inner::Ends, crate::specs::Rows::part_row))]
+#[tactic(auto, unfolding(crate::specs::Rows::part_row))]
 fn part_row(l: &[u8]) -> Result<Row, What>
     ensures { result ≡ part_row l.now }
 {
@@ -61,7 +58,7 @@ fn part_row(l: &[u8]) -> Result<Row, What>
 }
 
 // `PARTITION C D T`, behind the word `task`.
-#[tactic(auto, unfolding(crate::specs::Inner::BeginsWithNumber, crate::specs::Inner::Ends, crate::specs::Rows::task_row))]
+#[tactic(auto, unfolding(crate::specs::Rows::task_row))]
 fn task_row(l: &[u8]) -> Result<Row, What>
     ensures { result ≡ task_row l.now }
 {
@@ -108,7 +105,6 @@ pub fn row_of(line: &[u8]) -> Result<Row, What>
 
 // What was expected in a row that is wrong behind others; else whether a granule comes too late behind it: so it was before it,
 // or the row closes it.
-#[tactic(auto, unfolding(crate::specs::Inner::Judged))]
 pub fn closed_behind(closed: bool, row: Result<Row, What>) -> Result<bool, What>
     ensures { Judged closed row result }
 {

@@ -22,8 +22,8 @@ fn put_record(out: &mut [u16], at: usize, xs: &[u16]) -> usize
     at + xs.len()
 }
 
-// The granule that a line gives, or 1, and how many numbers the partitions and the tasks have: these are put into their tables, as
-// far as there is room.
+// The granule that a line gives, or 1, and how many numbers the partitions and the tasks have: these are put into their
+// tables, as far as there is room.
 pub fn gather(text: &[u8], parts: &mut [u16], tasks: &mut [u16]) -> Numbers
     requires { length text.now ≤ longest_text }
     ensures { (result ≡ numbers_of text.now)

@@ -17,19 +17,11 @@ use Rattle.output.specs.Decimal.{value}
 use Rattle.output.proofs.Decimal.{value-append}
 use Rattle.std.specs.Prelude.{Some, None}
 use Rattle.std.specs.Char.{is_ascii_digit}
-use Rattle.share_words.specs.Words.{solid, ends_word, no_digit, stops_at, found, width, word_of, rest_of, is_number, numeral, highest}
+use Rattle.share_words.specs.Words.{ends_word, no_digit, stops_at, found, width, is_number, numeral, highest}
 
 -- a part up to the end
 pub tail : (a : ℕ) (l : List ℕ) → take (length l - a) (drop a l) ≡ drop a l
 tail a l = take_all (length l - a) (drop a l) (simp length-drop (omega arith))
-
-pub word_is : (l : List ℕ) (a w : ℕ) → a ≡ found solid l → w ≡ width (take (length l - a) (drop a l)) → take w (take (length l - a) (drop a l)) ≡ word_of l
-unfolding word_of
-word_is l a w ea ew = let e : w ≡ width (drop a l) = rw (tail a l) at ew in rw (tail a l, ← ea, ← e)
-
-pub rest_is : (l x : List ℕ) (a w : ℕ) → x ≡ take (length l - a) (drop a l) → a ≡ found solid l → w ≡ width x → take (length x - w) (drop w x) ≡ rest_of l
-unfolding rest_of
-rest_is l x a w ex ea ew = let e : w ≡ width (drop a l) = ew ∙ ap width (ex ∙ tail a l) in rw (tail w x, ex, tail a l, ← ea, ← e)
 
 -- no word at the end
 pub width-none : (l : List ℕ) → length l < 1 → 0 ≡ width l

@@ -1,6 +1,6 @@
 // The words of a line.
 ghost use Rattle.std.specs.Prelude.{◌≡◌, ◌≤◌, ℕ, Bool, length, bytes_eq};
-ghost use Rattle.share_words.specs.Words.{blank, ends_word, found, width, word_of, ends_at, rest_of};
+ghost use Rattle.share_words.specs.Words.{blank, ends_word, found, width, trimmed, word_of, ends_at, rest_of};
 
 #[tactic(auto, unfolding(crate::specs::Words::blank))]
 fn is_blank(b: u8) -> bool
@@ -16,7 +16,7 @@ fn ends_word(b: u8) -> bool
     is_blank(b) || b == b'/'
 }
 
-// The first place at which the search stops, or the end.
+// The first place at which the search stops, or the end: every caller cuts there, so that None would only be turned back.
 pub fn find<S: Fn(u8) -> bool>(l: &[u8], stops: S) -> usize
     requires { S.IsAlwaysCallable stops }
     ensures bound { result ≤ length l.now }
@@ -44,22 +44,26 @@ fn width(l: &[u8]) -> usize
     find(l, ends_word)
 }
 
+// The line from its first word on.
+fn trimmed(l: &[u8]) -> &[u8]
+    ensures { result.now ≡ trimmed l.now }
+{
+    &l[find(l, |b| !is_blank(b))..]
+}
+
+#[tactic(auto, unfolding(crate::specs::Words::word_of))]
 pub fn first_word(l: &[u8]) -> &[u8]
     ensures { result.now ≡ word_of l.now }
 {
-    let a = find(l, |b| !is_blank(b));
-    let t = &l[a..];
-    let w = width(t);
-    &t[..w]
+    let t = trimmed(l);
+    &t[..width(t)]
 }
 
 pub fn after_word(l: &[u8]) -> &[u8]
     ensures { result.now ≡ rest_of l.now }
 {
-    let a = find(l, |b| !is_blank(b));
-    let t = &l[a..];
-    let w = width(t);
-    &t[w..]
+    let t = trimmed(l);
+    &t[width(t)..]
 }
 
 // Whether the first word is this one.

@@ -14,8 +14,8 @@ pub fn zeros<const N: usize>() -> [u8; N]
     [0; N]
 }
 
-// What was read: how many bytes, and whether that ended with a read that failed. A Result would leave out one of the two, and both are
-// wanted: what came in is planned or listed even where a read failed behind it.
+// What was read: how many bytes, and whether that ended with a read that failed. A Result would leave out one of the two, and
+// both are wanted: what came in is planned or listed even where a read failed behind it.
 #[derive(Clone, Copy)]
 pub struct Taken {
     pub count: usize,

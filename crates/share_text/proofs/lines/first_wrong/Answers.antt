@@ -1,6 +1,5 @@
 use Rattle.share_text.proofs.Order.{reached-start, reached-next, reached-row, none_wrong, some_wrong, wrong_is, closed_none, closed_more}
 use Rattle.share_line.specs.Rows.{closes, is_wrong, what_of}
-use Rattle.share_line.specs.Inner.{Judged}
 use Rattle.rules.proofs.First.{first-zero, first_more, first_found}
 use Rattle.std.proofs.Common.{◌≡◌, Err, true, false, ◌||◌, refl, rules, ◌+◌}
 use Rattle.share_text.proofs.lines.first_wrong.Goals as goal
@@ -9,7 +8,6 @@ pub loop-at-init : goal.loop-at-init
 loop-at-init c = (search rules, (0, refl, reached-start _, first-zero _, closed_none _))
 
 pub returns-in_err-closed : goal.returns-in_err-closed
-unfolding Judged
 returns-in_err-closed c =
     let i = c.loop-at.invariant.1 in
     let row = reached-row i.2 c.row_at-row.ensures in
@@ -18,7 +16,6 @@ returns-in_err-closed c =
     rw e (some_wrong _ _ _ (search rules) (first_found _ _ _ (search rules) i.3 (wrong_is _ _ row i.4 refl w)) row)
 
 pub loop-at-preserved : goal.loop-at-preserved
-unfolding Judged
 loop-at-preserved c =
     let i = c.loop-at.invariant.1 in
     let row = reached-row i.2 c.row_at-row.ensures in

@@ -1,9 +1,7 @@
-use mathlib.Core.Path.{refl}
-use borrow.Author.Rules.{rules}
-use Rattle.share_words.specs.Words.{solid}
-use Rattle.share_words.proofs.WordLaws.{rest_is}
+use Rattle.share_words.specs.Words.{rest_of}
+use Rattle.share_words.proofs.WordLaws.{tail}
 use Rattle.share_words.proofs.words.after_word.Goals as goal
 
 pub returns : goal.returns
-unfolding solid
-returns c = rest_is c.args.l.now _ c.find-a.result c.width-w.result refl (c.find-a.ensures.place solid (λ b r e. search rules)) c.width-w.ensures.1
+unfolding rest_of
+returns c = rw (tail c.width.result c.trimmed-t.result.now, c.width.ensures.1, c.trimmed-t.ensures)
