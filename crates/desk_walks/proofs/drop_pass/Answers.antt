@@ -6,6 +6,7 @@ use native.Mathlib.Omega.{arith}
 use Rattle.desk.specs.Table.{none}
 use Rattle.desk.specs.declared.Job.{Job}
 use Rattle.desk_walks.proofs.Along.{move_at, move_at_zero, move_at_more, move_at_read, move_at_end}
+use Rattle.desk_records.specs.Folds.{moved_up}
 use Rattle.desk_records.proofs.Moved.{moved_none}
 use Rattle.desk_walks.proofs.drop_pass.Goals as goal
 
@@ -16,7 +17,7 @@ moves k l i f m e h w =
     rw (w, e, move_at_read k l i g) (move_at_more k l i g)
 
 pub returns-then-k-eq0 : goal.returns-then-k-eq0
-returns-then-k-eq0 c = sym (rw (c.if-k-eq0.true) (moved_none c.args.jobs.now))
+returns-then-k-eq0 c = sym (ap (λ (k : ℕ). moved_up k c.args.jobs.now) c.if-k-eq0.true ∙ moved_none c.args.jobs.now)
 
 pub loop-from-init : goal.loop-from-init
 loop-from-init c =
