@@ -43,9 +43,10 @@ fn longest_deadline(table: &[u16], p: u16) -> usize
 }
 
 // By the lists: where task j passes.
-fn times_in(lists: &TaskLists, table: &[u16], j: usize) -> Option<Times>
-    requires { deadline table.now j ≤ longest }
-    ensures { result ≡ times_by lists.now.curve lists.now.asks table.now j }
+fn times_in(lists: &TaskLists<'_>, table: &[u16], j: usize) -> Option<Times>
+    requires { (deadline table.now j ≤ longest)
+        × (longest < length lists.now.curve.now) × (longest < length lists.now.asks.now) }
+    ensures { result ≡ times_by lists.now.curve.now lists.now.asks.now table.now j }
 {
     let c = rules::records::budget(table, j);
     let d = rules::records::deadline(table, j);
@@ -55,10 +56,11 @@ fn times_in(lists: &TaskLists, table: &[u16], j: usize) -> Option<Times>
 }
 
 // By the lists: what is found for task j, where it is of partition p, at its place.
-fn judge_task(lists: &TaskLists, table: &[u16], p: u16, j: usize, found: &mut [Option<Times>])
-    requires { (deadline table.now j ≤ longest) × (j < length found.old) }
+fn judge_task(lists: &TaskLists<'_>, table: &[u16], p: u16, j: usize, found: &mut [Option<Times>])
+    requires { (deadline table.now j ≤ longest) × (j < length found.old)
+        × (longest < length lists.now.curve.now) × (longest < length lists.now.asks.now) }
     ensures { found.new ≡ marked table.now p j
-        (times_by lists.now.curve lists.now.asks table.now j) found.old }
+        (times_by lists.now.curve.now lists.now.asks.now table.now j) found.old }
 {
     if rules::records::partition(table, j) == p {
         found[j] = times_in(lists, table, j);
@@ -74,14 +76,16 @@ fn judge_partition(rule: Rule, plan: &[u16], table: &[u16], p: u16, found: &mut 
     if d == 0 {
         return;
     }
-    let mut lists = TaskLists {
-        curve: [0; TICKS],
-        asks: [0; TICKS],
-    };
-    draw(rule, plan, usize::from(p), &mut lists.curve, d + 1);
+    let mut curve = [0; TICKS];
+    let mut asks = [0; TICKS];
+    draw(rule, plan, usize::from(p), &mut curve, d + 1);
     for j in 0..rules::records::tasks(table) {
+        let lists = TaskLists {
+            curve: &curve,
+            asks: &asks,
+        };
         judge_task(&lists, table, p, j, found);
-        ask_task(table, p, j, &mut lists.asks, d + 1);
+        ask_task(table, p, j, &mut asks, d + 1);
     }
 }
 

@@ -15,10 +15,10 @@ use rules::limits::LONGEST;
 pub const TICKS: usize = LONGEST + 1; // numbers of a list, for 0 to 4,096 ticks
 
 // The lists of a task: of so many ticks its partition's curve, and what is asked of them.
-#[derive(Drop)]
-pub struct TaskLists {
-    pub curve: [u32; TICKS],
-    pub asks: [u32; TICKS],
+#[derive(Clone, Copy)]
+pub struct TaskLists<'a> {
+    pub curve: &'a [u32],
+    pub asks: &'a [u32],
 }
 
 // A number added to those from b to e - 1.
@@ -75,20 +75,28 @@ fn ask_rivals(tasks: &[u16], i: usize, asks: &mut [u32], n: usize)
 
 // The lists for task i, up to its deadline: its partition's curve, and what the higher tasks ask. They are lent: to hand out
 // 32 kB costs ten times a short verdict.
-pub fn draw_task(rule: Rule, plan: &[u16], tasks: &[u16], i: usize, lists: &mut TaskLists)
-    requires { Judgeable tasks.now i × Zeros lists.old.asks }
-    ensures { Drawn rule plan.now tasks.now i lists.new.curve lists.new.asks }
+pub fn draw_task(
+    rule: Rule,
+    plan: &[u16],
+    tasks: &[u16],
+    i: usize,
+    curve: &mut [u32],
+    asks: &mut [u32],
+)
+    requires { Judgeable tasks.now i × Zeros asks.old
+        × (longest < length curve.old) × (longest < length asks.old) }
+    ensures { Drawn rule plan.now tasks.now i curve.new asks.new }
 {
     let n = usize::from(rules::records::deadline(tasks, i)) + 1;
     let p = usize::from(rules::records::partition(tasks, i));
-    plan_curve::draw(rule, plan, p, &mut lists.curve, n);
-    ask_rivals(tasks, i, &mut lists.asks, n);
+    plan_curve::draw(rule, plan, p, curve, n);
+    ask_rivals(tasks, i, asks, n);
 }
 
 // Whether demand(t) is at most least(t), of a task with budget c.
-pub fn fits(lists: &TaskLists, c: u16, t: usize) -> bool
-    requires { t ≤ longest }
-    ensures { result ≡ fits_at lists.now.curve lists.now.asks c t }
+pub fn fits(lists: &TaskLists<'_>, c: u16, t: usize) -> bool
+    requires { (t < length lists.now.curve.now) × (t < length lists.now.asks.now) }
+    ensures { result ≡ fits_at lists.now.curve.now lists.now.asks.now c t }
 {
     usize::from(c) + lists.asks[t] as usize <= lists.curve[t] as usize
 }

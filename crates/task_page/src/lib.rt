@@ -33,9 +33,9 @@ pub enum Paged {
 }
 
 // By the list: how many scheduling points a task with deadline d has.
-fn points_in(lists: &TaskLists, d: u16) -> usize
-    requires { d ≤ longest }
-    ensures { (result ≤ d) × (result ≡ count (point_in lists.now.asks d) (d + 1)) }
+fn points_in(lists: &TaskLists<'_>, d: u16) -> usize
+    requires { d < length lists.now.asks.now }
+    ensures { (result ≤ d) × (result ≡ count (point_in lists.now.asks.now d) (d + 1)) }
 {
     let end = usize::from(d);
     let mut n = 0;
@@ -46,20 +46,20 @@ fn points_in(lists: &TaskLists, d: u16) -> usize
 }
 
 // By the lists: what is short at t, of a task with budget c.
-fn short_in(lists: &TaskLists, c: u16, t: usize) -> usize
-    requires { t ≤ longest }
-    ensures { result ≡ short_in lists.now.curve lists.now.asks c t }
+fn short_in(lists: &TaskLists<'_>, c: u16, t: usize) -> usize
+    requires { (t < length lists.now.curve.now) × (t < length lists.now.asks.now) }
+    ensures { result ≡ short_in lists.now.curve.now lists.now.asks.now c t }
 {
     let needs = usize::from(c) + lists.asks[t] as usize;
     needs.saturating_sub(lists.curve[t] as usize)
 }
 
 // Of a point and a lower tick the tighter point: on equals the lower.
-fn tighter(lists: &TaskLists, c: u16, d: usize, t: usize, best: usize) -> usize
-    requires { (t ≤ d) × (best ≤ d) × (d ≤ longest) }
-    ensures { result ≡ pick (point_at lists.now.asks d t
-        && leb (short_in lists.now.curve lists.now.asks c t)
-        (short_in lists.now.curve lists.now.asks c best)) t best }
+fn tighter(lists: &TaskLists<'_>, c: u16, d: usize, t: usize, best: usize) -> usize
+    requires { (t ≤ d) × (best ≤ d) × (d < length lists.now.curve.now) × (d < length lists.now.asks.now) }
+    ensures { result ≡ pick (point_at lists.now.asks.now d t
+        && leb (short_in lists.now.curve.now lists.now.asks.now c t)
+        (short_in lists.now.curve.now lists.now.asks.now c best)) t best }
 {
     if point_at(lists, d, t) {
         if short_in(lists, c, t) <= short_in(lists, c, best) {
@@ -71,10 +71,10 @@ fn tighter(lists: &TaskLists, c: u16, d: usize, t: usize, best: usize) -> usize
 
 // By the lists: the scheduling point with the smallest shortage, the lowest on equals, so points are tried from the deadline
 // down.
-fn tightest_in(lists: &TaskLists, c: u16, d: u16) -> usize
-    requires { (1 ≤ d) × (d ≤ longest) }
-    ensures { (result ≤ d) × (result ≡ first_least (point_in lists.now.asks d)
-        (short_in lists.now.curve lists.now.asks c) (d + 1)) }
+fn tightest_in(lists: &TaskLists<'_>, c: u16, d: u16) -> usize
+    requires { (1 ≤ d) × (d < length lists.now.curve.now) × (d < length lists.now.asks.now) }
+    ensures { (result ≤ d) × (result ≡ first_least (point_in lists.now.asks.now d)
+        (short_in lists.now.curve.now lists.now.asks.now c) (d + 1)) }
 {
     let end = usize::from(d);
     let mut best = end;
@@ -108,12 +108,12 @@ fn put_point(
     plan: &[u16],
     tasks: &[u16],
     i: usize,
-    lists: &TaskLists,
+    lists: &TaskLists<'_>,
     t: usize,
     rows: &mut [u32],
     at: usize,
 ) -> usize
-    requires ready { Ready rule plan.now tasks.now i lists.now.curve lists.now.asks }
+    requires ready { Ready rule plan.now tasks.now i lists.now.curve.now lists.now.asks.now }
     requires in_reach { (1 ≤ t) × (t ≤ deadline tasks.now i) × (at < 2 ^ 32) }
     ensures { Put rows.old at (row_at rule plan.now tasks.now i t) result rows.new }
 {
@@ -135,10 +135,10 @@ fn put_rows(
     plan: &[u16],
     tasks: &[u16],
     i: usize,
-    lists: &TaskLists,
+    lists: &TaskLists<'_>,
     rows: &mut [u32],
 ) -> usize
-    requires { Ready rule plan.now tasks.now i lists.now.curve lists.now.asks }
+    requires { Ready rule plan.now tasks.now i lists.now.curve.now lists.now.asks.now }
     ensures { Put rows.old 0 (rows_of rule plan.now tasks.now i) result rows.new }
 {
     let d = usize::from(rules::records::deadline(tasks, i));
@@ -155,10 +155,10 @@ fn put_fail(
     plan: &[u16],
     tasks: &[u16],
     i: usize,
-    lists: &TaskLists,
+    lists: &TaskLists<'_>,
     rows: &mut [u32],
 ) -> Result<Paged, Refusal>
-    requires { Ready rule plan.now tasks.now i lists.now.curve lists.now.asks }
+    requires { Ready rule plan.now tasks.now i lists.now.curve.now lists.now.asks.now }
     ensures { (result ≡ fail_of rule plan.now tasks.now i (length rows.old))
         × (rows.new ≡ page_left result (rows_of rule plan.now tasks.now i) rows.old) }
 {
@@ -191,11 +191,13 @@ fn page_of(
         (fail_of rule plan.now tasks.now i (length rows.old)))
         × (rows.new ≡ page_left result (rows_of rule plan.now tasks.now i) rows.old) }
 {
-    let mut lists = TaskLists {
-        curve: [0; TICKS],
-        asks: [0; TICKS],
+    let mut curve = [0; TICKS];
+    let mut asks = [0; TICKS];
+    task_demand::draw_task(rule, plan, tasks, i, &mut curve, &mut asks);
+    let lists = TaskLists {
+        curve: &curve,
+        asks: &asks,
     };
-    task_demand::draw_task(rule, plan, tasks, i, &mut lists);
     let c = rules::records::budget(tasks, i);
     let d = rules::records::deadline(tasks, i);
     match task_points::point_in(&lists, c, d) {

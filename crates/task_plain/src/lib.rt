@@ -1,8 +1,7 @@
 // The plain engine, to be followed with a pencil: every tick from 1 to the deadline is tried, in turn.
 #![tactic(auto)]
 
-ghost use Rattle.std.specs.Prelude.{◌≡◌, ◌+◌, ◌≤◌};
-ghost use Rattle.rules.specs.Limits.{longest};
+ghost use Rattle.std.specs.Prelude.{◌≡◌, ◌+◌, ◌<◌, length};
 ghost use Rattle.rules.specs.Walk.{first};
 ghost use Rattle.theory.specs.Task.{task_tick};
 ghost use Rattle.rules.specs.Table.{deadline};
@@ -13,9 +12,9 @@ use rules::Rule;
 use task_demand::{TICKS, TaskLists, draw_task, earliest, fits};
 
 // By the lists: the smallest tick that holds, of a task with budget c and deadline d.
-pub fn tick_in(lists: &TaskLists, c: u16, d: u16) -> Option<usize>
-    requires { d ≤ longest }
-    ensures { result ≡ in_time d (first (tick_fits lists.now.curve lists.now.asks c) (d + 1)) }
+pub fn tick_in(lists: &TaskLists<'_>, c: u16, d: u16) -> Option<usize>
+    requires { (d < length lists.now.curve.now) × (d < length lists.now.asks.now) }
+    ensures { result ≡ in_time d (first (tick_fits lists.now.curve.now lists.now.asks.now c) (d + 1)) }
 {
     earliest(d, |t| fits(lists, c, t))
 }
@@ -25,11 +24,13 @@ pub fn first_tick(rule: Rule, plan: &[u16], tasks: &[u16], i: usize) -> Option<u
     requires { Judgeable tasks.now i }
     ensures { result ≡ in_time (deadline tasks.now i) (task_tick rule plan.now tasks.now i) }
 {
-    let mut lists = TaskLists {
-        curve: [0; TICKS],
-        asks: [0; TICKS],
+    let mut curve = [0; TICKS];
+    let mut asks = [0; TICKS];
+    draw_task(rule, plan, tasks, i, &mut curve, &mut asks);
+    let lists = TaskLists {
+        curve: &curve,
+        asks: &asks,
     };
-    draw_task(rule, plan, tasks, i, &mut lists);
     let c = rules::records::budget(tasks, i);
     let d = rules::records::deadline(tasks, i);
     tick_in(&lists, c, d)

@@ -1,8 +1,7 @@
 // The engine over scheduling points: the smallest of them that holds.
 #![tactic(auto)]
 
-ghost use Rattle.std.specs.Prelude.{◌≡◌, ◌+◌, ◌≤◌};
-ghost use Rattle.rules.specs.Limits.{longest};
+ghost use Rattle.std.specs.Prelude.{◌≡◌, ◌+◌, ◌≤◌, ◌<◌, length};
 ghost use Rattle.rules.specs.Walk.{first};
 ghost use Rattle.theory.specs.Task.{task_point};
 ghost use Rattle.rules.specs.Table.{deadline};
@@ -14,9 +13,9 @@ use task_demand::{TICKS, TaskLists, draw_task, earliest, fits};
 
 // Whether t is a scheduling point, of a task with deadline d: t is d itself, or a multiple of a higher task's period. Behind
 // these alone more is asked.
-pub fn point_at(lists: &TaskLists, d: usize, t: usize) -> bool
-    requires { (t ≤ d) × (d ≤ longest) }
-    ensures { result ≡ point_at lists.now.asks d t }
+pub fn point_at(lists: &TaskLists<'_>, d: usize, t: usize) -> bool
+    requires { (t ≤ d) × (d < length lists.now.asks.now) }
+    ensures { result ≡ point_at lists.now.asks.now d t }
 {
     if t == d {
         return true;
@@ -25,17 +24,17 @@ pub fn point_at(lists: &TaskLists, d: usize, t: usize) -> bool
 }
 
 // Whether t is a scheduling point, and holds; few ticks hold, so that is looked at first.
-fn point_fits(lists: &TaskLists, c: u16, d: usize, t: usize) -> bool
-    requires { (1 ≤ t) × (t ≤ d) × (d ≤ longest) }
-    ensures { result ≡ point_fits lists.now.curve lists.now.asks c d t }
+fn point_fits(lists: &TaskLists<'_>, c: u16, d: usize, t: usize) -> bool
+    requires { (1 ≤ t) × (t ≤ d) × (d < length lists.now.curve.now) × (d < length lists.now.asks.now) }
+    ensures { result ≡ point_fits lists.now.curve.now lists.now.asks.now c d t }
 {
     fits(lists, c, t) && point_at(lists, d, t)
 }
 
 // By the lists: the smallest scheduling point that holds, of a task with budget c and deadline d.
-pub fn point_in(lists: &TaskLists, c: u16, d: u16) -> Option<usize>
-    requires { d ≤ longest }
-    ensures { result ≡ in_time d (first (point_fits lists.now.curve lists.now.asks c d) (d + 1)) }
+pub fn point_in(lists: &TaskLists<'_>, c: u16, d: u16) -> Option<usize>
+    requires { (d < length lists.now.curve.now) × (d < length lists.now.asks.now) }
+    ensures { result ≡ in_time d (first (point_fits lists.now.curve.now lists.now.asks.now c d) (d + 1)) }
 {
     earliest(d, |t| point_fits(lists, c, usize::from(d), t))
 }
@@ -45,11 +44,13 @@ pub fn first_point(rule: Rule, plan: &[u16], tasks: &[u16], i: usize) -> Option<
     requires { Judgeable tasks.now i }
     ensures { result ≡ in_time (deadline tasks.now i) (task_point rule plan.now tasks.now i) }
 {
-    let mut lists = TaskLists {
-        curve: [0; TICKS],
-        asks: [0; TICKS],
+    let mut curve = [0; TICKS];
+    let mut asks = [0; TICKS];
+    draw_task(rule, plan, tasks, i, &mut curve, &mut asks);
+    let lists = TaskLists {
+        curve: &curve,
+        asks: &asks,
     };
-    draw_task(rule, plan, tasks, i, &mut lists);
     let c = rules::records::budget(tasks, i);
     let d = rules::records::deadline(tasks, i);
     point_in(&lists, c, d)

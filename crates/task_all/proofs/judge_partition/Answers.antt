@@ -18,7 +18,7 @@ pub draw-requires : goal.draw-requires
 draw-requires c = let l = longest-short _ c.requires.0 _ _ c.longest_deadline-d.ensures in (omega (arith, l), search (rules, l))
 
 pub loop-j-init : goal.loop-j-init
-loop-j-init c = (refl, refl, refl, asked-none _ _ _ _ (zeros-all (longest + 1)), λ rule w. found-none _ _)
+loop-j-init c = (refl, refl, asked-none _ _ _ _ (zeros-all (longest + 1)), λ rule w. found-none _ _)
 
 pub overflow_add-d-in-loop-j : goal.overflow_add-d-in-loop-j
 overflow_add-d-in-loop-j c = omega (arith, longest-short _ c.requires.0 _ _ c.longest_deadline-d.ensures)
@@ -30,8 +30,8 @@ ask_task-requires c = let l = c.loop-j in
       pre.0.in_order _ (search rules),
       omega arith,
       omega (arith, d),
-      search (rules, d, l.invariant.1),
-      asked-small _ _ _ _ _ _ (search (rules, pre.0.few)) (omega (arith, d)) (λ k h. pre.0.in_order k (search rules)) (zeros-all (longest + 1)) l.invariant.3,
+      search (rules, d, l.invariant.0),
+      asked-small _ _ _ _ _ _ (search (rules, pre.0.few)) (omega (arith, d)) (λ k h. pre.0.in_order k (search rules)) (zeros-all (longest + 1)) l.invariant.2,
     )
 
 pub loop-j-preserved : goal.loop-j-preserved
@@ -39,16 +39,15 @@ loop-j-preserved c = let l = c.loop-j in
     let pre = c.requires in
     let e = c.longest_deadline-d.ensures in
     let d = longest-short _ pre.0 _ _ e in (
-      l.invariant.0,
-      c.ask_task.ensures.as_long ∙ l.invariant.1,
-      mark-long _ _ _ _ _ _ c.judge_task.ensures ∙ l.invariant.2,
-      asked_more _ _ _ _ _ _ _ l.invariant.3 c.ask_task.ensures,
+      c.ask_task.ensures.as_long ∙ l.invariant.0,
+      mark-long _ _ _ _ _ _ c.judge_task.ensures ∙ l.invariant.1,
+      asked_more _ _ _ _ _ _ _ l.invariant.2 c.ask_task.ensures,
       λ rule w.
-          let drawn = drawn_in _ pre.0 rule _ _ _ _ _ _ _ (search rules) e (rw l.invariant.0 (search (rules, d, c.draw.ensures.as_long))) (search (rules, d)) w l.invariant.3 in
-          mark-turn _ _ _ _ _ _ _ _ (l.invariant.4 rule w) (search rules) c.judge_task.ensures (λ z. times_are rule _ _ _ _ _ (judgeable_in _ pre.0 _ (search rules)) (drawn z)),
+          let drawn = drawn_in _ pre.0 rule _ _ _ _ _ _ _ (search rules) e (search (rules, d, c.draw.ensures.as_long)) (search (rules, d)) w l.invariant.2 in
+          mark-turn _ _ _ _ _ _ _ _ (l.invariant.3 rule w) (search rules) c.judge_task.ensures (λ z. times_are rule _ _ _ _ _ (judgeable_in _ pre.0 _ (search rules)) (drawn z)),
     )
 
 pub returns : goal.returns
 returns c = let l = c.loop-j in
     let w = named_self _ _ _ _ (rw c.from.ensures at c.draw.ensures) in
-    found-end _ _ _ _ _ (search rules) (search rules) (l.invariant.4 _ (rw l.invariant.0 w))
+    found-end _ _ _ _ _ (search rules) (search rules) (l.invariant.3 _ w)

@@ -9,9 +9,8 @@ use Rattle.task_all.specs.Inner.{times_of, FoundAs, judged_in}
 use Rattle.task_all.proofs.judge_partition.Given as goal
 
 abbrev pub invariant-loop-j : goal.invariant-loop-j
-invariant-loop-j l = (l.lists.curve ≡ l.initial.lists.curve)
-    × (length l.lists.asks ≡ length l.initial.lists.asks)
+invariant-loop-j l = (length l.asks ≡ length l.initial.asks)
     × (length l.found ≡ length l.initial.found)
-    × AsNamed (all_asked l.table l.p l.j) (l.d + 1) l.initial.lists.asks l.lists.asks
-    × ((rule : Rule) → AsNamed (least rule l.plan l.p) (l.d + 1) l.lists.curve l.lists.curve
+    × AsNamed (all_asked l.table l.p l.j) (l.d + 1) l.initial.asks l.asks
+    × ((rule : Rule) → AsNamed (least rule l.plan l.p) (l.d + 1) l.curve l.curve
     → FoundAs (judged_in l.table l.p (times_of rule l.plan l.table) l.initial.found) l.j l.initial.found l.found)

@@ -8,7 +8,7 @@ use Rattle.task_page.proofs.Fails.{paged_pass, paged_fail}
 use Rattle.task_page.proofs.page_of.Goals as goal
 
 pub draw_task-requires : goal.draw_task-requires
-draw_task-requires c = (search rules, zeros-all (longest + 1))
+draw_task-requires c = (search rules, zeros-all (longest + 1), search rules, search rules)
 
 pub returns-in-Some : goal.returns-in-Some
 returns-in-Some c = let t = point_is _ _ _ _ _ _ c.requires.1 c.draw_task.ensures _ _ c.budget-c.ensures c.deadline-d.ensures in

@@ -11,4 +11,4 @@ earliest-requires c = λ t one l. search rules
 
 pub returns : goal.returns
 returns c = let a = c.args in
-    earliest_is (tick_fits a.lists.now.curve a.lists.now.asks a.c) (no_tick_0 _ _ _) _ _ _ c.earliest.ensures (λ t b one l p. tick_fits_lem _ _ _ _ _ one (search rules))
+    earliest_is (tick_fits a.lists.now.curve.now a.lists.now.asks.now a.c) (no_tick_0 _ _ _) _ _ _ c.earliest.ensures (λ t b one l p. tick_fits_lem _ _ _ _ _ one (search rules))

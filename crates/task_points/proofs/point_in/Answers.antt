@@ -11,4 +11,4 @@ earliest-requires c = λ t one l. search rules
 
 pub returns : goal.returns
 returns c = let a = c.args in
-    earliest_is (point_fits a.lists.now.curve a.lists.now.asks a.c a.d) (no_point_0 _ _ _ _) _ _ _ c.earliest.ensures (λ t b one l p. search rules)
+    earliest_is (point_fits a.lists.now.curve.now a.lists.now.asks.now a.c a.d) (no_point_0 _ _ _ _) _ _ _ c.earliest.ensures (λ t b one l p. search rules)
