@@ -6,15 +6,15 @@ use borrow.Author.Rules.{rules}
 use Rattle.why_page.proofs.put_paged.Goals as goal
 
 pub put_passing-requires : goal.put_passing-requires
-put_passing-requires c = let e = sym c.requires.answer ∙ ap Ok c.in-Pass.is in ((pass_answered _ _ _ _ _ _ _ e).from_1, pass_reach _ _ _ _ _ _ _ e)
+put_passing-requires c = let e = sym c.requires.0.answer ∙ ap Ok c.in-Pass.is in ((pass_answered _ _ _ _ _ _ _ e).from_1, pass_reach _ _ _ _ _ _ _ e, search rules)
 
 pub put_failing-requires : goal.put_failing-requires
-put_failing-requires c = let e = sym c.requires.answer ∙ ap Ok c.in-Fail.is in ((fail_answered _ _ _ _ _ _ _ _ _ e).from_1, rw c.rule_of-rule.ensures (rowed _ _ _ _ _ _ _ _ _ (rw c.in-Fail.is at c.requires)))
+put_failing-requires c = let e = sym c.requires.0.answer ∙ ap Ok c.in-Fail.is in ((fail_answered _ _ _ _ _ _ _ _ _ e).from_1, rw c.rule_of-rule.ensures (rowed _ _ _ _ _ _ _ _ _ (rw c.in-Fail.is at c.requires.0)), search rules)
 
-pub returns-in-Pass : goal.returns-in-Pass
+pub returns-in-Pass-clause-put : goal.returns-in-Pass-clause-put
 unfolding tables_text
-returns-in-Pass c = (rw (← c.requires.answer, c.in-Pass.is) (rw c.rule_of-rule.ensures at c.put_passing.ensures.0), search rules)
+returns-in-Pass-clause-put c = rw (← c.requires.0.answer, c.in-Pass.is) (rw c.rule_of-rule.ensures at c.put_passing.ensures.put)
 
-pub returns-in-Fail : goal.returns-in-Fail
+pub returns-in-Fail-clause-put : goal.returns-in-Fail-clause-put
 unfolding tables_text
-returns-in-Fail c = (rw (← c.requires.answer, c.in-Fail.is) (rw c.rule_of-rule.ensures at c.put_failing.ensures.0), search rules)
+returns-in-Fail-clause-put c = rw (← c.requires.0.answer, c.in-Fail.is) (rw c.rule_of-rule.ensures at c.put_failing.ensures.put)

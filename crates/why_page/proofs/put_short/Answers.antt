@@ -9,6 +9,6 @@ worst_start-start-requires c = let t = in_lists c.requires.0 in (search rules, r
 pub put_short-requires : goal.put_short-requires
 put_short-requires c = let s = c.size_at-size.ensures in let t = in_lists c.requires.0 in let f = c.requires.0.few_ticks in (search rules, search rules, s.needs_small, s.has_small, search rules)
 
-pub returns : goal.returns
+pub returns-clause-put : goal.returns-clause-put
 unfolding short_of
-returns c = let s = c.size_at-size.ensures in let z = rw (c.from-p.ensures, c.partition.ensures) at c.worst_start-start.ensures.1 in (rw (s.needs_is, s.has_is, z) at c.put_short.ensures.0, search rules)
+returns-clause-put c = let s = c.size_at-size.ensures in let z = rw (c.from-p.ensures, c.partition.ensures) at c.worst_start-start.ensures.1 in rw (s.needs_is, s.has_is, z) at c.put_short.ensures.put
