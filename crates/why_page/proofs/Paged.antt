@@ -5,7 +5,7 @@ use mathlib.Core.List.{List}
 use native.Mathlib.Omega.{arith}
 use lib.ListN.{length, drop}
 use Rattle.rules.specs.Limits.{row_width}
-use Rattle.rules.specs.Table.{partitions, tasks, deadline}
+use Rattle.rules.specs.Table.{partitions, deadline}
 use Rattle.rules.specs.Terms.{filed, rule_of, rule_in}
 use Rattle.rules.specs.declared.Rule.{Rule}
 use Rattle.rules.specs.declared.Terms.{Terms}

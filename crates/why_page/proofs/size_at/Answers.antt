@@ -1,5 +1,4 @@
 use mathlib.Core.Path.{refl}
-use Prim.Native.Nat.{◌+◌}
 use Rattle.why_page.proofs.Lines.{sized}
 use borrow.Author.Rules.{rules}
 use Rattle.why_page.proofs.size_at.Goals as goal
