@@ -4,15 +4,14 @@
 ghost use Rattle.std.specs.Prelude.{◌≡◌, ◌+◌, ◌-◌, ◌*◌, ◌^◌, ◌≤◌, ◌<◌, length, Ok};
 ghost use Rattle.rules.specs.Limits.{longest, longest_line, longest_why};
 ghost use Rattle.rules.specs.Walk.{gathered};
+ghost use Rattle.rules.specs.Table.{partition};
+ghost use Rattle.rules.specs.Terms.{rule_of};
 ghost use Rattle.output.specs.Put.{Put};
-ghost use Rattle.file_runs.specs.Ticks.{ticks_of};
-ghost use Rattle.file_runs.specs.Inner.{Framed};
 ghost use Rattle.why_page.specs.Why.{line_of, spare_of, short_of, pass_text, fail_text, most_numbers, tables_text, why_of, place_asked};
 ghost use Rattle.why_page.specs.Inner.{InReach, Sized, Rowed, PagedSo};
 
 use file_read::load::load_file;
 use output::Output;
-use rules::Rule;
 use rules::limits::{
     LONGEST, PART_NUMBERS, PART_WIDTH, ROW_WIDTH, RUN_NUMBERS, RUN_WIDTH, TASK_NUMBERS, TASK_WIDTH,
 };
@@ -49,6 +48,24 @@ fn put_lines(out: &mut Output<'_, u8>, rows: &[u32], n: usize, tightest: usize)
     }
 }
 
+// A task of an accepted file: the file's edition, its plan and tables, and the task's place in them, from 1.
+#[derive(Clone, Copy)]
+struct Task<'a> {
+    edition: usize,
+    plan: &'a [u16],
+    parts: &'a [u16],
+    table: &'a [u16],
+    place: usize,
+}
+
+// The partition that the task is in.
+fn partition_of(task: Task<'_>) -> usize
+    requires { 1 ≤ task.place }
+    ensures { result ≡ partition task.entry.table.now (task.entry.place - 1) }
+{
+    usize::from(rules::records::partition(task.table, task.place - 1))
+}
+
 // What a task needs of some ticks, and what it can be sure of.
 #[derive(Clone, Copy)]
 struct Size {
@@ -56,149 +73,95 @@ struct Size {
     has: usize,
 }
 
-fn size_at(rule: Rule, plan: &[u16], table: &[u16], i: usize, t: usize) -> Size
-    requires { InReach plan.now table.now i t }
-    ensures { Sized rule plan.now table.now i t result.needs result.has }
+fn size_at(task: Task<'_>, t: usize) -> Size
+    requires { (1 ≤ task.place) × InReach task.plan.now task.table.now (task.place - 1) t }
+    ensures { Sized (rule_of task.entry.edition) task.entry.plan.now task.entry.table.now (task.entry.place - 1) t result.needs result.has }
 {
-    let lists = task_demand::draw_task(rule, plan, table, i);
-    let needs = usize::from(rules::records::budget(table, i)) + lists.asks[t] as usize;
+    let i = task.place - 1;
+    let rule = rules::rule_of(task.edition);
+    let lists = task_demand::draw_task(rule, task.plan, task.table, i);
+    let needs = usize::from(rules::records::budget(task.table, i)) + lists.asks[t] as usize;
     let has = lists.curve[t] as usize;
     Size { needs, has }
 }
 
 // The sentence about a task that passes at a point.
-fn put_spare(out: &mut Output<'_, u8>, rule: Rule, plan: &[u16], table: &[u16], i: usize, t: usize)
-    requires { InReach plan.now table.now i t × (out.old.at < 2 ^ 40) }
+fn put_spare(out: &mut Output<'_, u8>, task: Task<'_>, t: usize)
+    requires { (1 ≤ task.place) × InReach task.plan.now task.table.now (task.place - 1) t × (out.old.at < 2 ^ 40) }
     ensures same_reference { out.new.lent.ghost_name ≡ out.old.lent.ghost_name }
-    ensures put { Put out.old.lent.now out.old.at (spare_of rule plan.now table.now i t) out.new.at out.new.lent.now }
+    ensures put { Put out.old.lent.now out.old.at (spare_of (rule_of task.entry.edition) task.entry.plan.now task.entry.table.now (task.entry.place - 1) t) out.new.at out.new.lent.now }
     ensures short { out.new.at ≤ out.old.at + longest_line }
 {
-    let size = size_at(rule, plan, table, i, t);
+    let size = size_at(task, t);
     why_lines::put_spare(out, t, size.needs, size.has);
 }
 
 // The sentence about a task that fails, its tightest point being t.
-fn put_short(out: &mut Output<'_, u8>, rule: Rule, plan: &[u16], table: &[u16], i: usize, t: usize)
-    requires { InReach plan.now table.now i t × (out.old.at < 2 ^ 40) }
+fn put_short(out: &mut Output<'_, u8>, task: Task<'_>, t: usize)
+    requires { (1 ≤ task.place) × InReach task.plan.now task.table.now (task.place - 1) t × (out.old.at < 2 ^ 40) }
     ensures same_reference { out.new.lent.ghost_name ≡ out.old.lent.ghost_name }
-    ensures put { Put out.old.lent.now out.old.at (short_of rule plan.now table.now i t) out.new.at out.new.lent.now }
+    ensures put { Put out.old.lent.now out.old.at (short_of (rule_of task.entry.edition) task.entry.plan.now task.entry.table.now (task.entry.place - 1) t) out.new.at out.new.lent.now }
     ensures short { out.new.at ≤ out.old.at + longest_line }
 {
-    let size = size_at(rule, plan, table, i, t);
-    let p = usize::from(rules::records::partition(table, i));
-    let start = plan_service::worst_start(rule, plan, p, t, size.has);
+    let size = size_at(task, t);
+    let rule = rules::rule_of(task.edition);
+    let start = plan_service::worst_start(rule, task.plan, partition_of(task), t, size.has);
     why_lines::put_short(out, t, size.needs, size.has, start);
 }
 
-fn put_passing(
-    out: &mut Output<'_, u8>,
-    rule: Rule,
-    plan: &[u16],
-    table: &[u16],
-    place: usize,
-    point: usize,
-)
-    requires { (1 ≤ place) × InReach plan.now table.now (place - 1) point × (out.old.at < 2 ^ 32) }
+fn put_passing(out: &mut Output<'_, u8>, task: Task<'_>, point: usize)
+    requires { (1 ≤ task.place) × InReach task.plan.now task.table.now (task.place - 1) point × (out.old.at < 2 ^ 32) }
     ensures same_reference { out.new.lent.ghost_name ≡ out.old.lent.ghost_name }
-    ensures put { Put out.old.lent.now out.old.at (pass_text rule plan.now table.now place point) out.new.at out.new.lent.now }
+    ensures put { Put out.old.lent.now out.old.at (pass_text (rule_of task.entry.edition) task.entry.plan.now task.entry.table.now task.entry.place point) out.new.at out.new.lent.now }
     ensures short { out.new.at ≤ out.old.at + longest_why }
 {
-    let i = place - 1;
-    let partition = usize::from(rules::records::partition(table, i));
-    why_lines::put_passes(out, place, partition);
-    put_spare(out, rule, plan, table, i, point);
+    why_lines::put_passes(out, task.place, partition_of(task));
+    put_spare(out, task, point);
 }
 
-fn put_failing(
-    out: &mut Output<'_, u8>,
-    rule: Rule,
-    plan: &[u16],
-    table: &[u16],
-    place: usize,
-    rows: &[u32],
-    n: usize,
-    tightest: usize,
-)
-    requires { (1 ≤ place) × Rowed rule plan.now table.now (place - 1) rows.now n tightest × (out.old.at < 2 ^ 32) }
+fn put_failing(out: &mut Output<'_, u8>, task: Task<'_>, rows: &[u32], n: usize, tightest: usize)
+    requires { (1 ≤ task.place) × Rowed (rule_of task.edition) task.plan.now task.table.now (task.place - 1) rows.now n tightest × (out.old.at < 2 ^ 32) }
     ensures same_reference { out.new.lent.ghost_name ≡ out.old.lent.ghost_name }
-    ensures put { Put out.old.lent.now out.old.at (fail_text rule plan.now table.now place) out.new.at out.new.lent.now }
+    ensures put { Put out.old.lent.now out.old.at (fail_text (rule_of task.entry.edition) task.entry.plan.now task.entry.table.now task.entry.place) out.new.at out.new.lent.now }
     ensures short { out.new.at ≤ out.old.at + longest_why }
 {
-    let i = place - 1;
-    let partition = usize::from(rules::records::partition(table, i));
-    why_lines::put_fails(out, place, partition);
+    why_lines::put_fails(out, task.place, partition_of(task));
     why_lines::put_names(out);
     put_lines(out, rows, n, tightest);
-    put_short(out, rule, plan, table, i, tightest);
+    put_short(out, task, tightest);
 }
 
 // What the page says of the task, as text; a fail left its rows.
-fn put_paged(
-    out: &mut Output<'_, u8>,
-    edition: usize,
-    plan: &[u16],
-    parts: &[u16],
-    table: &[u16],
-    place: usize,
-    rows: &[u32],
-    paged: Paged,
-)
-    requires { PagedSo edition plan.now parts.now table.now place rows.now (Ok paged) × (out.old.at < 2 ^ 32) }
+fn put_paged(out: &mut Output<'_, u8>, task: Task<'_>, rows: &[u32], paged: Paged)
+    requires { PagedSo task.edition task.plan.now task.parts.now task.table.now task.place rows.now (Ok paged) × (out.old.at < 2 ^ 32) }
     ensures same_reference { out.new.lent.ghost_name ≡ out.old.lent.ghost_name }
-    ensures put { Put out.old.lent.now out.old.at (tables_text edition plan.now parts.now table.now place) out.new.at out.new.lent.now }
+    ensures put { Put out.old.lent.now out.old.at (tables_text task.entry.edition task.entry.plan.now task.entry.parts.now task.entry.table.now task.entry.place) out.new.at out.new.lent.now }
     ensures short { out.new.at ≤ out.old.at + longest_why }
 {
-    let rule = rules::rule_of(edition);
     match paged {
-        Paged::Pass(point) => put_passing(out, rule, plan, table, place, point),
+        Paged::Pass(point) => put_passing(out, task, point),
         Paged::Fail {
             rows: n,
             tightest,
             shortage: _,
-        } => put_failing(out, rule, plan, table, place, rows, n, tightest),
+        } => put_failing(out, task, rows, n, tightest),
     }
 }
 
-// Of the tables of an accepted file and its plan.
-fn put_page(
-    out: &mut Output<'_, u8>,
-    edition: usize,
-    plan: &[u16],
-    parts: &[u16],
-    table: &[u16],
-    place: usize,
-)
+fn put_page(out: &mut Output<'_, u8>, task: Task<'_>)
     requires { out.old.at < 2 ^ 32 }
     ensures same_reference { out.new.lent.ghost_name ≡ out.old.lent.ghost_name }
-    ensures put { Put out.old.lent.now out.old.at (tables_text edition plan.now parts.now table.now place) out.new.at out.new.lent.now }
+    ensures put { Put out.old.lent.now out.old.at (tables_text task.entry.edition task.entry.plan.now task.entry.parts.now task.entry.table.now task.entry.place) out.new.at out.new.lent.now }
     ensures short { out.new.at ≤ out.old.at + longest_why }
 {
     let mut rows = [0u32; MOST_NUMBERS];
-    let terms = rules::filed(edition);
-    match task_page::page(terms, plan, parts, table, place, &mut rows) {
-        Ok(paged) => put_paged(out, edition, plan, parts, table, place, &rows, paged),
+    let terms = rules::filed(task.edition);
+    match task_page::page(
+        terms, task.plan, task.parts, task.table, task.place, &mut rows,
+    ) {
+        Ok(paged) => put_paged(out, task, &rows, paged),
         Err(r) => out.put_refusal(r),
     }
-}
-
-// The tables of an accepted file: its runs as ticks.
-fn put_tables(
-    out: &mut Output<'_, u8>,
-    edition: usize,
-    frame: usize,
-    parts: &[u16],
-    table: &[u16],
-    runs: &[u16],
-    place: usize,
-)
-    requires { Framed frame runs.now × (out.old.at < 2 ^ 32) }
-    ensures same_reference { out.new.lent.ghost_name ≡ out.old.lent.ghost_name }
-    ensures put { Put out.old.lent.now out.old.at (tables_text edition (ticks_of runs.now) parts.now table.now place) out.new.at out.new.lent.now }
-    ensures short { out.new.at ≤ out.old.at + longest_why }
-{
-    let mut plan = [0u16; LONGEST];
-    file_runs::ticks_of(runs, &mut plan);
-    put_page(out, edition, &plan[..frame], parts, table, place);
 }
 
 // Of a file's bytes.
@@ -213,18 +176,16 @@ fn put_file(out: &mut Output<'_, u8>, file: &[u8], place: usize)
     let mut runs = [0u16; RUN_NUMBERS];
     match load_file(file, &mut parts, &mut tasks, &mut runs) {
         Ok(c) => {
-            let p = PART_WIDTH * c.partitions;
-            let t = TASK_WIDTH * c.tasks;
-            let r = RUN_WIDTH * c.runs;
-            put_tables(
-                out,
-                c.edition,
-                c.frame,
-                &parts[..p],
-                &tasks[..t],
-                &runs[..r],
+            let mut plan = [0u16; LONGEST];
+            file_runs::ticks_of(&runs[..RUN_WIDTH * c.runs], &mut plan);
+            let task = Task {
+                edition: c.edition,
+                plan: &plan[..c.frame],
+                parts: &parts[..PART_WIDTH * c.partitions],
+                table: &tasks[..TASK_WIDTH * c.tasks],
                 place,
-            );
+            };
+            put_page(out, task);
         }
         Err(r) => out.put_refusal(r),
     }

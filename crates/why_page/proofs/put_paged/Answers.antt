@@ -9,12 +9,12 @@ pub put_passing-requires : goal.put_passing-requires
 put_passing-requires c = let e = sym c.requires.0.answer ∙ ap Ok c.in-Pass.is in ((pass_answered _ _ _ _ _ _ _ e).from_1, pass_reach _ _ _ _ _ _ _ e, search rules)
 
 pub put_failing-requires : goal.put_failing-requires
-put_failing-requires c = let e = sym c.requires.0.answer ∙ ap Ok c.in-Fail.is in ((fail_answered _ _ _ _ _ _ _ _ _ e).from_1, rw c.rule_of-rule.ensures (rowed _ _ _ _ _ _ _ _ _ (rw c.in-Fail.is at c.requires.0)), search rules)
+put_failing-requires c = let e = sym c.requires.0.answer ∙ ap Ok c.in-Fail.is in ((fail_answered _ _ _ _ _ _ _ _ _ e).from_1, rowed _ _ _ _ _ _ _ _ _ (rw c.in-Fail.is at c.requires.0), search rules)
 
 pub returns-in-Pass-clause-put : goal.returns-in-Pass-clause-put
 unfolding tables_text
-returns-in-Pass-clause-put c = rw (← c.requires.0.answer, c.in-Pass.is) (rw c.rule_of-rule.ensures at c.put_passing.ensures.put)
+returns-in-Pass-clause-put c = rw (← c.requires.0.answer, c.in-Pass.is) c.put_passing.ensures.put
 
 pub returns-in-Fail-clause-put : goal.returns-in-Fail-clause-put
 unfolding tables_text
-returns-in-Fail-clause-put c = rw (← c.requires.0.answer, c.in-Fail.is) (rw c.rule_of-rule.ensures at c.put_failing.ensures.put)
+returns-in-Fail-clause-put c = rw (← c.requires.0.answer, c.in-Fail.is) c.put_failing.ensures.put

@@ -1,8 +1,0 @@
-use Prim.Native.Nat.{ℕ}
-use lib.ListN.{replicate, length-replicate}
-use Rattle.rules.specs.Limits.{longest}
-use Rattle.file_runs.proofs.Loaded.{ticks-held}
-use Rattle.why_page.proofs.put_tables.Goals as goal
-
-pub returns-clause-put : goal.returns-clause-put
-returns-clause-put c = rw (← ticks-held c.args.frame c.args.runs.now (replicate longest 0) _ _ c.requires.0 (length-replicate {A = ℕ} longest 0) c.ticks_of.ensures) c.put_page.ensures.put
