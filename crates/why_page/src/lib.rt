@@ -143,7 +143,7 @@ fn put_paged(out: &mut Output<'_, u8>, task: Task<'_>, rows: &[u32], paged: Page
         Paged::Fail {
             rows: n,
             tightest,
-            shortage: _,
+            ..
         } => put_failing(out, task, rows, n, tightest),
     }
 }
