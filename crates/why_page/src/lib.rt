@@ -148,6 +148,7 @@ fn put_paged(out: &mut Output<'_, u8>, task: Task<'_>, rows: &[u32], paged: Page
     }
 }
 
+#[tactic(auto, unfolding(crate::specs::Why::tables_text))]
 fn put_page(out: &mut Output<'_, u8>, task: Task<'_>)
     requires { out.old.at < 2 ^ 32 }
     ensures same_reference { out.new.lent.ghost_name ≡ out.old.lent.ghost_name }
@@ -165,6 +166,7 @@ fn put_page(out: &mut Output<'_, u8>, task: Task<'_>)
 }
 
 // Of a file's bytes.
+#[tactic(auto, unfolding(crate::specs::Why::why_of))]
 fn put_file(out: &mut Output<'_, u8>, file: &[u8], place: usize)
     requires { out.old.at < 2 ^ 32 }
     ensures same_reference { out.new.lent.ghost_name ≡ out.old.lent.ghost_name }
@@ -204,6 +206,7 @@ pub fn compose(file: &[u8], place: usize, out: &mut [u8]) -> usize
 
 // The place that a program is asked for, of so many words with its own name, `word` being the one behind that: 0, which is
 // no task's, where it is no number or not the only one.
+#[tactic(auto, unfolding(crate::specs::Why::place_asked))]
 pub fn place_asked(words: usize, word: &[u8]) -> usize
     ensures { result ≡ place_asked words word.now }
 {

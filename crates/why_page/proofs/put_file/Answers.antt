@@ -9,10 +9,6 @@ use Rattle.file_runs.proofs.Loaded.{ticks-held, framed, parts_held, tasks_held, 
 use Rattle.why_page.proofs.Paged.{text_of}
 use Rattle.why_page.proofs.put_file.Goals as goal
 
-pub returns-in-Err-clause-put : goal.returns-in-Err-clause-put
-unfolding why_of
-returns-in-Err-clause-put c = rw (← c.load_file.ensures.value, c.in-Err.is) c.put_refusal.ensures.put
-
 pub returns-in-Ok-clause-put : goal.returns-in-Ok-clause-put
 returns-in-Ok-clause-put c =
     let e : read_of c.args.file.now ≡ Ok c.in-Ok.c = sym c.load_file.ensures.value ∙ c.in-Ok.is in
