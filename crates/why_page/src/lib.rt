@@ -22,6 +22,7 @@ use task_page::Paged;
 const MOST_NUMBERS: usize = ROW_WIDTH * LONGEST;
 
 // The line of a row.
+#[tactic(auto, using(crate::proofs::Lines::line_is))]
 fn put_line(out: &mut Output<'_, u8>, rows: &[u32], k: usize, tightest: usize)
     requires { (k < longest) × (out.old.at < 2 ^ 40) × (length rows.now ≡ most_numbers) }
     ensures same_reference { out.new.lent.ghost_name ≡ out.old.lent.ghost_name }
@@ -86,6 +87,7 @@ fn size_at(task: Task<'_>, t: usize) -> Size
 }
 
 // The sentence about a task that passes at a point.
+#[tactic(auto, unfolding(crate::specs::Why::spare_of))]
 fn put_spare(out: &mut Output<'_, u8>, task: Task<'_>, t: usize)
     requires { (1 ≤ task.place) × InReach task.plan.now task.table.now (task.place - 1) t × (out.old.at < 2 ^ 40) }
     ensures same_reference { out.new.lent.ghost_name ≡ out.old.lent.ghost_name }
@@ -97,6 +99,7 @@ fn put_spare(out: &mut Output<'_, u8>, task: Task<'_>, t: usize)
 }
 
 // The sentence about a task that fails, its tightest point being t.
+#[tactic(auto, using(crate::proofs::Lines::in_lists), unfolding(crate::specs::Why::short_of))]
 fn put_short(out: &mut Output<'_, u8>, task: Task<'_>, t: usize)
     requires { (1 ≤ task.place) × InReach task.plan.now task.table.now (task.place - 1) t × (out.old.at < 2 ^ 40) }
     ensures same_reference { out.new.lent.ghost_name ≡ out.old.lent.ghost_name }
@@ -132,6 +135,7 @@ fn put_failing(out: &mut Output<'_, u8>, task: Task<'_>, rows: &[u32], n: usize,
 }
 
 // What the page says of the task, as text; a fail left its rows.
+#[tactic(auto, unfolding(crate::specs::Why::tables_text))]
 fn put_paged(out: &mut Output<'_, u8>, task: Task<'_>, rows: &[u32], paged: Paged)
     requires { PagedSo task.edition task.plan.now task.parts.now task.table.now task.place rows.now (Ok paged) × (out.old.at < 2 ^ 32) }
     ensures same_reference { out.new.lent.ghost_name ≡ out.old.lent.ghost_name }

@@ -4,7 +4,6 @@ use lib.ListN.{replicate, length-replicate}
 use Rattle.std.proofs.Common.{Ok}
 use Rattle.rules.specs.Limits.{longest}
 use Rattle.file_read.specs.Reader.{read_of}
-use Rattle.why_page.specs.Why.{why_of}
 use Rattle.file_runs.proofs.Loaded.{ticks-held, framed, parts_held, tasks_held, runs_held}
 use Rattle.why_page.proofs.Paged.{text_of}
 use Rattle.why_page.proofs.put_file.Goals as goal

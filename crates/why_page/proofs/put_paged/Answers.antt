@@ -1,7 +1,6 @@
 use mathlib.Core.Path.{sym, ap, ◌∙◌}
 use Rattle.std.specs.Prelude.{Ok}
 use Rattle.why_page.proofs.Paged.{pass_answered, pass_reach, fail_answered, rowed}
-use Rattle.why_page.specs.Why.{tables_text}
 use borrow.Author.Rules.{rules}
 use Rattle.why_page.proofs.put_paged.Goals as goal
 
@@ -10,11 +9,3 @@ put_passing-requires c = let e = sym c.requires.0.answer ∙ ap Ok c.in-Pass.is 
 
 pub put_failing-requires : goal.put_failing-requires
 put_failing-requires c = let e = sym c.requires.0.answer ∙ ap Ok c.in-Fail.is in ((fail_answered _ _ _ _ _ _ _ _ _ e).from_1, rowed _ _ _ _ _ _ _ _ _ (rw c.in-Fail.is at c.requires.0), search rules)
-
-pub returns-in-Pass-clause-put : goal.returns-in-Pass-clause-put
-unfolding tables_text
-returns-in-Pass-clause-put c = rw (← c.requires.0.answer, c.in-Pass.is) c.put_passing.ensures.put
-
-pub returns-in-Fail-clause-put : goal.returns-in-Fail-clause-put
-unfolding tables_text
-returns-in-Fail-clause-put c = rw (← c.requires.0.answer, c.in-Fail.is) c.put_failing.ensures.put
