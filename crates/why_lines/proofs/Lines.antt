@@ -55,8 +55,8 @@ padded_is n k g ek eg = rw (take_replicate g column_width 32 (omega arith), eg, 
 
 -- ---- how long
 
-pub within : {l o s : List ℕ} {i r : ℕ} → Put l i s r o → length s ≤ longest_line → Put l i s r o × (r ≤ i + longest_line)
-within p h = (p, omega (arith, p.place))
+pub within : {l o s : List ℕ} {i r : ℕ} → Put l i s r o → length s ≤ longest_line → r ≤ i + longest_line
+within p h = omega (arith, p.place)
 
 padded-long : (n : ℕ) → n < 2 ^ 33 → length (padded n) ≤ 10
 unfolding padded

@@ -1,4 +1,4 @@
-// The lines of a task's page: each is put from a place on, and the answer is the place behind it.
+// The lines of a task's page, each put behind what the output has.
 #![tactic(auto)]
 
 ghost use Rattle.std.specs.Prelude.{◌≡◌, ◌+◌, ◌++◌, ◌≤◌, ◌<◌, ◌^◌, length};
@@ -7,7 +7,7 @@ ghost use Rattle.output.specs.Decimal.{decimal};
 ghost use Rattle.rules.specs.Limits.{longest_line};
 ghost use Rattle.why_lines.specs.Lines.{padded, task_words, passes_line, fails_line, names_line, columns, window, mark, row_line, tick_words, spare_line, short_line};
 
-use output::{put_field, put_text};
+use output::Output;
 
 const COLUMN: usize = 8;
 
@@ -19,77 +19,80 @@ fn digits(n: usize) -> usize
 }
 
 // A number that ends its column.
-fn put_column(out: &mut [u8], at: usize, n: usize) -> usize
-    requires { at < 2 ^ 41 }
-    ensures { Put out.old at (padded n) result out.new
-        × (result ≤ at + 28) }
+fn put_column(out: &mut Output<'_, u8>, n: usize)
+    requires { out.old.at < 2 ^ 41 }
+    ensures same_reference { out.new.lent.ghost_name ≡ out.old.lent.ghost_name }
+    ensures put { Put out.old.lent.now out.old.at (padded n) out.new.at out.new.lent.now }
+    ensures short { out.new.at ≤ out.old.at + 28 }
 {
     let blanks = [b' '; COLUMN];
     let gap = COLUMN.saturating_sub(digits(n));
-    put_field(out, at, &blanks[..gap], n)
+    out.put_field(&blanks[..gap], n);
 }
 
 // A task, and how it does.
-fn put_task(out: &mut [u8], at: usize, place: usize, partition: usize, verdict: &[u8]) -> usize
-    requires { (at < 2 ^ 40) × (length verdict.now < 2 ^ 6) }
-    ensures { Put out.old at (task_words place partition ++ verdict.now) result out.new
-        × (result ≤ at + longest_line) }
+fn put_task(out: &mut Output<'_, u8>, place: usize, partition: usize, verdict: &[u8])
+    requires { (out.old.at < 2 ^ 40) × (length verdict.now < 2 ^ 6) }
+    ensures same_reference { out.new.lent.ghost_name ≡ out.old.lent.ghost_name }
+    ensures put { Put out.old.lent.now out.old.at (task_words place partition ++ verdict.now) out.new.at out.new.lent.now }
+    ensures short { out.new.at ≤ out.old.at + longest_line }
 {
-    let a = put_field(out, at, b"task ", place);
-    let b = put_field(out, a, b" partition ", partition);
-    put_text(out, b, verdict)
+    out.put_field(b"task ", place);
+    out.put_field(b" partition ", partition);
+    out.put_all(verdict);
 }
 
 #[tactic(auto, unfolding(crate::specs::Lines::passes_line))]
-pub fn put_passes(out: &mut [u8], at: usize, place: usize, partition: usize) -> usize
-    requires { at < 2 ^ 40 }
-    ensures { Put out.old at (passes_line place partition) result out.new
-        × (result ≤ at + longest_line) }
+pub fn put_passes(out: &mut Output<'_, u8>, place: usize, partition: usize)
+    requires { out.old.at < 2 ^ 40 }
+    ensures same_reference { out.new.lent.ghost_name ≡ out.old.lent.ghost_name }
+    ensures put { Put out.old.lent.now out.old.at (passes_line place partition) out.new.at out.new.lent.now }
+    ensures short { out.new.at ≤ out.old.at + longest_line }
 {
-    put_task(out, at, place, partition, b" passes\n")
+    put_task(out, place, partition, b" passes\n");
 }
 
 #[tactic(auto, unfolding(crate::specs::Lines::fails_line))]
-pub fn put_fails(out: &mut [u8], at: usize, place: usize, partition: usize) -> usize
-    requires { at < 2 ^ 40 }
-    ensures { Put out.old at (fails_line place partition) result out.new
-        × (result ≤ at + longest_line) }
+pub fn put_fails(out: &mut Output<'_, u8>, place: usize, partition: usize)
+    requires { out.old.at < 2 ^ 40 }
+    ensures same_reference { out.new.lent.ghost_name ≡ out.old.lent.ghost_name }
+    ensures put { Put out.old.lent.now out.old.at (fails_line place partition) out.new.at out.new.lent.now }
+    ensures short { out.new.at ≤ out.old.at + longest_line }
 {
-    put_task(out, at, place, partition, b" fails\n")
+    put_task(out, place, partition, b" fails\n");
 }
 
 #[tactic(auto, unfolding(crate::specs::Lines::names_line))]
-pub fn put_names(out: &mut [u8], at: usize) -> usize
-    requires { at < 2 ^ 40 }
-    ensures { Put out.old at names_line result out.new
-        × (result ≤ at + longest_line) }
+pub fn put_names(out: &mut Output<'_, u8>)
+    requires { out.old.at < 2 ^ 40 }
+    ensures same_reference { out.new.lent.ghost_name ≡ out.old.lent.ghost_name }
+    ensures put { Put out.old.lent.now out.old.at names_line out.new.at out.new.lent.now }
+    ensures short { out.new.at ≤ out.old.at + longest_line }
 {
-    put_text(
-        out,
-        at,
-        b"   point   needs     has   short   worst stretch in wall ticks\n",
-    )
+    out.put_all(b"   point   needs     has   short   worst stretch in wall ticks\n");
 }
 
-fn put_columns(out: &mut [u8], at: usize, point: usize, needs: usize, has: usize) -> usize
-    requires { at < 2 ^ 40 }
-    ensures { Put out.old at (columns point needs has) result out.new
-        × (result ≤ at + 112) }
+fn put_columns(out: &mut Output<'_, u8>, point: usize, needs: usize, has: usize)
+    requires { out.old.at < 2 ^ 40 }
+    ensures same_reference { out.new.lent.ghost_name ≡ out.old.lent.ghost_name }
+    ensures put { Put out.old.lent.now out.old.at (columns point needs has) out.new.at out.new.lent.now }
+    ensures short { out.new.at ≤ out.old.at + 112 }
 {
-    let a = put_column(out, at, point);
-    let b = put_column(out, a, needs);
-    let c = put_column(out, b, has);
-    put_column(out, c, needs.saturating_sub(has))
+    put_column(out, point);
+    put_column(out, needs);
+    put_column(out, has);
+    put_column(out, needs.saturating_sub(has));
 }
 
 // The wall ticks of the worst stretch, as many as the point says.
-fn put_window(out: &mut [u8], at: usize, start: usize, point: usize) -> usize
-    requires { (at < 2 ^ 41) × (start < 2 ^ 32) × (point < 2 ^ 32) }
-    ensures { Put out.old at (window start point) result out.new
-        × (result ≤ at + 47) }
+fn put_window(out: &mut Output<'_, u8>, start: usize, point: usize)
+    requires { (out.old.at < 2 ^ 41) × (start < 2 ^ 32) × (point < 2 ^ 32) }
+    ensures same_reference { out.new.lent.ghost_name ≡ out.old.lent.ghost_name }
+    ensures put { Put out.old.lent.now out.old.at (window start point) out.new.at out.new.lent.now }
+    ensures short { out.new.at ≤ out.old.at + 47 }
 {
-    let a = put_field(out, at, b"   ", start);
-    put_field(out, a, b" to ", (start + point).saturating_sub(1))
+    out.put_field(b"   ", start);
+    out.put_field(b" to ", (start + point).saturating_sub(1));
 }
 
 // How a point's line ends.
@@ -101,59 +104,55 @@ fn mark(tightest: bool) -> &'static [u8]
 
 // A point's line.
 pub fn put_row(
-    out: &mut [u8],
-    at: usize,
+    out: &mut Output<'_, u8>,
     tightest: usize,
     point: usize,
     needs: usize,
     has: usize,
     start: usize,
-) -> usize
-    requires { (at < 2 ^ 40) × (point < 2 ^ 32) × (needs < 2 ^ 32) × (has < 2 ^ 32) × (start < 2 ^ 32) }
-    ensures { Put out.old at (row_line tightest point needs has start) result out.new
-        × (result ≤ at + longest_line) }
+)
+    requires { (out.old.at < 2 ^ 40) × (point < 2 ^ 32) × (needs < 2 ^ 32) × (has < 2 ^ 32) × (start < 2 ^ 32) }
+    ensures same_reference { out.new.lent.ghost_name ≡ out.old.lent.ghost_name }
+    ensures put { Put out.old.lent.now out.old.at (row_line tightest point needs has start) out.new.at out.new.lent.now }
+    ensures short { out.new.at ≤ out.old.at + longest_line }
 {
-    let a = put_columns(out, at, point, needs, has);
-    let b = put_window(out, a, start, point);
-    put_text(out, b, mark(point == tightest))
+    put_columns(out, point, needs, has);
+    put_window(out, start, point);
+    out.put_all(mark(point == tightest));
 }
 
-fn put_tick(out: &mut [u8], at: usize, tick: usize, needs: usize, has: usize) -> usize
-    requires { at < 2 ^ 40 }
-    ensures { Put out.old at (tick_words tick needs has) result out.new
-        × (result ≤ at + 98) }
+fn put_tick(out: &mut Output<'_, u8>, tick: usize, needs: usize, has: usize)
+    requires { out.old.at < 2 ^ 40 }
+    ensures same_reference { out.new.lent.ghost_name ≡ out.old.lent.ghost_name }
+    ensures put { Put out.old.lent.now out.old.at (tick_words tick needs has) out.new.at out.new.lent.now }
+    ensures short { out.new.at ≤ out.old.at + 98 }
 {
-    let a = put_field(out, at, b"at tick ", tick);
-    let b = put_field(out, a, b" it needs ", needs);
-    put_field(out, b, b" and can be sure of ", has)
+    out.put_field(b"at tick ", tick);
+    out.put_field(b" it needs ", needs);
+    out.put_field(b" and can be sure of ", has);
 }
 
 // What is said of a task that passes at a tick.
-pub fn put_spare(out: &mut [u8], at: usize, tick: usize, needs: usize, has: usize) -> usize
-    requires { (at < 2 ^ 40) × (tick < 2 ^ 16) × (needs < 2 ^ 33) × (has < 2 ^ 33) }
-    ensures { Put out.old at (spare_line tick needs has) result out.new
-        × (result ≤ at + longest_line) }
+pub fn put_spare(out: &mut Output<'_, u8>, tick: usize, needs: usize, has: usize)
+    requires { (out.old.at < 2 ^ 40) × (tick < 2 ^ 16) × (needs < 2 ^ 33) × (has < 2 ^ 33) }
+    ensures same_reference { out.new.lent.ghost_name ≡ out.old.lent.ghost_name }
+    ensures put { Put out.old.lent.now out.old.at (spare_line tick needs has) out.new.at out.new.lent.now }
+    ensures short { out.new.at ≤ out.old.at + longest_line }
 {
-    let a = put_tick(out, at, tick, needs, has);
-    let b = put_field(out, a, b": ", has.saturating_sub(needs));
-    put_text(out, b, b" to spare\n")
+    put_tick(out, tick, needs, has);
+    out.put_field(b": ", has.saturating_sub(needs));
+    out.put_all(b" to spare\n");
 }
 
 // What is said of a task that fails, and at which tick it does so by the least.
-pub fn put_short(
-    out: &mut [u8],
-    at: usize,
-    tick: usize,
-    needs: usize,
-    has: usize,
-    start: usize,
-) -> usize
-    requires { (at < 2 ^ 40) × (tick < 2 ^ 16) × (needs < 2 ^ 33) × (has < 2 ^ 33) × (start < 2 ^ 33) }
-    ensures { Put out.old at (short_line tick needs has start) result out.new
-        × (result ≤ at + longest_line) }
+pub fn put_short(out: &mut Output<'_, u8>, tick: usize, needs: usize, has: usize, start: usize)
+    requires { (out.old.at < 2 ^ 40) × (tick < 2 ^ 16) × (needs < 2 ^ 33) × (has < 2 ^ 33) × (start < 2 ^ 33) }
+    ensures same_reference { out.new.lent.ghost_name ≡ out.old.lent.ghost_name }
+    ensures put { Put out.old.lent.now out.old.at (short_line tick needs has start) out.new.at out.new.lent.now }
+    ensures short { out.new.at ≤ out.old.at + longest_line }
 {
-    let a = put_tick(out, at, tick, needs, has);
-    let b = put_field(out, a, b": ", needs.saturating_sub(has));
-    let c = put_field(out, b, b" short; the worst stretch starts at tick ", start);
-    put_text(out, c, b"\n")
+    put_tick(out, tick, needs, has);
+    out.put_field(b": ", needs.saturating_sub(has));
+    out.put_field(b" short; the worst stretch starts at tick ", start);
+    out.put_all(b"\n");
 }

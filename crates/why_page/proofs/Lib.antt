@@ -1,5 +1,4 @@
 pub mod Lines
 pub mod Rows
 pub mod Paged
-pub mod Asked
 pub mod Proved

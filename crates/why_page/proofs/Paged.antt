@@ -5,7 +5,7 @@ use mathlib.Core.List.{List}
 use native.Mathlib.Omega.{arith}
 use lib.ListN.{length, drop}
 use Rattle.rules.specs.Limits.{row_width}
-use Rattle.rules.specs.Table.{partitions, tasks, deadline}
+use Rattle.rules.specs.Table.{partitions, deadline}
 use Rattle.rules.specs.Terms.{filed, rule_of, rule_in}
 use Rattle.rules.specs.declared.Rule.{Rule}
 use Rattle.rules.specs.declared.Terms.{Terms}
@@ -18,7 +18,7 @@ use Rattle.task_verdict.specs.Theorems.{Answered}
 use Rattle.task_verdict.proofs.Engines as verdicts
 use Rattle.task_page.specs.declared.Paged.{Paged}
 use Rattle.task_page.specs.declared.Paged.TheVariants.{Pass, Fail}
-use Rattle.task_page.specs.Page.{rows_of, points_of, tightest_of, page_of, Pages}
+use Rattle.task_page.specs.Page.{rows_of, points_of, tightest_of, page_of}
 use Rattle.task_page.specs.Theorems.{PageBy, page_refused, page_pass, page-short, page_fail}
 use Rattle.task_page.proofs.Proved as pages
 use Rattle.file_read.specs.declared.Contents.{Contents}
@@ -82,9 +82,6 @@ module _ (terms : Terms) (plan ps ts : List ℕ) (place room : ℕ) where
   fail_reach n u h e = answered_reach u (fail_answered n u h e) (point_in_time ts (place - 1) u ((pages.proved).page_tightest terms plan ps ts place room n u h e).0.a_point)
 
 -- ---- what the page left
-
-pub paged_so : (e : ℕ) (plan ps ts : List ℕ) (place : ℕ) (list o : List ℕ) (r : Result Paged Refusal) → length list ≡ most_numbers → length o ≡ length list → Pages (filed e) plan ps ts place list o r → PagedSo e plan ps ts place o r
-paged_so e plan ps ts place list o r l z p = record { answer = rw l at p.0; long = z ∙ l; list = list; left = p.1 }
 
 pub rowed : (e : ℕ) (plan ps ts : List ℕ) (place : ℕ) (rows : List ℕ) (n u h : ℕ) → PagedSo e plan ps ts place rows (Ok (Fail n u h)) → Rowed (rule_of e) plan ts (place - 1) rows n u
 rowed e plan ps ts place rows n u h p =

@@ -1,17 +1,17 @@
-// The page of a task of a plan file, as text: at the start of an output, as far as there is room.
+// The page of a task of a plan file, as text: put behind what an output has, as far as there is room.
 #![tactic(auto)]
 
 ghost use Rattle.std.specs.Prelude.{◌≡◌, ◌+◌, ◌-◌, ◌*◌, ◌^◌, ◌≤◌, ◌<◌, length, Ok};
 ghost use Rattle.rules.specs.Limits.{longest, longest_line, longest_why};
 ghost use Rattle.rules.specs.Walk.{gathered};
+ghost use Rattle.rules.specs.Table.{partition};
+ghost use Rattle.rules.specs.Terms.{rule_of};
 ghost use Rattle.output.specs.Put.{Put};
-ghost use Rattle.file_runs.specs.Ticks.{ticks_of};
-ghost use Rattle.file_runs.specs.Inner.{Framed};
 ghost use Rattle.why_page.specs.Why.{line_of, spare_of, short_of, pass_text, fail_text, most_numbers, tables_text, why_of, place_asked};
 ghost use Rattle.why_page.specs.Inner.{InReach, Sized, Rowed, PagedSo};
 
 use file_read::load::load_file;
-use rules::Rule;
+use output::Output;
 use rules::limits::{
     LONGEST, PART_NUMBERS, PART_WIDTH, ROW_WIDTH, RUN_NUMBERS, RUN_WIDTH, TASK_NUMBERS, TASK_WIDTH,
 };
@@ -22,30 +22,49 @@ use task_page::Paged;
 const MOST_NUMBERS: usize = ROW_WIDTH * LONGEST;
 
 // The line of a row.
-fn put_line(rows: &[u32], k: usize, tightest: usize, out: &mut [u8], at: usize) -> usize
-    requires { (k < longest) × (at < 2 ^ 40) × (length rows.now ≡ most_numbers) }
-    ensures { Put out.old at (line_of tightest rows.now k) result out.new
-        × (result ≤ at + longest_line) }
+#[tactic(auto, using(crate::proofs::Lines::line_is))]
+fn put_line(out: &mut Output<'_, u8>, rows: &[u32], k: usize, tightest: usize)
+    requires { (k < longest) × (out.old.at < 2 ^ 40) × (length rows.now ≡ most_numbers) }
+    ensures same_reference { out.new.lent.ghost_name ≡ out.old.lent.ghost_name }
+    ensures put { Put out.old.lent.now out.old.at (line_of tightest rows.now k) out.new.at out.new.lent.now }
+    ensures short { out.new.at ≤ out.old.at + longest_line }
 {
     let row = ROW_WIDTH * k;
     let point = rows[row] as usize;
     let needs = rows[row + 1] as usize;
     let has = rows[row + 2] as usize;
     let start = rows[row + 3] as usize;
-    why_lines::put_row(out, at, tightest, point, needs, has, start)
+    why_lines::put_row(out, tightest, point, needs, has, start);
 }
 
 // The lines of the first n rows.
-fn put_lines(rows: &[u32], n: usize, tightest: usize, out: &mut [u8], start: usize) -> usize
-    requires { (n ≤ longest) × (start < 2 ^ 32) × (length rows.now ≡ most_numbers) }
-    ensures { Put out.old start (gathered (line_of tightest rows.now) n) result out.new
-        × (result ≤ start + longest_line * n) }
+fn put_lines(out: &mut Output<'_, u8>, rows: &[u32], n: usize, tightest: usize)
+    requires { (n ≤ longest) × (out.old.at < 2 ^ 33) × (length rows.now ≡ most_numbers) }
+    ensures same_reference { out.new.lent.ghost_name ≡ out.old.lent.ghost_name }
+    ensures put { Put out.old.lent.now out.old.at (gathered (line_of tightest rows.now) n) out.new.at out.new.lent.now }
+    ensures short { out.new.at ≤ out.old.at + longest_line * n }
 {
-    let mut at = start;
     for k in 0..n {
-        at = put_line(rows, k, tightest, out, at);
+        put_line(out, rows, k, tightest);
     }
-    at
+}
+
+// A task of an accepted file: the file's edition, its plan and tables, and the task's place in them, from 1.
+#[derive(Clone, Copy)]
+struct Task<'a> {
+    edition: usize,
+    plan: &'a [u16],
+    parts: &'a [u16],
+    table: &'a [u16],
+    place: usize,
+}
+
+// The partition that the task is in.
+fn partition_of(task: Task<'_>) -> usize
+    requires { 1 ≤ task.place }
+    ensures { result ≡ partition task.entry.table.now (task.entry.place - 1) }
+{
+    usize::from(rules::records::partition(task.table, task.place - 1))
 }
 
 // What a task needs of some ticks, and what it can be sure of.
@@ -55,165 +74,127 @@ struct Size {
     has: usize,
 }
 
-fn size_at(rule: Rule, plan: &[u16], table: &[u16], i: usize, t: usize) -> Size
-    requires { InReach plan.now table.now i t }
-    ensures { Sized rule plan.now table.now i t result.needs result.has }
+fn size_at(task: Task<'_>, t: usize) -> Size
+    requires { (1 ≤ task.place) × InReach task.plan.now task.table.now (task.place - 1) t }
+    ensures { Sized (rule_of task.entry.edition) task.entry.plan.now task.entry.table.now (task.entry.place - 1) t result.needs result.has }
 {
-    let lists = task_demand::draw_task(rule, plan, table, i);
-    let needs = usize::from(rules::records::budget(table, i)) + lists.asks[t] as usize;
+    let i = task.place - 1;
+    let rule = rules::rule_of(task.edition);
+    let lists = task_demand::draw_task(rule, task.plan, task.table, i);
+    let needs = usize::from(rules::records::budget(task.table, i)) + lists.asks[t] as usize;
     let has = lists.curve[t] as usize;
     Size { needs, has }
 }
 
 // The sentence about a task that passes at a point.
-fn put_spare(
-    rule: Rule,
-    plan: &[u16],
-    table: &[u16],
-    i: usize,
-    t: usize,
-    out: &mut [u8],
-    at: usize,
-) -> usize
-    requires { InReach plan.now table.now i t × (at < 2 ^ 40) }
-    ensures { Put out.old at
-        (spare_of rule plan.now table.now i t) result out.new
-        × (result ≤ at + longest_line) }
+#[tactic(auto, unfolding(crate::specs::Why::spare_of))]
+fn put_spare(out: &mut Output<'_, u8>, task: Task<'_>, t: usize)
+    requires { (1 ≤ task.place) × InReach task.plan.now task.table.now (task.place - 1) t × (out.old.at < 2 ^ 40) }
+    ensures same_reference { out.new.lent.ghost_name ≡ out.old.lent.ghost_name }
+    ensures put { Put out.old.lent.now out.old.at (spare_of (rule_of task.entry.edition) task.entry.plan.now task.entry.table.now (task.entry.place - 1) t) out.new.at out.new.lent.now }
+    ensures short { out.new.at ≤ out.old.at + longest_line }
 {
-    let size = size_at(rule, plan, table, i, t);
-    why_lines::put_spare(out, at, t, size.needs, size.has)
+    let size = size_at(task, t);
+    why_lines::put_spare(out, t, size.needs, size.has);
 }
 
 // The sentence about a task that fails, its tightest point being t.
-fn put_short(
-    rule: Rule,
-    plan: &[u16],
-    table: &[u16],
-    i: usize,
-    t: usize,
-    out: &mut [u8],
-    at: usize,
-) -> usize
-    requires { InReach plan.now table.now i t × (at < 2 ^ 40) }
-    ensures { Put out.old at
-        (short_of rule plan.now table.now i t) result out.new
-        × (result ≤ at + longest_line) }
+#[tactic(auto, using(crate::proofs::Lines::in_lists), unfolding(crate::specs::Why::short_of))]
+fn put_short(out: &mut Output<'_, u8>, task: Task<'_>, t: usize)
+    requires { (1 ≤ task.place) × InReach task.plan.now task.table.now (task.place - 1) t × (out.old.at < 2 ^ 40) }
+    ensures same_reference { out.new.lent.ghost_name ≡ out.old.lent.ghost_name }
+    ensures put { Put out.old.lent.now out.old.at (short_of (rule_of task.entry.edition) task.entry.plan.now task.entry.table.now (task.entry.place - 1) t) out.new.at out.new.lent.now }
+    ensures short { out.new.at ≤ out.old.at + longest_line }
 {
-    let size = size_at(rule, plan, table, i, t);
-    let p = usize::from(rules::records::partition(table, i));
-    let start = plan_service::worst_start(rule, plan, p, t, size.has);
-    why_lines::put_short(out, at, t, size.needs, size.has, start)
+    let size = size_at(task, t);
+    let rule = rules::rule_of(task.edition);
+    let start = plan_service::worst_start(rule, task.plan, partition_of(task), t, size.has);
+    why_lines::put_short(out, t, size.needs, size.has, start);
 }
 
-fn put_passing(
-    rule: Rule,
-    plan: &[u16],
-    table: &[u16],
-    place: usize,
-    point: usize,
-    out: &mut [u8],
-) -> usize
-    requires { (1 ≤ place) × InReach plan.now table.now (place - 1) point }
-    ensures { Put out.old 0
-        (pass_text rule plan.now table.now place point) result out.new
-        × (result ≤ longest_why) }
+fn put_passing(out: &mut Output<'_, u8>, task: Task<'_>, point: usize)
+    requires { (1 ≤ task.place) × InReach task.plan.now task.table.now (task.place - 1) point × (out.old.at < 2 ^ 32) }
+    ensures same_reference { out.new.lent.ghost_name ≡ out.old.lent.ghost_name }
+    ensures put { Put out.old.lent.now out.old.at (pass_text (rule_of task.entry.edition) task.entry.plan.now task.entry.table.now task.entry.place point) out.new.at out.new.lent.now }
+    ensures short { out.new.at ≤ out.old.at + longest_why }
 {
-    let i = place - 1;
-    let partition = usize::from(rules::records::partition(table, i));
-    let a = why_lines::put_passes(out, 0, place, partition);
-    put_spare(rule, plan, table, i, point, out, a)
+    why_lines::put_passes(out, task.place, partition_of(task));
+    put_spare(out, task, point);
 }
 
-fn put_failing(
-    rule: Rule,
-    plan: &[u16],
-    table: &[u16],
-    place: usize,
-    rows: &[u32],
-    n: usize,
-    tightest: usize,
-    out: &mut [u8],
-) -> usize
-    requires { (1 ≤ place) × Rowed rule plan.now table.now (place - 1) rows.now n tightest }
-    ensures { Put out.old 0
-        (fail_text rule plan.now table.now place) result out.new
-        × (result ≤ longest_why) }
+fn put_failing(out: &mut Output<'_, u8>, task: Task<'_>, rows: &[u32], n: usize, tightest: usize)
+    requires { (1 ≤ task.place) × Rowed (rule_of task.edition) task.plan.now task.table.now (task.place - 1) rows.now n tightest × (out.old.at < 2 ^ 32) }
+    ensures same_reference { out.new.lent.ghost_name ≡ out.old.lent.ghost_name }
+    ensures put { Put out.old.lent.now out.old.at (fail_text (rule_of task.entry.edition) task.entry.plan.now task.entry.table.now task.entry.place) out.new.at out.new.lent.now }
+    ensures short { out.new.at ≤ out.old.at + longest_why }
 {
-    let i = place - 1;
-    let partition = usize::from(rules::records::partition(table, i));
-    let a = why_lines::put_fails(out, 0, place, partition);
-    let b = why_lines::put_names(out, a);
-    let c = put_lines(rows, n, tightest, out, b);
-    put_short(rule, plan, table, i, tightest, out, c)
+    why_lines::put_fails(out, task.place, partition_of(task));
+    why_lines::put_names(out);
+    put_lines(out, rows, n, tightest);
+    put_short(out, task, tightest);
 }
 
 // What the page says of the task, as text; a fail left its rows.
-fn put_paged(
-    edition: usize,
-    plan: &[u16],
-    parts: &[u16],
-    table: &[u16],
-    place: usize,
-    rows: &[u32],
-    paged: Paged,
-    out: &mut [u8],
-) -> usize
-    requires { PagedSo edition plan.now parts.now table.now place rows.now (Ok paged) }
-    ensures { Put out.old 0
-        (tables_text edition plan.now parts.now table.now place) result out.new
-        × (result ≤ longest_why) }
+#[tactic(auto, unfolding(crate::specs::Why::tables_text))]
+fn put_paged(out: &mut Output<'_, u8>, task: Task<'_>, rows: &[u32], paged: Paged)
+    requires { PagedSo task.edition task.plan.now task.parts.now task.table.now task.place rows.now (Ok paged) × (out.old.at < 2 ^ 32) }
+    ensures same_reference { out.new.lent.ghost_name ≡ out.old.lent.ghost_name }
+    ensures put { Put out.old.lent.now out.old.at (tables_text task.entry.edition task.entry.plan.now task.entry.parts.now task.entry.table.now task.entry.place) out.new.at out.new.lent.now }
+    ensures short { out.new.at ≤ out.old.at + longest_why }
 {
-    let rule = rules::rule_of(edition);
     match paged {
-        Paged::Pass(point) => put_passing(rule, plan, table, place, point, out),
+        Paged::Pass(point) => put_passing(out, task, point),
         Paged::Fail {
             rows: n,
             tightest,
-            shortage: _,
-        } => put_failing(rule, plan, table, place, rows, n, tightest, out),
+            ..
+        } => put_failing(out, task, rows, n, tightest),
     }
 }
 
-// Of the tables of an accepted file and its plan.
-fn put_page(
-    edition: usize,
-    plan: &[u16],
-    parts: &[u16],
-    table: &[u16],
-    place: usize,
-    out: &mut [u8],
-) -> usize
-    ensures { Put out.old 0
-        (tables_text edition plan.now parts.now table.now place) result out.new
-        × (result ≤ longest_why) }
+#[tactic(auto, unfolding(crate::specs::Why::tables_text))]
+fn put_page(out: &mut Output<'_, u8>, task: Task<'_>)
+    requires { out.old.at < 2 ^ 32 }
+    ensures same_reference { out.new.lent.ghost_name ≡ out.old.lent.ghost_name }
+    ensures put { Put out.old.lent.now out.old.at (tables_text task.entry.edition task.entry.plan.now task.entry.parts.now task.entry.table.now task.entry.place) out.new.at out.new.lent.now }
+    ensures short { out.new.at ≤ out.old.at + longest_why }
 {
     let mut rows = [0u32; MOST_NUMBERS];
-    let terms = rules::filed(edition);
-    match task_page::page(terms, plan, parts, table, place, &mut rows) {
-        Ok(paged) => put_paged(edition, plan, parts, table, place, &rows, paged, out),
-        Err(r) => output::put_refusal(out, r),
+    let terms = rules::filed(task.edition);
+    match task_page::page(
+        terms, task.plan, task.parts, task.table, task.place, &mut rows,
+    ) {
+        Ok(paged) => put_paged(out, task, &rows, paged),
+        Err(r) => out.put_refusal(r),
     }
 }
 
-// The tables of an accepted file: its runs as ticks.
-fn put_tables(
-    edition: usize,
-    frame: usize,
-    parts: &[u16],
-    table: &[u16],
-    runs: &[u16],
-    place: usize,
-    out: &mut [u8],
-) -> usize
-    requires { Framed frame runs.now }
-    ensures { Put out.old 0
-        (tables_text edition (ticks_of runs.now) parts.now table.now place)
-        result out.new
-        × (result ≤ longest_why) }
+// Of a file's bytes.
+#[tactic(auto, unfolding(crate::specs::Why::why_of))]
+fn put_file(out: &mut Output<'_, u8>, file: &[u8], place: usize)
+    requires { out.old.at < 2 ^ 32 }
+    ensures same_reference { out.new.lent.ghost_name ≡ out.old.lent.ghost_name }
+    ensures put { Put out.old.lent.now out.old.at (why_of file.now place) out.new.at out.new.lent.now }
+    ensures short { out.new.at ≤ out.old.at + longest_why }
 {
-    let mut plan = [0u16; LONGEST];
-    file_runs::ticks_of(runs, &mut plan);
-    put_page(edition, &plan[..frame], parts, table, place, out)
+    let mut parts = [0u16; PART_NUMBERS];
+    let mut tasks = [0u16; TASK_NUMBERS];
+    let mut runs = [0u16; RUN_NUMBERS];
+    match load_file(file, &mut parts, &mut tasks, &mut runs) {
+        Ok(c) => {
+            let mut plan = [0u16; LONGEST];
+            file_runs::ticks_of(&runs[..RUN_WIDTH * c.runs], &mut plan);
+            let task = Task {
+                edition: c.edition,
+                plan: &plan[..c.frame],
+                parts: &parts[..PART_WIDTH * c.partitions],
+                table: &tasks[..TASK_WIDTH * c.tasks],
+                place,
+            };
+            put_page(out, task);
+        }
+        Err(r) => out.put_refusal(r),
+    }
 }
 
 // Puts the page of a task, by its place from 1, of a file's bytes at the start of the output, as far as there is room. The
@@ -222,30 +203,14 @@ pub fn compose(file: &[u8], place: usize, out: &mut [u8]) -> usize
     ensures { Put out.old 0 (why_of file.now place) result out.new
         × (result ≤ longest_why) }
 {
-    let mut parts = [0u16; PART_NUMBERS];
-    let mut tasks = [0u16; TASK_NUMBERS];
-    let mut runs = [0u16; RUN_NUMBERS];
-    match load_file(file, &mut parts, &mut tasks, &mut runs) {
-        Ok(c) => {
-            let p = PART_WIDTH * c.partitions;
-            let t = TASK_WIDTH * c.tasks;
-            let r = RUN_WIDTH * c.runs;
-            put_tables(
-                c.edition,
-                c.frame,
-                &parts[..p],
-                &tasks[..t],
-                &runs[..r],
-                place,
-                out,
-            )
-        }
-        Err(r) => output::put_refusal(out, r),
-    }
+    let mut out = Output::new(out);
+    put_file(&mut out, file, place);
+    out.at
 }
 
 // The place that a program is asked for, of so many words with its own name, `word` being the one behind that: 0, which is
 // no task's, where it is no number or not the only one.
+#[tactic(auto, unfolding(crate::specs::Why::place_asked))]
 pub fn place_asked(words: usize, word: &[u8]) -> usize
     ensures { result ≡ place_asked words word.now }
 {

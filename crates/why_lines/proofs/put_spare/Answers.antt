@@ -4,6 +4,9 @@ use Rattle.why_lines.specs.Lines.{spare_line}
 use borrow.Author.Rules.{rules}
 use Rattle.why_lines.proofs.put_spare.Goals as goal
 
-pub returns : goal.returns
+pub returns-clause-put : goal.returns-clause-put
 unfolding spare_line
-returns c = within (and_then (and_then c.put_tick-a.ensures.0 (rw c.saturating_sub.ensures at c.put_field-b.ensures.0)) c.put_text.ensures) (spare_long c.args.tick c.args.needs c.args.has (search rules) (search rules) (search rules))
+returns-clause-put c = and_then (and_then c.put_tick.ensures.put (rw c.saturating_sub.ensures at c.put_field.ensures.put)) c.put_all.ensures.put
+
+pub returns-clause-short : goal.returns-clause-short
+returns-clause-short c = within (returns-clause-put c) (spare_long c.args.tick c.args.needs c.args.has (search rules) (search rules) (search rules))

@@ -3,6 +3,9 @@ use Rattle.why_lines.specs.Lines.{task_words}
 use borrow.Author.Rules.{rules}
 use Rattle.why_lines.proofs.put_task.Goals as goal
 
-pub returns : goal.returns
+pub returns-clause-put : goal.returns-clause-put
 unfolding task_words
-returns c = let p = c.put_text.ensures.place in (and_then (and_then c.put_field-a.ensures.0 c.put_field-b.ensures.0) c.put_text.ensures, search rules)
+returns-clause-put c = and_then (and_then c.put_field.ensures.put c.put_field-2.ensures.put) c.put_all.ensures.put
+
+pub returns-clause-short : goal.returns-clause-short
+returns-clause-short c = let p = c.put_all.ensures.put.place in search rules

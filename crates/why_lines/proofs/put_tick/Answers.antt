@@ -1,8 +1,7 @@
 use Rattle.output.proofs.Put.{and_then}
 use Rattle.why_lines.specs.Lines.{tick_words}
-use borrow.Author.Rules.{rules}
 use Rattle.why_lines.proofs.put_tick.Goals as goal
 
-pub returns : goal.returns
+pub returns-clause-put : goal.returns-clause-put
 unfolding tick_words
-returns c = (and_then (and_then c.put_field-a.ensures.0 c.put_field-b.ensures.0) c.put_field.ensures.0, search rules)
+returns-clause-put c = and_then (and_then c.put_field.ensures.put c.put_field-2.ensures.put) c.put_field-3.ensures.put

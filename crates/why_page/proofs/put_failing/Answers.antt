@@ -3,6 +3,9 @@ use Rattle.why_page.specs.Why.{fail_text}
 use borrow.Author.Rules.{rules}
 use Rattle.why_page.proofs.put_failing.Goals as goal
 
-pub returns : goal.returns
+pub returns-clause-put : goal.returns-clause-put
 unfolding fail_text
-returns c = let g = c.requires.1 in let f = g.few in (and_then (and_then (and_then (rw (c.from-partition.ensures, c.partition.ensures) at c.put_fails-a.ensures.0) c.put_names-b.ensures.0) (rw g.lines at c.put_lines-c.ensures.0)) (rw g.tight at c.put_short.ensures.0), search rules)
+returns-clause-put c = let g = c.requires.1 in and_then (and_then (and_then (rw c.partition_of.ensures at c.put_fails.ensures.put) c.put_names.ensures.put) (rw g.lines at c.put_lines.ensures.put)) (rw g.tight at c.put_short.ensures.put)
+
+pub returns-clause-short : goal.returns-clause-short
+returns-clause-short c = let f = c.requires.1.few in search rules

@@ -1,20 +1,11 @@
 use mathlib.Core.Path.{sym, ap, ◌∙◌}
 use Rattle.std.specs.Prelude.{Ok}
 use Rattle.why_page.proofs.Paged.{pass_answered, pass_reach, fail_answered, rowed}
-use Rattle.why_page.specs.Why.{tables_text}
 use borrow.Author.Rules.{rules}
 use Rattle.why_page.proofs.put_paged.Goals as goal
 
 pub put_passing-requires : goal.put_passing-requires
-put_passing-requires c = let e = sym c.requires.answer ∙ ap Ok c.in-Pass.is in ((pass_answered _ _ _ _ _ _ _ e).from_1, pass_reach _ _ _ _ _ _ _ e)
+put_passing-requires c = let e = sym c.requires.0.answer ∙ ap Ok c.in-Pass.is in ((pass_answered _ _ _ _ _ _ _ e).from_1, pass_reach _ _ _ _ _ _ _ e, search rules)
 
 pub put_failing-requires : goal.put_failing-requires
-put_failing-requires c = let e = sym c.requires.answer ∙ ap Ok c.in-Fail.is in ((fail_answered _ _ _ _ _ _ _ _ _ e).from_1, rw c.rule_of-rule.ensures (rowed _ _ _ _ _ _ _ _ _ (rw c.in-Fail.is at c.requires)))
-
-pub returns-in-Pass : goal.returns-in-Pass
-unfolding tables_text
-returns-in-Pass c = (rw (← c.requires.answer, c.in-Pass.is) (rw c.rule_of-rule.ensures at c.put_passing.ensures.0), search rules)
-
-pub returns-in-Fail : goal.returns-in-Fail
-unfolding tables_text
-returns-in-Fail c = (rw (← c.requires.answer, c.in-Fail.is) (rw c.rule_of-rule.ensures at c.put_failing.ensures.0), search rules)
+put_failing-requires c = let e = sym c.requires.0.answer ∙ ap Ok c.in-Fail.is in ((fail_answered _ _ _ _ _ _ _ _ _ e).from_1, rowed _ _ _ _ _ _ _ _ _ (rw c.in-Fail.is at c.requires.0), search rules)

@@ -1,7 +1,0 @@
-use mathlib.Core.Path.{refl}
-use Rattle.why_page.proofs.Lines.{line_is}
-use borrow.Author.Rules.{rules}
-use Rattle.why_page.proofs.put_line.Goals as goal
-
-pub returns : goal.returns
-returns c = (rw (← line_is c.args.tightest c.args.k c.args.rows.now _ _ _ _ refl refl refl refl) c.put_row.ensures.0, search rules)
