@@ -64,7 +64,8 @@ fn put_task(
     put_pass(out, at, j + 1, partition, point, ticks[j])
 }
 
-// All tasks' lines, in the table's order.
+// All tasks' lines, in the table's order. (Apart from `put_parts`: one function over both would take a closure that writes, and ask more of it
+// than the two loops say.)
 fn put_lines(
     table: &[u16],
     points: &[usize],
