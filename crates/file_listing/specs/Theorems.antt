@@ -1,4 +1,4 @@
--- What is promised of the listing beyond its contract. `list_of` and `listedLeft` are what the contract says that it answers and leaves. Each statement's
+-- What is promised of the listing beyond its contract. `list_of` and `listed_left` are what the contract says that it answers and leaves. Each statement's
 -- proof is a field of `Proved`. Assumes nothing.
 use Rattle.std.specs.Prelude.{ℕ, ◌+◌, ◌<◌, ◌≡◌, ◌⊎◌, List, length, take, None, Some, Result, Ok, Err}
 use Rattle.rules.specs.Limits.{longest_file}
