@@ -1,4 +1,3 @@
-use native.Mathlib.Omega.{arith}
 use Rattle.output.proofs.Put.{and_then}
 use Rattle.file_lines.specs.Lines.{fail_line}
 use Rattle.file_lines.proofs.put_fail.Goals as goal
@@ -6,6 +5,3 @@ use Rattle.file_lines.proofs.put_fail.Goals as goal
 pub returns-clause-put : goal.returns-clause-put
 unfolding fail_line
 returns-clause-put c = and_then c.put_task.ensures.put c.put_all.ensures.put
-
-pub returns-clause-short : goal.returns-clause-short
-returns-clause-short c = omega (arith, c.put_task.ensures.short, c.put_all.ensures.put.place)
