@@ -1,8 +1,7 @@
 use Rattle.output.proofs.Put.{and_then}
 use Rattle.file_lines.specs.Lines.{partition_line}
-use borrow.Author.Rules.{rules}
 use Rattle.file_lines.proofs.put_partition.Goals as goal
 
-pub returns : goal.returns
+pub returns-clause-put : goal.returns-clause-put
 unfolding partition_line
-returns c = let p = c.put_text.ensures.place in (and_then (and_then (and_then (and_then c.put_field-a.ensures.0 c.put_field-b.ensures.0) c.put_field-c.ensures.0) c.put_field-d.ensures.0) c.put_text.ensures, search rules)
+returns-clause-put c = and_then (and_then (and_then (and_then c.put_field.ensures.put c.put_field-2.ensures.put) c.put_field-3.ensures.put) c.put_field-4.ensures.put) c.put_all.ensures.put

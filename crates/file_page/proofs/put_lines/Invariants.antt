@@ -1,6 +1,5 @@
 use mathlib.Core.Path.{◌≡◌}
 use Prim.Native.Nat.{◌≤◌, ◌+◌, ◌*◌}
-use lib.ListN.{length}
 use Rattle.output.specs.Put.{Put}
 use Rattle.rules.specs.Limits.{longest_line}
 use Rattle.rules.specs.Walk.{gathered}
@@ -8,4 +7,7 @@ use Rattle.file_page.specs.Inner.{line_by}
 use Rattle.file_page.proofs.put_lines.Given as goal
 
 abbrev pub invariant-loop-j : goal.invariant-loop-j
-invariant-loop-j l = Put l.initial.out l.start (gathered (line_by l.table l.found) l.j) l.at l.out × (l.at ≤ l.start + longest_line * l.j) × (length l.out ≡ length l.initial.out)
+invariant-loop-j l =
+    (l.out.lent.ghost_name ≡ l.initial.out.lent.ghost_name)
+    × Put l.initial.out.lent.now l.initial.out.at (gathered (line_by l.table l.found) l.j) l.out.at l.out.lent.now
+    × (l.out.at ≤ l.initial.out.at + longest_line * l.j)

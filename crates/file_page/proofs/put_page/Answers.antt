@@ -1,8 +1,7 @@
 use Rattle.output.proofs.Put.{and_then}
 use Rattle.file_page.specs.Page.{page_of}
-use borrow.Author.Rules.{rules}
 use Rattle.file_page.proofs.put_page.Goals as goal
 
-pub returns : goal.returns
+pub returns-clause-put : goal.returns-clause-put
 unfolding page_of
-returns c = (and_then (and_then c.put_frame-a.ensures.0 c.put_parts-b.ensures.0) c.put_tasks.ensures.0, search rules)
+returns-clause-put c = and_then (and_then c.put_frame.ensures.put c.put_parts.ensures.put) c.put_tasks.ensures.put
