@@ -1,30 +1,34 @@
 // The line that says what was expected where.
-ghost use Rattle.std.specs.Prelude.{◌+◌, ◌≤◌, ◌<◌, ◌^◌};
+ghost use Rattle.std.specs.Prelude.{◌≡◌, ◌+◌, ◌≤◌, ◌<◌, ◌^◌};
 ghost use Rattle.output.specs.Put.{Put};
 ghost use Rattle.rules.specs.Limits.{longest_line};
 ghost use Rattle.share_line.specs.Expected.{what_text, expected_line};
 
 use crate::What;
-use output::{put_field, put_text};
+use output::Output;
 
-fn put_what(out: &mut [u8], at: usize, what: What) -> usize
-    requires { at < 2 ^ 40 }
-    ensures { Put out.old at (what_text what) result out.new × (result ≤ at + 64) }
+fn put_what(out: &mut Output<'_, u8>, what: What)
+    requires { out.old.at < 2 ^ 50 }
+    ensures same_reference { out.new.lent.ghost_name ≡ out.old.lent.ghost_name }
+    ensures put { Put out.old.lent.now out.old.at (what_text what) out.new.at out.new.lent.now }
+    ensures short { out.new.at ≤ out.old.at + 64 }
 {
     match what {
-        What::Record => put_text(out, at, b"`granule`, `partition` or `task`\n"),
-        What::Number => put_text(out, at, b"a number from 0 to 65535\n"),
-        What::Slash => put_text(out, at, b"`/`\n"),
-        What::End => put_text(out, at, b"the end of the line\n"),
-        What::EarlyGranule => put_text(out, at, b"`granule` once, before the partitions\n"),
+        What::Record => out.put_all(b"`granule`, `partition` or `task`\n"),
+        What::Number => out.put_all(b"a number from 0 to 65535\n"),
+        What::Slash => out.put_all(b"`/`\n"),
+        What::End => out.put_all(b"the end of the line\n"),
+        What::EarlyGranule => out.put_all(b"`granule` once, before the partitions\n"),
     }
 }
 
-pub fn put_expected(out: &mut [u8], line: usize, what: What) -> usize
-    ensures { Put out.old 0 (expected_line line what) result out.new
-        × (result ≤ longest_line) }
+pub fn put_expected(out: &mut Output<'_, u8>, line: usize, what: What)
+    requires { out.old.at < 2 ^ 40 }
+    ensures same_reference { out.new.lent.ghost_name ≡ out.old.lent.ghost_name }
+    ensures put { Put out.old.lent.now out.old.at (expected_line line what) out.new.at out.new.lent.now }
+    ensures short { out.new.at ≤ out.old.at + longest_line }
 {
-    let a = put_field(out, 0, b"line ", line);
-    let b = put_text(out, a, b": expected ");
-    put_what(out, b, what)
+    out.put_field(b"line ", line);
+    out.put_all(b": expected ");
+    put_what(out, what);
 }

@@ -1,26 +1,13 @@
 // The numbers of each kind: gathered, counted, and held to the lent tables' room.
-ghost use Rattle.std.specs.Prelude.{◌≡◌, ◌+◌, ◌≤◌, ◌<◌, ◌^◌, length};
+ghost use Rattle.std.specs.Prelude.{◌≡◌, ◌≤◌, length};
 ghost use Rattle.std.proofs.lemmas.List.Edits.{sets};
-ghost use Rattle.rules.specs.Limits.{task_width};
-ghost use Rattle.output.specs.Put.{Put};
 ghost use Rattle.share_text.specs.Table.{part_in, task_in, records_of, longest_text, numbers_of, sized_of, read_text_of};
 
 use crate::lines::{first_wrong, next_line, row_at};
 use crate::{LONGEST_TEXT, Numbers, Unread};
-use output::put_one;
+use output::Output;
 use rules::Refusal;
 use share_line::Row;
-
-// A record's numbers; the answer is the place behind them.
-fn put_record(out: &mut [u16], at: usize, xs: &[u16]) -> usize
-    requires { (at < 2 ^ 40) × (length xs.now ≤ task_width) }
-    ensures { Put out.old at xs.now result out.new × (result ≡ at + length xs.now) }
-{
-    for (k, x) in xs.iter().enumerate() {
-        put_one(out, at + k, *x);
-    }
-    at + xs.len()
-}
 
 // The granule that a line gives, or 1, and how many numbers the partitions and the tasks have: these are put into their
 // tables, as far as there is room.
@@ -31,15 +18,15 @@ pub fn gather(text: &[u8], parts: &mut [u16], tasks: &mut [u16]) -> Numbers
         × (tasks.new ≡ sets tasks.old 0 (records_of task_in text.now)) }
 {
     let mut granule = None;
-    let mut p = 0;
-    let mut q = 0;
+    let mut p = Output::new(parts);
+    let mut q = Output::new(tasks);
     let mut at = 0;
     while at < text.len() {
         let row = row_at(text, at);
         at = next_line(text, at);
         match row {
             Ok(Row::Granule(g)) => granule = granule.or(Some(g)),
-            Ok(Row::Partition { cycle, num, den }) => p = put_record(parts, p, &[cycle, num, den]),
+            Ok(Row::Partition { cycle, num, den }) => p.put_all(&[cycle, num, den]),
             Ok(
                 Row::Task {
                     partition,
@@ -47,15 +34,15 @@ pub fn gather(text: &[u8], parts: &mut [u16], tasks: &mut [u16]) -> Numbers
                     deadline,
                     period,
                 },
-            ) => q = put_record(tasks, q, &[partition, budget, deadline, period]),
+            ) => q.put_all(&[partition, budget, deadline, period]),
             Ok(Row::Nothing) => {}
             Err(_) => {}
         }
     }
     Numbers {
         granule: usize::from(granule.unwrap_or(1)),
-        partitions: p,
-        tasks: q,
+        partitions: p.at,
+        tasks: q.at,
     }
 }
 
