@@ -68,6 +68,12 @@ jobs_more y n k t e w l d =
     let z = w.whole l in
     record { from_1 = omega (arith, w.from_1); upto = omega arith; whole = λ g. omega (arith, z, add-mul k 1 y, one-mul y) }
 
+pub jobs_at : (y n k t : ℕ) → t ≡ k * y + 1 → t < n → Jobs y n k t
+jobs_at y n k t e l = record { from_1 = omega arith; upto = omega arith; whole = λ g. e }
+
+pub next_job : (y k t : ℕ) → t ≡ k * y + 1 → t + y ≡ (k + 1) * y + 1
+next_job y k t e = omega (arith, add-mul k 1 y, one-mul y)
+
 -- the row up to there
 pub with_row : (c y n k t e all : ℕ) (before cur after : List ℕ) → 0 < y → Jobs y n k t → t < n → e ≡ min (t + y) n → all ≡ c * (k + 1)
     → AsNamed (with_task c y before) t before cur → Added all t e cur after → AsNamed (with_task c y before) e before after
