@@ -54,25 +54,15 @@ round_between y k u h l m =
         absurd (omega (arith, round_enough u y h))
     go (inr n) = n
 
--- after k jobs: t is behind the multiple, or the row is cut at n
-pub record Jobs (y n k t : ℕ) : Type 0 where
-  pub from_1 : 1 ≤ t
-  pub upto : t ≤ n
-  pub whole : t < n → t ≡ k * y + 1
-
-pub jobs-none : (y n : ℕ) → 0 < n → Jobs y n 0 1
-jobs-none y n h = record { from_1 = omega arith; upto = h; whole = λ l. omega arith }
-
-pub jobs_more : (y n k t e : ℕ) → Jobs y n k t → t < n → e ≡ min (t + y) n → Jobs y n (k + 1) e
-jobs_more y n k t e w l d =
-    let z = w.whole l in
-    record { from_1 = omega (arith, w.from_1); upto = omega arith; whole = λ g. omega (arith, z, add-mul k 1 y, one-mul y) }
+-- the starts of a task's rows are a period apart
+pub next_job : (y k t : ℕ) → t ≡ k * y + 1 → t + y ≡ (k + 1) * y + 1
+next_job y k t e = omega (arith, add-mul k 1 y, one-mul y)
 
 -- the row up to there
-pub with_row : (c y n k t e all : ℕ) (before cur after : List ℕ) → 0 < y → Jobs y n k t → t < n → e ≡ min (t + y) n → all ≡ c * (k + 1)
+pub with_row : (c y n k t e all : ℕ) (before cur after : List ℕ) → 0 < y → t ≡ k * y + 1 → t < n → e ≡ min (t + y) n → all ≡ c * (k + 1)
     → AsNamed (with_task c y before) t before cur → Added all t e cur after → AsNamed (with_task c y before) e before after
 unfolding with_task
-with_row c y n k t e all before cur after pos w l d ea v u =
+with_row c y n k t e all before cur after pos z l d ea v u =
     record {
       as_long = u.as_long ∙ v.as_long;
       done = λ i g. at i g (le-or-lt t i);
@@ -82,7 +72,6 @@ with_row c y n k t e all before cur after pos w l d ea v u =
     at : (i : ℕ) → i < e → (t ≤ i) ⊎ (i < t) → get_or after i 0 ≡ get_or before i 0 + c * round_up i y
     at i g (inr h) = u.before i h ∙ v.done i h
     at i g (inl h) =
-        let z = w.whole l in
         let r : round_up i y ≡ k + 1 = round_between y k i pos (omega (arith, z)) (omega (arith, z, add-mul k 1 y, one-mul y)) in
         u.row i h g ∙ rw (ea, r, v.rest i h)
 
@@ -99,10 +88,10 @@ pub more_asked : (c k all w : ℕ) → all ≡ c * k → w ≡ c → all + w ≡
 more_asked c k all w ea ew = rw (ea, ew, add-one k) (sym (mul-suc c k))
 
 -- so many jobs of a good task take no more than the list's ticks and a period
-pub few-jobs : (c y n k t all : ℕ) → c ≤ y → Jobs y n k t → t < n → all ≡ c * k → all < t
-few-jobs c y n k t all l w h e =
+pub few-jobs : (c y k t all : ℕ) → c ≤ y → t ≡ k * y + 1 → all ≡ c * k → all < t
+few-jobs c y k t all l z e =
     let m : c * k ≤ y * k = mul-le-mul_right k l in
-    omega (arith, m, w.whole h, mul_comm y k)
+    omega (arith, m, z, mul_comm y k)
 
 -- ---- one task more
 

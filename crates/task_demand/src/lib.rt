@@ -32,19 +32,17 @@ fn add_row(asks: &mut [u32], b: usize, e: usize, all: usize)
 }
 
 // A task of budget c: "c times t/T, rounded up" is added to number t, for the first n. That is one c more from behind each
-// multiple of T up to the next, so that nothing is divided. The walk steps by the period, and the row's end is its next start.
+// multiple of T up to the next, so that nothing is divided.
 fn add_task(asks: &mut [u32], n: usize, c: u16, period: u16)
     requires { (0 < period) × (c ≤ period) × (period ≤ longest) × (0 < n) × (n ≤ longest + 1)
         × (n ≤ length asks.old) × Small asks.old }
     ensures { AsNamed (with_task c period asks.old) n asks.old asks.new }
 {
+    let step = usize::from(period);
     let mut all = 0;
-    let mut t = 1;
-    while t < n {
+    for t in (1..n).step_by(step) {
         all += usize::from(c);
-        let e = (t + usize::from(period)).min(n);
-        add_row(asks, t, e, all);
-        t = e;
+        add_row(asks, t, (t + step).min(n), all);
     }
 }
 
