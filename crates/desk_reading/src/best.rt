@@ -33,14 +33,12 @@ pub fn no_best() -> Best
     }
 }
 
-// Whether the next place, with so much room, is better: place 0 is the first.
+// Whether the next place, with so much room, is better. Place 0 is the first: the place tells it, so that no Option makes
+// the state of each turn larger.
 fn is_outdone(b: Best, place: u32, room: u32) -> bool
     ensures { result ≡ outdone b place room }
 {
-    if place == 0 {
-        return true;
-    }
-    b.room < room
+    place == 0 || b.room < room
 }
 
 // What binds a place's room before any job is looked at for it.

@@ -6,7 +6,8 @@ use rules::limits::{LATEST, PLACES};
 
 pub const ALL_PLACES: u32 = PLACES as u32; // as a count of jobs
 
-pub const FAR: u64 = u32::MAX as u64; // no deadline is later
+// No deadline is later: what leaves a minimum as it is where no job is behind, so no step tests whether one is.
+pub const FAR: u64 = u32::MAX as u64;
 
 // Whether a request's time, budget and deadline are in their limits.
 pub fn numbers_ok(t: u32, c: u32, d: u32) -> bool
