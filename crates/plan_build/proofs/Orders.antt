@@ -14,7 +14,7 @@ use Rattle.rules.specs.declared.Terms.{Terms}
 use Rattle.tables.specs.Tables.{tables_of, GoodTables}
 use Rattle.std.specs.Prelude.{Result, Ok, Err}
 use Rattle.rules.specs.declared.Refusal.{Refusal}
-use Rattle.rules.specs.declared.Refusal.TheVariants.{Edition, Limits, Granule, Partition, Task, Unharmonic, Want, Output}
+use Rattle.rules.specs.declared.Refusal.TheVariants.{Edition, Limits, Granule, Partition, Task, Unharmonic, Want}
 use Rattle.tables.proofs.Chain.{within, good_exactly, unless_given}
 use Rattle.rules.proofs.Tests.{pick_second, good-granule, good_share_lem}
 use Rattle.rules.proofs.Answers.{no_filling}
@@ -36,10 +36,6 @@ module _ (q : ℕ → ℕ) (ps : List ℕ) (room : ℕ) where
     unfolding laid_of
     laid_11 m = rw (u, ← eh, ← ew, lt-ltb h w m)
 
-    pub laid_12 : w ≤ h → room < h → Err Output ≡ laid_of q ps room
-    unfolding laid_of
-    laid_12 m o = rw (u, ← eh, ← ew, le-ltb h w m, lt-ltb room h o)
-
     pub laid_frame : w ≤ h → h ≤ room → Ok h ≡ laid_of q ps room
     unfolding laid_of
     laid_frame m o = rw (u, ← eh, ← ew, le-ltb h w m, le-ltb room h o)
@@ -47,10 +43,6 @@ module _ (q : ℕ → ℕ) (ps : List ℕ) (room : ℕ) where
 module _ (terms : Terms) (ps : List ℕ) (room : ℕ) where
   abbrev q : ℕ → ℕ
   q = wanted terms ps
-
-  pub build_tables : (r : Refusal) → tables_of terms longest ps [] ≡ Err r → Err r ≡ build_of terms ps room
-  unfolding build_of
-  build_tables r e = rw e
 
   pub build_laid : tables_of terms longest ps [] ≡ (Ok tt) → (r : Result ℕ Refusal) → r ≡ laid_of q ps room → r ≡ build_of terms ps room
   unfolding build_of

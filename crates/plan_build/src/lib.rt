@@ -14,6 +14,7 @@ use table::{all_wanted, frame, unharmonic};
 mod table; // table.rt: what a table asks for
 
 // The answer for a good table and an output of so many ticks.
+#[tactic(auto, unfolding(crate::specs::Build::laid_of))]
 fn lay_answer(terms: Terms, parts: &[u16], room: usize) -> Result<usize, Refusal>
     requires { (terms.granule ≤ most_granule) × (partitions parts.now ≤ most_partitions) }
     ensures { result ≡ laid_of (wanted terms parts.now) parts.now room }
@@ -32,6 +33,7 @@ fn lay_answer(terms: Terms, parts: &[u16], room: usize) -> Result<usize, Refusal
 }
 
 // The answer for an output of so many ticks.
+#[tactic(auto, unfolding(crate::specs::Build::build_of))]
 fn build_answer(terms: Terms, parts: &[u16], room: usize) -> Result<usize, Refusal>
     ensures { result ≡ build_of terms parts.now room }
 {

@@ -12,6 +12,7 @@ ghost use Rattle.theory.specs.Inner.{wanted_in};
 use rules::Terms;
 
 // The largest cycle.
+#[tactic(auto, unfolding(theory::specs::Harmonic::frame))]
 pub fn frame(parts: &[u16]) -> usize
     ensures { (result < 2 ^ 16) × (result ≡ frame parts.now) }
 {
@@ -33,6 +34,7 @@ fn divides(a: u16, b: u16) -> bool
 }
 
 // Whether neither of two cycles divides the other.
+#[tactic(auto, unfolding(rules::specs::Walk::fails, theory::specs::Harmonic::pairs))]
 fn clash(parts: &[u16], k: usize, j: usize) -> bool
     ensures { result ≡ fails (pairs parts.now k) j }
 {
@@ -71,6 +73,7 @@ fn wanted_in(terms: Terms, parts: &[u16], h: usize, k: usize) -> usize
 }
 
 // What all want together in it: the sum of q·H/m.
+#[tactic(auto, unfolding(theory::specs::Harmonic::all_wanted))]
 pub fn all_wanted(terms: Terms, parts: &[u16], h: usize) -> usize
     requires { (terms.granule ≤ most_granule) × (h < 2 ^ 16) × (partitions parts.now ≤ most_partitions) }
     ensures { result ≡ all_wanted (wanted terms parts.now) parts.now h }

@@ -1,23 +1,20 @@
--- The order of the checker's refusals, at the numbers that the code holds. Assumes nothing.
+-- The checker's scan, at the numbers that the code holds. Assumes nothing.
 use Prim.Native.Nat.{ℕ, ◌+◌, ◌≤◌, ◌<◌}
 use mathlib.Core.Path.{◌≡◌}
 use mathlib.Core.Bool.{Bool, true, false}
-use mathlib.Core.List.{List, []}
+use mathlib.Core.List.{List}
 use lib.ListN.{length}
 use borrow.Author.Tests.{lt-ltb, le-ltb}
 use native.Mathlib.Omega.{arith}
 use Rattle.rules.specs.Walk.{first, some}
 use Rattle.rules.specs.Table.{partitions, cycle}
-use Rattle.rules.specs.Terms.{rule_in, wanted}
-use Rattle.rules.specs.declared.Terms.{Terms}
-use Rattle.tables.specs.Tables.{tables_of, ticks_judged}
-use Rattle.std.specs.Prelude.{Result, Ok, Err}
+use Rattle.std.specs.Prelude.{Ok, Err}
 use Rattle.rules.specs.declared.Refusal.{Refusal}
 use Rattle.rules.specs.declared.Refusal.TheVariants.{Shortfall}
 use Rattle.rules.proofs.First.{first_found, first_done}
 use Rattle.rules.specs.declared.Rule.{Rule}
 use Rattle.theory.specs.Plan.{held}
-use Rattle.plan_check.specs.Check.{short_at, scan_of, plan_check_of, check_of}
+use Rattle.plan_check.specs.Check.{short_at, scan_of}
 
 -- whether a stretch of place k holds too little
 abbrev pub short_in : Rule → (ℕ → ℕ) → List ℕ → List ℕ → ℕ → Bool
@@ -33,53 +30,24 @@ short_part rule q plan ps = first (short_in rule q plan ps) (partitions ps)
 abbrev pub shortfall : Rule → (ℕ → ℕ) → List ℕ → List ℕ → ℕ → ℕ → Refusal
 shortfall rule q plan ps k s = Shortfall (k + 1) s (held rule plan (k + 1) (cycle ps k) s) (q k)
 
--- ---- the scan's two loops
-
 module _ (rule : Rule) (q : ℕ → ℕ) (plan ps : List ℕ) (k : ℕ) where
-  pub short_no : (s h m w : ℕ) → m ≡ cycle ps k → w ≡ q k → h ≡ held rule plan (k + 1) m s → w ≤ h → short_at rule q plan ps k s ≡ false
-  unfolding short_at
-  short_no s h m w em ew eh l = rw (← ew, ← em, ← eh) (le-ltb h w l)
-
-  -- every start of the partition was tried
-  pub whole : (s : ℕ) → s ≤ length plan → length plan ≤ s → first (short_at rule q plan ps k) s ≡ s → short_in rule q plan ps k ≡ false
-  whole s h l e = rw (first_done _ (length plan) s h l e) (le-ltb (length plan) (length plan) (omega arith))
+  -- no start of the partition holds too little
+  pub whole : first (short_at rule q plan ps k) (length plan) ≡ length plan → short_in rule q plan ps k ≡ false
+  whole e = rw e (le-ltb (length plan) (length plan) (omega arith))
 
   -- the scan stopped at start s
   pub stopped :
-      (s h m w : ℕ) → k < partitions ps → first (short_in rule q plan ps) k ≡ k → s < length plan → first (short_at rule q plan ps k) s ≡ s
-      → m ≡ cycle ps k → w ≡ q k → h ≡ held rule plan (k + 1) m s → h < w
+      (s h w : ℕ) → k < partitions ps → first (short_in rule q plan ps) k ≡ k → s < length plan → short_start rule q plan ps k ≡ s
+      → h ≡ held rule plan (k + 1) (cycle ps k) s → w ≡ q k
       → Err (Shortfall (k + 1) s h w) ≡ scan_of rule q plan ps
-  unfolding scan_of short_at
-  stopped s h m w lk ek ls es em ew eh l =
-      let short : short_at rule q plan ps k s ≡ true = rw (← ew, ← em, ← eh) (lt-ltb h w l) in
-      let start : short_start rule q plan ps k ≡ s = first_found _ (length plan) s ls es short in
+  unfolding scan_of
+  stopped s h w lk ek ls start eh ew =
       let here : short_in rule q plan ps k ≡ true = rw start (lt-ltb s (length plan) ls) in
       let part : short_part rule q plan ps ≡ k = first_found _ (partitions ps) k lk ek here in
-      rw (part, lt-ltb k (partitions ps) lk, start, ← ew, ← em, ← eh)
+      rw (part, lt-ltb k (partitions ps) lk, start, ← ew, ← eh)
 
 module _ (rule : Rule) (q : ℕ → ℕ) (plan ps : List ℕ) where
   -- the scan ran to its end
   pub served : (k : ℕ) → k ≤ partitions ps → partitions ps ≤ k → first (short_in rule q plan ps) k ≡ k → (Ok tt) ≡ scan_of rule q plan ps
   unfolding scan_of
   served k h l e = rw (first_done _ (partitions ps) k h l e, le-ltb (partitions ps) (partitions ps) (omega arith))
-
-  -- ---- 8, then 9
-
-  pub plan_8 : (r : Refusal) → ticks_judged plan ps ≡ Err r → Err r ≡ plan_check_of rule q plan ps
-  unfolding plan_check_of
-  plan_8 r e = rw e
-
-  pub plan_9 : ticks_judged plan ps ≡ (Ok tt) → (r : Result (Unit {0}) Refusal) → r ≡ scan_of rule q plan ps → r ≡ plan_check_of rule q plan ps
-  unfolding plan_check_of
-  plan_9 e r h = rw e h
-
--- ---- 2, 3, 21 and 6, then the plan
-
-module _ (terms : Terms) (plan ps : List ℕ) where
-  pub check-tables : (r : Refusal) → tables_of terms (length plan) ps [] ≡ Err r → Err r ≡ check_of terms plan ps
-  unfolding check_of
-  check-tables r e = rw e
-
-  pub check_plan : tables_of terms (length plan) ps [] ≡ (Ok tt) → (r : Result (Unit {0}) Refusal) → r ≡ plan_check_of (rule_in terms) (wanted terms ps) plan ps → r ≡ check_of terms plan ps
-  unfolding check_of
-  check_plan e r h = rw e h

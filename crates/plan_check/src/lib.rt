@@ -15,23 +15,21 @@ pub fn scan(rule: Rule, terms: Terms, plan: &[u16], parts: &[u16]) -> Result<(),
     for k in 0..rules::records::partitions(parts) {
         let m = usize::from(rules::records::cycle(parts, k));
         let q = rules::records::wanted(terms, parts, k);
-        let mut stretch = plan_service::stretch_from(rule, plan, k + 1, m, 0);
-        while stretch.start < plan.len() {
-            if stretch.held < q {
-                return Err(Refusal::Shortfall {
-                    partition: k + 1,
-                    start: stretch.start,
-                    held: stretch.held,
-                    wanted: q,
-                });
-            }
-            stretch = plan_service::next_stretch(rule, plan, k + 1, stretch);
+        let short = plan_service::earliest(rule, plan, k + 1, m, |held| held < q);
+        if let Some((start, held)) = short {
+            return Err(Refusal::Shortfall {
+                partition: k + 1,
+                start,
+                held,
+                wanted: q,
+            });
         }
     }
     Ok(())
 }
 
 // Refusals 8 and 9, of tables whose numbers are within their limits.
+#[tactic(auto, unfolding(crate::specs::Check::plan_check_of))]
 pub fn check_plan(terms: Terms, plan: &[u16], parts: &[u16]) -> Result<(), Refusal>
     ensures { result ≡ plan_check_of (rule_in terms) (wanted terms parts.now) plan.now parts.now }
 {
@@ -40,6 +38,7 @@ pub fn check_plan(terms: Terms, plan: &[u16], parts: &[u16]) -> Result<(), Refus
 }
 
 // Whether the plan serves the table.
+#[tactic(auto, unfolding(crate::specs::Check::check_of))]
 pub fn check(terms: Terms, plan: &[u16], parts: &[u16]) -> Result<(), Refusal>
     ensures { Checks terms plan.now parts.now result }
 {

@@ -1,6 +1,6 @@
 -- What the list holds after so many starts, and that after all of them it is least service. Assumes nothing.
 use Prim.Native.Nat.{ℕ, zero, suc, ◌+◌, ◌-◌, ◌%◌, ◌≤◌, ◌<◌, min}
-use mathlib.Core.Path.{◌≡◌, refl, sym, ap, ap₂, ◌∙◌}
+use mathlib.Core.Path.{◌≡◌, sym, ap, ap₂, ◌∙◌}
 use mathlib.Core.Logic.{◌⊎◌, inl, inr}
 use mathlib.Core.Bool.{Bool, true, false}
 use mathlib.Core.List.{List}
@@ -8,7 +8,6 @@ use native.Mathlib.Nat.{eq-or-lt_of_le, le_of_suc-le-suc, mod-eq_of_lt, mod-add-
 use native.Mathlib.Numerals.{add-one}
 use native.Mathlib.Decide.{ℕ_discrete}
 use native.Mathlib.Omega.{arith}
-use lib.Dec.{eqb}
 use lib.ListN.{length, get_or, set}
 use borrow.Author.Tests.{eq-eqb, ne_eqb}
 use Rattle.rules.specs.Walk.{pick}
@@ -16,7 +15,7 @@ use Rattle.rules.specs.Inner.{AsNamed}
 use Rattle.rules.specs.declared.Rule.{Rule}
 use Rattle.rules.proofs.Named.{named-turn, named_as, named_then}
 use Rattle.rules.proofs.Least.{smallest-zero}
-use Rattle.theory.specs.Plan.{service, held, least}
+use Rattle.theory.specs.Plan.{held, least}
 use Rattle.theory.proofs.Plan.{least_is_least, least_attained, least_bounds}
 use Rattle.plan_service.proofs.Turns.{empty-idle, empty_other}
 use Rattle.plan_curve.specs.Curve.{start_tried}
@@ -80,18 +79,6 @@ lowered_all rule plan p t = go (ℕ_discrete (length plan) 0)
 -- ---- the laws that the code's proofs cite
 
 module _ (rule : Rule) (plan : List ℕ) (p s : ℕ) where
-  pub tried_first : s ≡ 0 → true ≡ start_tried rule plan p s
-  unfolding start_tried
-  tried_first e = rw (eq-eqb s 0 e)
-
-  pub within_run : ¬ (s ≡ 0) → service rule plan s ≡ p → false ≡ start_tried rule plan p s
-  unfolding start_tried
-  within_run n e = rw (ne_eqb s 0 n, eq-eqb (service rule plan s) p e)
-
-  pub tried_behind : ¬ (s ≡ 0) → ¬ (service rule plan s ≡ p) → eqb (service rule plan (s - 1)) p ≡ start_tried rule plan p s
-  unfolding start_tried
-  tried_behind n h = rw (ne_eqb s 0 n, ne_eqb (service rule plan s) p h)
-
   -- one number more
   lower-turn : (t h v : ℕ) (before cur after : List ℕ) → AsNamed (lower_from rule plan p s before) t before cur → t < length before → h ≡ held rule plan p t s
       → v ≡ min (get_or cur t 0) h → after ≡ set cur t v → AsNamed (lower_from rule plan p s before) (t + 1) before after
@@ -106,17 +93,6 @@ module _ (rule : Rule) (plan : List ℕ) (p s : ℕ) where
       → v ≡ min (get_or cur t 0) h → after ≡ set cur t v → LoweredOn rule plan p s b (t + 1) from after
   row-turn b t h v from cur after w l eh ev ea =
       record { goes_on = λ before u. let z = w.goes_on before u in lower-turn t h v before cur after z (omega (arith, z.as_long)) eh ev ea }
-
-  pub row_all : (b e t : ℕ) (from to : List ℕ) → t ≤ e → e ≤ t → LoweredOn rule plan p s b t from to → LoweredOn rule plan p s b e from to
-  row_all b e t from to l g w = let z : t ≡ e = omega arith in rw z at w
-
-  pub start_counts : (n : ℕ) (before after : List ℕ) → start_tried rule plan p s ≡ true → AsNamed (lower_from rule plan p s before) n before after → AsNamed (lower_at rule plan p s before) n before after
-  unfolding lower_at
-  start_counts n before after e = named_as _ _ n before after (λ t l. rw e)
-
-  pub start_left : (n : ℕ) (l : List ℕ) → start_tried rule plan p s ≡ false → AsNamed (lower_at rule plan p s l) n l l
-  unfolding lower_at
-  start_left n l e = record { as_long = refl; done = λ t h. rw e; rest = λ t h. refl }
 
   -- one start more
   pub lowered_turn : (n : ℕ) (before cur after : List ℕ) → AsNamed (lowered rule plan p s) n before cur → AsNamed (lower_at rule plan p s cur) n cur after → AsNamed (lowered rule plan p (s + 1)) n before after

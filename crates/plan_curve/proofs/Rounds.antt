@@ -1,8 +1,8 @@
 -- A plan whose ticks that serve p repeat after m has the curve of its first m ticks. Assumes nothing.
 use Prim.Native.Nat.{ℕ, zero, suc, ◌+◌, ◌-◌, ◌%◌, ◌≤◌, ◌<◌}
-use mathlib.Core.Path.{◌≡◌, refl, sym, ap, ◌∙◌}
+use mathlib.Core.Path.{◌≡◌, sym, ap, ◌∙◌}
 use mathlib.Core.Logic.{◌⊎◌, inl, inr}
-use mathlib.Core.Bool.{Bool, true, false}
+use mathlib.Core.Bool.{Bool}
 use mathlib.Core.List.{List}
 use native.Mathlib.Nat.{mod-mod_of_dvd, dvd_of_mod-eq-zero, mod-eq_of_lt, mod-lt, add-mod_right, mod_self}
 use native.Mathlib.Decide.{ℕ_discrete}
@@ -10,7 +10,6 @@ use native.Mathlib.Omega.{arith}
 use lib.Dec.{eqb}
 use lib.ListN.{length, take}
 use lib.Seq.{take_all, length-take-le, get_or-take}
-use Rattle.rules.specs.Walk.{only}
 use Rattle.rules.specs.declared.Rule.{Rule}
 use Rattle.rules.specs.declared.Rule.TheVariants.{Own, Switching}
 use Rattle.rules.proofs.Sum.{le-or-lt, count_ext}
@@ -101,31 +100,24 @@ whole-frame rule plan p f e =
 
 -- the ticks before place k are as those m later
 pub record AgainTo (rule : Rule) (plan : List ℕ) (p m k : ℕ) : Type 0 where
-  pub again : (i : ℕ) → i < k → only (eqb (service rule plan (i + m)) p) 1 ≡ only (eqb (service rule plan i) p) 1
+  pub again : (i : ℕ) → i < k → eqb (service rule plan (i + m)) p ≡ eqb (service rule plan i) p
 
 pub again-none : (rule : Rule) (plan : List ℕ) (p m : ℕ) → AgainTo rule plan p m 0
 again-none rule plan p m = record { again = λ i l. absurd (omega arith) }
 
-pub again_more : (rule : Rule) (plan : List ℕ) (p m k b c : ℕ) → AgainTo rule plan p m k → b ≡ only (eqb (service rule plan (k + m)) p) 1 → c ≡ only (eqb (service rule plan k) p) 1 → b ≡ c → AgainTo rule plan p m (k + 1)
+pub again_more : (rule : Rule) (plan : List ℕ) (p m k : ℕ) (b c : Bool) → AgainTo rule plan p m k → b ≡ eqb (service rule plan (k + m)) p → c ≡ eqb (service rule plan k) p → b ≡ c → AgainTo rule plan p m (k + 1)
 again_more rule plan p m k b c w eb ec e = record { again = λ i l. go i l (ℕ_discrete i k) }
   where
-    go : (i : ℕ) → i < k + 1 → Dec (i ≡ k) → only (eqb (service rule plan (i + m)) p) 1 ≡ only (eqb (service rule plan i) p) 1
+    go : (i : ℕ) → i < k + 1 → Dec (i ≡ k) → eqb (service rule plan (i + m)) p ≡ eqb (service rule plan i) p
     go i l (yes z) = rw z (sym eb ∙ e ∙ ec)
     go i l (no n) = w.again i (omega arith)
 
-only_same : (x y : Bool) → only x 1 ≡ only y 1 → x ≡ y
-unfolding only
-only_same true true e = refl
-only_same false false e = refl
-only_same true false e = absurd (omega arith)
-only_same false true e = absurd (omega arith)
-
-pub again-all : (rule : Rule) (plan : List ℕ) (p m k b c : ℕ) → 0 < m → length plan % m ≡ 0 → b ≡ only (eqb (service rule (take m plan) 0) p) 1 → c ≡ only (eqb (service rule plan 0) p) 1 → b ≡ c
-    → k ≤ length plan - m → length plan - m ≤ k → AgainTo rule plan p m k → Repeats rule plan p m
-again-all rule plan p m k b c pos z eb ec e l g w =
+pub again-all : (rule : Rule) (plan : List ℕ) (p m k : ℕ) (b c : Bool) → 0 < m → length plan % m ≡ 0 → b ≡ eqb (service rule (take m plan) 0) p → c ≡ eqb (service rule plan 0) p → b ≡ c
+    → length plan - m ≤ k → AgainTo rule plan p m k → Repeats rule plan p m
+again-all rule plan p m k b c pos z eb ec e g w =
     record {
       whole = z;
       some = λ h. pos;
-      first = only_same (eqb (service rule (take m plan) 0) p) (eqb (service rule plan 0) p) (sym eb ∙ e ∙ ec);
-      again = λ i h. only_same (eqb (service rule plan (i + m)) p) (eqb (service rule plan i) p) (w.again i (omega arith));
+      first = sym eb ∙ e ∙ ec;
+      again = λ i h. w.again i (omega arith);
     }

@@ -10,12 +10,12 @@ ghost use Rattle.plan_curve.specs.Curve.{DrawsCurve, start_tried};
 ghost use Rattle.plan_curve.specs.Inner.{most, lower_at, lower_from, LoweredOn, Framed, Repeats};
 
 use plan_service::{serves_at, service_at};
-use rules::numbers::{smaller, wide, wide32};
 use rules::{Refusal, Rule};
 
 const FEW: usize = 64; // numbers; a frame within the limits has fewer divisors
 
 // Whether stretches from tick s on are tried: it is the frame's first tick, or stands right behind ticks that serve p.
+#[tactic(auto, unfolding(crate::specs::Curve::start_tried))]
 fn start_tried(rule: Rule, plan: &[u16], p: usize, s: usize) -> bool
     requires { s < length plan.now }
     ensures { result ≡ start_tried rule plan.now p s }
@@ -30,6 +30,7 @@ fn start_tried(rule: Rule, plan: &[u16], p: usize, s: usize) -> bool
 }
 
 // How many of t ticks of a plan with f can serve p at most; of an empty one every tick is idle.
+#[tactic(auto, unfolding(crate::specs::Inner::most))]
 fn most(f: usize, p: usize, t: usize) -> usize
     ensures { (result ≤ t) × (result ≡ most f p t) }
 {
@@ -44,10 +45,8 @@ fn begin(f: usize, p: usize, list: &mut [u32], n: usize)
     requires { (n ≤ 2 ^ 32) × (n ≤ length list.old) }
     ensures { AsNamed (most f p) n list.old list.new }
 {
-    let mut t = 0;
-    while t < n {
+    for t in 0..n {
         list[t] = most(f, p, t) as u32;
-        t += 1;
     }
 }
 
@@ -70,11 +69,9 @@ fn lower_row(
         × LoweredOn rule plan.now p s b e list.old list.new }
 {
     let mut all = h;
-    let mut t = b;
-    while t < e {
-        list[t] = smaller(wide32(list[t]), all) as u32;
-        all = all + serves_at(rule, plan, p, at + (t - b));
-        t += 1;
+    for t in b..e {
+        list[t] = list[t].min(all as u32);
+        all += usize::from(serves_at(rule, plan, p, at + (t - b)));
     }
     all
 }
@@ -86,7 +83,7 @@ fn lower_from(rule: Rule, plan: &[u16], p: usize, s: usize, list: &mut [u32], n:
     ensures { AsNamed (lower_from rule plan.now p s list.old) n
         list.old list.new }
 {
-    let e = smaller(n, plan.len() - s);
+    let e = n.min(plan.len() - s);
     let h = lower_row(rule, plan, p, s, s, list, 0, e, 0);
     if e < n {
         lower_row(rule, plan, p, s, 0, list, e, n, h);
@@ -94,6 +91,7 @@ fn lower_from(rule: Rule, plan: &[u16], p: usize, s: usize, list: &mut [u32], n:
 }
 
 // The same, where a worst stretch may start at s.
+#[tactic(auto, unfolding(crate::specs::Inner::lower_at))]
 fn lower_at(rule: Rule, plan: &[u16], p: usize, s: usize, list: &mut [u32], n: usize)
     requires { (s < length plan.now) × (n ≤ length plan.now + 1) × (n ≤ 2 ^ 32) × (n ≤ length list.old) }
     ensures { AsNamed (lower_at rule plan.now p s list.old) n
@@ -111,10 +109,8 @@ fn draw_frame(rule: Rule, plan: &[u16], p: usize, list: &mut [u32], n: usize)
 {
     let f = plan.len();
     begin(f, p, list, n);
-    let mut s = 0;
-    while s < f {
+    for s in 0..f {
         lower_at(rule, plan, p, s, list, n);
-        s += 1;
     }
 }
 
@@ -126,7 +122,7 @@ fn within_frame(f: usize, n: usize) -> usize
     if f == 0 {
         return n;
     }
-    smaller(n, f + 1)
+    n.min(f + 1)
 }
 
 // least(0) .. least(n - 1): a frame more holds as much more as a frame holds, whatever its start.
@@ -137,10 +133,8 @@ fn draw_frames(rule: Rule, plan: &[u16], p: usize, list: &mut [u32], n: usize)
     let f = plan.len();
     let k = within_frame(f, n);
     draw_frame(rule, plan, p, list, k);
-    let mut t = k;
-    while t < n {
-        list[t] = (wide32(list[t - f]) + wide32(list[f])) as u32;
-        t += 1;
+    for t in k..n {
+        list[t] = list[t - f] + list[f];
     }
 }
 
@@ -156,13 +150,10 @@ fn repeats(rule: Rule, plan: &[u16], p: usize, m: usize) -> bool
     if serves_at(rule, &plan[..m], p, 0) != serves_at(rule, plan, p, 0) {
         return false;
     }
-    let end = plan.len() - m;
-    let mut k = 0;
-    while k < end {
+    for k in 0..plan.len() - m {
         if serves_at(rule, plan, p, k + m) != serves_at(rule, plan, p, k) {
             return false;
         }
-        k += 1;
     }
     true
 }
@@ -172,13 +163,10 @@ fn shortest(rule: Rule, plan: &[u16], p: usize) -> usize
     ensures { (result ≤ length plan.now) × Repeats rule plan.now p result }
 {
     let f = plan.len();
-    let half = f / 2;
-    let mut m = 1;
-    while m <= half {
+    for m in 1..=f / 2 {
         if repeats(rule, plan, p, m) {
             return m;
         }
-        m += 1;
     }
     f
 }
@@ -204,6 +192,7 @@ pub fn draw(rule: Rule, plan: &[u16], p: usize, list: &mut [u32], n: usize)
 }
 
 // least(0) .. least(n) of partition p by an edition, at the start of the list.
+#[tactic(auto, unfolding(crate::specs::Curve::curve_of))]
 pub fn curve(
     edition: usize,
     plan: &[u16],
@@ -221,6 +210,6 @@ pub fn curve(
         return Err(Refusal::Output);
     }
     let rule = rules::rule_of(edition);
-    draw(rule, plan, wide(p), list, needed);
+    draw(rule, plan, usize::from(p), list, needed);
     Ok(needed)
 }

@@ -25,6 +25,7 @@ fn clear(out: &mut [u16], h: usize)
 
 // One tick with `seen` idle ticks before it in its cycle: p gets it where it is idle and they are fewer than q.
 // The answer: the idle ticks up to it.
+#[tactic(auto, unfolding(rules::specs::Walk::only))]
 fn give_tick(out: &mut [u16], t: usize, p: u16, q: usize, seen: usize) -> usize
     requires { (t < length out.old) × (seen ≤ t) }
     ensures { (result ≡ seen + only (eqb (tick_of out.old t) 0) 1)

@@ -2,10 +2,9 @@
 #![tactic(auto)]
 
 ghost use Rattle.std.specs.Prelude.{◌≡◌, ◌+◌, ◌%◌, ◌^◌, ◌≤◌, ◌<◌, eqb, length};
-ghost use Rattle.rules.specs.Walk.{only};
 ghost use Rattle.theory.specs.Plan.{service, held, HeldIs, least, LeastIs, worst_start};
+ghost use Rattle.plan_service.specs.Inner.{Counted, Earliest};
 
-use rules::numbers::wide;
 use rules::{Refusal, Rule};
 
 // The partition that the tick at a place of the frame serves, or 0 for none.
@@ -13,12 +12,12 @@ pub fn service_at(rule: Rule, plan: &[u16], at: usize) -> usize
     requires { at < length plan.now }
     ensures { result ≡ service rule plan.now at }
 {
-    let owner = wide(plan[at]);
+    let owner = usize::from(plan[at]);
     match rule {
         Rule::Own => owner,
         Rule::Switching => {
             let behind = rules::numbers::before(at, plan.len());
-            if wide(plan[behind]) == owner {
+            if usize::from(plan[behind]) == owner {
                 return owner;
             }
             0
@@ -26,21 +25,19 @@ pub fn service_at(rule: Rule, plan: &[u16], at: usize) -> usize
     }
 }
 
-// 1 where the tick at a place of the frame serves p, else 0. Most ticks are another's, and the tick before such a one isn't
-// looked at.
-pub fn serves_at(rule: Rule, plan: &[u16], p: usize, at: usize) -> usize
+// Whether the tick at a place of the frame serves p. Most ticks are another's, and the tick before such a one isn't looked
+// at.
+pub fn serves_at(rule: Rule, plan: &[u16], p: usize, at: usize) -> bool
     requires { at < length plan.now }
-    ensures { (result ≤ 1) × (result ≡ only (eqb (service rule plan.now at) p) 1) }
+    ensures { result ≡ eqb (service rule plan.now at) p }
 {
     match rule {
-        Rule::Own => rules::numbers::one_if(service_at(rule, plan, at) == p),
+        Rule::Own => service_at(rule, plan, at) == p,
         Rule::Switching => {
-            if wide(plan[at]) != p {
-                if p != 0 {
-                    return 0;
-                }
+            if usize::from(plan[at]) != p && p != 0 {
+                return false;
             }
-            rules::numbers::one_if(service_at(rule, plan, at) == p)
+            service_at(rule, plan, at) == p
         }
     }
 }
@@ -51,10 +48,8 @@ fn walked(rule: Rule, plan: &[u16], p: usize, n: usize, a: usize) -> usize
     ensures { (result ≤ n) × (result ≡ held rule plan.now p n a) }
 {
     let mut h = 0;
-    let mut k = 0;
-    while k < n {
-        h = h + serves_at(rule, plan, p, a + k);
-        k += 1;
+    for k in 0..n {
+        h += usize::from(serves_at(rule, plan, p, a + k));
     }
     h
 }
@@ -105,17 +100,16 @@ pub fn held(edition: usize, plan: &[u16], p: u16, s: u32, n: u32) -> Result<usiz
         return Err(Refusal::Edition);
     }
     let rule = rules::rule_of(edition);
-    Ok(held_from(rule, plan, p as usize, n as usize, s as usize))
+    Ok(held_from(rule, plan, usize::from(p), n as usize, s as usize))
 }
 
 // A stretch on the walk over starts: how many of its ticks serve some partition, and the place in the frame of the tick
 // behind it, which enters next. Its length stands there for the contracts alone.
 #[derive(Clone, Copy)]
-pub struct Stretch {
-    pub start: usize,
-    pub length: usize,
-    pub held: usize,
-    pub enters: usize,
+struct Stretch {
+    length: usize,
+    held: usize,
+    enters: usize,
 }
 
 // The place of tick t in the frame (of an empty plan t itself).
@@ -129,69 +123,79 @@ fn place(plan: &[u16], t: usize) -> usize
 }
 
 // The stretch of n ticks from tick s on, counted; both are of 32 bits, as callers have them, so that no sum can wrap.
-pub fn stretch_from(rule: Rule, plan: &[u16], p: usize, n: usize, s: usize) -> Stretch
+fn stretch_from(rule: Rule, plan: &[u16], p: usize, n: usize, s: usize) -> Stretch
     requires { (n < 2 ^ 32) × (s < 2 ^ 32) }
-    ensures { (result.start ≡ s) × (result.length ≡ n)
-        × (result.held ≡ held rule plan.now p result.length result.start)
-        × (result.enters ≡ (result.start + result.length) % length plan.now) }
+    ensures { (result.length ≡ n) × Counted rule plan.now p s result }
 {
     Stretch {
-        start: s,
         length: n,
         held: held_from(rule, plan, p, n, s),
         enters: place(plan, s + n),
     }
 }
 
-// The stretch that starts a tick later: the tick that enters is added, the tick that leaves is taken off.
-pub fn next_stretch(rule: Rule, plan: &[u16], p: usize, stretch: Stretch) -> Stretch
-    requires { (stretch.length < 2 ^ 32) × (stretch.start < length plan.now)
-        × (stretch.held ≡ held rule plan.now p stretch.length stretch.start)
-        × (stretch.enters ≡ (stretch.start + stretch.length) % length plan.now) }
-    ensures { (result.start ≡ stretch.start + 1) × (result.length ≡ stretch.length)
-        × (result.held ≡ held rule plan.now p result.length result.start)
-        × (result.enters ≡ (result.start + result.length) % length plan.now) }
+// The stretch that starts behind tick s: the tick that enters is added, the tick that leaves is taken off.
+fn next_stretch(rule: Rule, plan: &[u16], p: usize, s: usize, stretch: Stretch) -> Stretch
+    requires { (stretch.length < 2 ^ 32) × (s < length plan.now) × Counted rule plan.now p s stretch }
+    ensures { (result.length ≡ stretch.length) × Counted rule plan.now p (s + 1) result }
 {
-    let leaves = stretch.start;
     let enters = stretch.enters;
     let next = rules::numbers::after(enters, plan.len());
+    let more = usize::from(serves_at(rule, plan, p, enters));
+    let less = usize::from(serves_at(rule, plan, p, s));
     Stretch {
-        start: leaves + 1,
-        length: stretch.length,
-        held: stretch.held + serves_at(rule, plan, p, enters) - serves_at(rule, plan, p, leaves),
+        held: stretch.held + more - less,
         enters: next,
+        ..stretch
     }
 }
 
-// The smallest number of ticks that serve p in any t consecutive ticks: one stretch is counted, the others follow from it.
+// The lowest start from which n ticks hold a number that passes the test, and that number. One stretch is counted, the
+// others follow from it.
+pub fn earliest<T: Fn(usize) -> bool>(
+    rule: Rule,
+    plan: &[u16],
+    p: usize,
+    n: usize,
+    test: T,
+) -> Option<(usize, usize)>
+    requires { (n < 2 ^ 32) × T.IsAlwaysCallable test }
+    ensures { Earliest (T.post test) (held rule plan.now p n) (length plan.now) result }
+{
+    let mut stretch = stretch_from(rule, plan, p, n, 0);
+    for s in 0..plan.len() {
+        if test(stretch.held) {
+            return Some((s, stretch.held));
+        }
+        stretch = next_stretch(rule, plan, p, s, stretch);
+    }
+    None
+}
+
+// The smallest number of ticks that serve p in any t consecutive ticks.
 pub fn least_by(rule: Rule, plan: &[u16], p: u16, t: u32) -> usize
     ensures { result ≡ least rule plan.now p t }
 {
-    let owner = p as usize;
+    let owner = usize::from(p);
     let f = plan.len();
     let mut stretch = stretch_from(rule, plan, owner, t as usize, 0);
     let mut best = stretch.held;
-    while stretch.start < f {
-        best = rules::numbers::smaller(best, stretch.held);
-        stretch = next_stretch(rule, plan, owner, stretch);
+    for s in 0..f {
+        best = best.min(stretch.held);
+        stretch = next_stretch(rule, plan, owner, s, stretch);
     }
     best
 }
 
-// The lowest start from which t ticks hold no more than `low`, which is the least.
+// The lowest start from which t ticks hold no more than `low`, which is the least; an empty plan's is its tick 0.
 pub fn worst_start(rule: Rule, plan: &[u16], p: usize, t: usize, low: usize) -> usize
     requires { (t < 2 ^ 32) × (low ≡ least rule plan.now p t) }
     ensures { (result ≤ length plan.now) × (result ≡ worst_start rule plan.now p t) }
 {
-    let frame = plan.len();
-    let mut stretch = stretch_from(rule, plan, p, t, 0);
-    while stretch.start < frame {
-        if stretch.held == low {
-            return stretch.start;
-        }
-        stretch = next_stretch(rule, plan, p, stretch);
+    match earliest(rule, plan, p, t, |held| held == low) {
+        Some((start, _)) => start,
+        None => plan.len(),
     }
-    frame
 }
 
 // The least number by an edition.

@@ -1,8 +1,7 @@
 use Prim.Native.Nat.{ℕ, max}
 use mathlib.Core.Path.{◌≡◌, sym, ap, ◌∙◌}
-use Rattle.rules.specs.Table.{cycle, partitions}
+use Rattle.rules.specs.Table.{cycle}
 use Rattle.rules.proofs.Least.{largest-zero, largest_more}
-use Rattle.theory.specs.Harmonic.{frame}
 use borrow.Author.Rules.{rules}
 use Rattle.plan_build.proofs.table.frame.Goals as goal
 
@@ -13,7 +12,3 @@ pub loop-k-preserved : goal.loop-k-preserved
 loop-k-preserved c =
     let e : c.max-h.result ≡ max c.loop-k.h (cycle c.args.parts.now c.loop-k.k) = search rules in
     (search rules, e ∙ ap (λ (x : ℕ). max x (cycle c.args.parts.now c.loop-k.k)) c.loop-k.invariant.1 ∙ sym (largest_more _ _))
-
-pub returns : goal.returns
-unfolding frame
-returns c = let e : c.loop-k.k ≡ partitions c.args.parts.now = search rules in (c.loop-k.invariant.0, rw e at c.loop-k.invariant.1)
