@@ -1,11 +1,11 @@
 -- Laws of two-byte numbers: the numbers of bytes, the bytes of numbers, and bytes stored one behind the other. Assumes nothing.
 use Prim.Native.Nat.{ℕ, zero, suc, ◌+◌, ◌-◌, ◌*◌, ◌/◌, ◌%◌, ◌≤◌, ◌<◌}
-use mathlib.Core.Path.{◌≡◌, refl}
+use mathlib.Core.Path.{◌≡◌, refl, sym}
 use mathlib.Core.List.{List, [], ◌∷◌, ◌++◌, append_assoc, append-nil}
 use native.Mathlib.Nat.{not-suc-le-zero, le_of_suc-le-suc, div-add-mod'}
 use native.Mathlib.Numerals.{add-one}
 use native.Mathlib.Omega.{arith}
-use lib.ListN.{length, get_or, set, take, drop, length-drop, drop_of_length-le}
+use lib.ListN.{length, get_or, get_or-eq_default, set, take, drop, length-drop, drop_of_length-le}
 use lib.Seq.{take-suc, drop-cons, set_at, get_or-take, length-take-le, take_all, take_at, drop_at, drop-drop}
 use Rattle.file_codec.specs.Bytes.{nums_of, bytes_of, Bytes}
 use Rattle.file_codec.specs.Inner.{over}
@@ -16,11 +16,11 @@ double k = omega arith
 pub double_more : (k f : ℕ) → 2 * suc k + f ≡ suc (suc (2 * k + f))
 double_more k f = omega arith
 
-pub nums_of-length : (b : List ℕ) → length (nums_of b) ≡ length b / 2
+pub nums_of_length : (b : List ℕ) → length (nums_of b) ≡ length b / 2
 unfolding nums_of
-nums_of-length [] = refl
-nums_of-length (h ∷ []) = refl
-nums_of-length (h ∷ l ∷ bs) = omega (arith, nums_of-length bs)
+nums_of_length [] = refl
+nums_of_length (h ∷ []) = refl
+nums_of_length (h ∷ l ∷ bs) = omega (arith, nums_of_length bs)
 
 pub nums_of_at : (b : List ℕ) (k : ℕ) → k < length b / 2 → get_or (nums_of b) k 0 ≡ get_or b (2 * k) 0 * 256 + get_or b (2 * k + 1) 0
 unfolding nums_of
@@ -28,6 +28,9 @@ nums_of_at [] k h = absurd (omega arith)
 nums_of_at (x ∷ []) k h = absurd (omega arith)
 nums_of_at (x ∷ y ∷ bs) zero h = refl
 nums_of_at (x ∷ y ∷ bs) (suc k) h = rw (double_more k 1, double k) (nums_of_at bs k (omega arith))
+
+pub nums_past : (b : List ℕ) (k : ℕ) → length b / 2 ≤ k → 0 ≡ get_or (nums_of b) k 0
+nums_past b k h = sym (get_or-eq_default (nums_of b) 0 (rw (nums_of_length b) h))
 
 -- the first bytes hold the first numbers
 pub nums_of-take : (b : List ℕ) (n k : ℕ) → n ≤ length b → k < n / 2 → get_or (nums_of (take n b)) k 0 ≡ get_or (nums_of b) k 0

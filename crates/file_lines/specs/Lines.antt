@@ -13,12 +13,15 @@ partition_line i q m l =
     bytes "partition " ++ decimal i ++ (bytes " wants " ++ decimal q) ++ (bytes " in " ++ decimal m)
     ++ (bytes " least " ++ decimal l) ++ bytes "\n"
 
+-- task i partition p
+abbrev pub task_words : ℕ → ℕ → List ℕ
+task_words i p = bytes "task " ++ decimal i ++ (bytes " partition " ++ decimal p)
+
 -- task i partition p pass t, and document 02, ask 4: tick u
 unfoldable pub pass_line : ℕ → ℕ → ℕ → ℕ → List ℕ
 pass_line i p t u =
-    bytes "task " ++ decimal i ++ (bytes " partition " ++ decimal p) ++ (bytes " pass " ++ decimal t)
-    ++ (bytes " tick " ++ decimal u) ++ bytes "\n"
+    task_words i p ++ (bytes " pass " ++ decimal t) ++ (bytes " tick " ++ decimal u) ++ bytes "\n"
 
 -- "A failing task ends in `fail`."
 unfoldable pub fail_line : ℕ → ℕ → List ℕ
-fail_line i p = bytes "task " ++ decimal i ++ (bytes " partition " ++ decimal p) ++ bytes " fail\n"
+fail_line i p = task_words i p ++ bytes " fail\n"

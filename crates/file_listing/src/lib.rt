@@ -19,6 +19,7 @@ use rules::limits::{
 };
 
 // The file's tables are judged already: of the plan only 9 is left.
+#[tactic(auto, unfolding(crate::specs::Listing::tables_lines))]
 fn put_checked(
     edition: usize,
     frame: usize,

@@ -14,6 +14,7 @@ use file_lines::{put_fail, put_frame, put_partition, put_pass};
 use rules::Rule;
 use rules::limits::MOST_TASKS;
 
+#[tactic(auto, unfolding(crate::specs::Page::part_line))]
 fn put_part(rule: Rule, plan: &[u16], parts: &[u16], k: usize, out: &mut [u8], at: usize) -> usize
     requires { (k < most_partitions) × (at < 2 ^ 40) }
     ensures { Put out.old at
@@ -41,6 +42,7 @@ fn put_parts(rule: Rule, plan: &[u16], parts: &[u16], out: &mut [u8], start: usi
 }
 
 // A task's line, by the point and the tick that were found for it.
+#[tactic(auto, unfolding(crate::specs::Inner::line_by))]
 fn put_task(
     table: &[u16],
     points: &[usize],
@@ -85,6 +87,7 @@ fn put_lines(
 }
 
 // The tasks' lines, in the table's order: all are judged first, partition by partition.
+#[tactic(auto, using(crate::proofs::Lines::lines_are))]
 fn put_tasks(
     rule: Rule,
     plan: &[u16],

@@ -7,7 +7,7 @@ use native.Mathlib.Omega.{arith}
 use lib.ListN.{length, take, drop, length-drop}
 use lib.Seq.{length-take-le, take_at, take_all}
 use lib.Dec.{ltb, eqb}
-use borrow.Author.Tests.{lt-ltb, le-ltb, eq-eqb, ne_eqb, eqb-true, not-false}
+use borrow.Author.Tests.{le-ltb, eq-eqb, ne_eqb, eqb-true, not-false}
 use Rattle.rules.specs.Limits.{longest, most_partitions, most_tasks, part_width, task_width, run_width, head_bytes, number_bytes, longest_file}
 use Rattle.rules.specs.Walk.{pick}
 use Rattle.rules.specs.Terms.{good_edition}
@@ -21,53 +21,14 @@ use Rattle.file_codec.specs.Bytes.{nums_of, part}
 use Rattle.file_tables.specs.Inner.{runs_counted}
 use Rattle.file_codec.specs.Inner.{over}
 use Rattle.file_codec.specs.Contents.{tasks_at, runs_at, size_of}
-use Rattle.file_codec.proofs.Bytes.{nums_of-length, nums_of-take}
+use Rattle.file_codec.proofs.Bytes.{nums_of_length, nums_of-take}
 use Rattle.file_tables.proofs.Chain.{GoodFile, counted-runs, of_good, follows}
 use Rattle.file_read.specs.declared.Contents.{Contents}
 use Rattle.file_read.specs.declared.Body.{Body}
 use Rattle.file_read.specs.declared.Body.TheVariants.{Partitions, Tasks, Runs}
-use Rattle.file_read.specs.declared.Stretch.{Stretch}
+use Rattle.std.specs.declared.ops.Range.{Range}
 use Rattle.file_read.specs.Reader.{body_of, body_at, table_by, counts_of, head_number, contents_of, judged_by, read_of}
 use Rattle.file_read.specs.Inner.{Few, counts_right, offsets_right, start_of, end_of, Inside, front, loaded_by}
-
--- ---- 3 to 5
-
-module _ (ed long frame po np to nt ro nr : ℕ) where
-  pub counts_3 : counts_right frame np nt nr ≡ false → Err Limits ≡ counts_of ed long frame po np to nt ro nr
-  unfolding counts_of
-  counts_3 h = rw h
-
-  module _ (h3 : counts_right frame np nt nr ≡ true) where
-    pub counts_4 : offsets_right po to ro np nt ≡ false → Err Offset ≡ counts_of ed long frame po np to nt ro nr
-    unfolding counts_of
-    counts_4 h = rw (h3, h)
-
-    module _ (h4 : offsets_right po to ro np nt ≡ true) (size : ℕ) (e : size ≡ size_of (part_width * np) (task_width * nt) (run_width * nr)) where
-      pub counts_5 : (long ≡ size → ⊥) → Err Length ≡ counts_of ed long frame po np to nt ro nr
-      unfolding counts_of
-      counts_5 h = rw (← e, h3, h4, ne_eqb long size h)
-
-      pub counts-good : long ≡ size → Ok (record { edition = ed; frame = frame; partitions = np; tasks = nt; runs = nr }) ≡ counts_of ed long frame po np to nt ro nr
-      unfolding counts_of
-      counts-good h = rw (← e, h3, h4, eq-eqb long size h)
-
--- ---- 1 and 2
-
-module _ (b : List ℕ) where
-  pub read_1 : length b < head_bytes → Err Short ≡ contents_of b
-  unfolding contents_of
-  read_1 h = rw (lt-ltb (length b) head_bytes h)
-
-  module _ (h1 : head_bytes ≤ length b) (ed : ℕ) (ee : ed ≡ head_number b 0) where
-    pub read_2 : good_edition ed ≡ false → Err Edition ≡ contents_of b
-    unfolding contents_of
-    read_2 h = rw (le-ltb (length b) head_bytes h1, ← ee, h)
-
-    pub read-counts : good_edition ed ≡ true → (frame po np to nt ro nr : ℕ) → frame ≡ head_number b 1 → po ≡ head_number b 2 → np ≡ head_number b 3 → to ≡ head_number b 4
-        → nt ≡ head_number b 5 → ro ≡ head_number b 6 → nr ≡ head_number b 7 → (r : Result Contents Refusal) → r ≡ counts_of ed (length b) frame po np to nt ro nr → r ≡ contents_of b
-    unfolding contents_of
-    read-counts h frame po np to nt ro nr ef e1 ep e2 et e3 er r e =
-        rw (le-ltb (length b) head_bytes h1, ← ee, h, ← ef, ← e1, ← ep, ← e2, ← et, ← e3, ← er) e
 
 -- what holds of 1 to 5 and of all contents holds of what is read of them
 pub contents_hold : (b : List ℕ) (P : Result Contents Refusal → Type 0) → P (Err Short) → P (Err Edition) → P (Err Limits) → P (Err Offset) → P (Err Length)
@@ -147,6 +108,27 @@ contained b c e =
     } in
     subst (Contained b) e3.3 all
 
+-- a file that has what its contents say is read so
+pub contents-right : (b : List ℕ) (c : Contents) → Contained b c → good_edition c.edition ≡ true → contents_of b ≡ Ok c
+unfolding contents_of counts_of
+contents-right b c a g =
+    let l : head_bytes ≤ length b = omega (arith, a.long) in
+    rw (
+      le-ltb (length b) head_bytes l,
+      a.edition,
+      a.is_frame,
+      a.parts_at,
+      a.is_np,
+      a.tasks_at_lem,
+      a.is_nt,
+      a.runs_at_lem,
+      a.is_nr,
+      g,
+      a.counts,
+      right c.partitions c.tasks,
+      eq-eqb (length b) (size_of (part_width * c.partitions) (task_width * c.tasks) (run_width * c.runs)) a.long,
+    ) refl
+
 pub counts_of_lem : (frame np nt nr : ℕ) → within_limits frame (part_width * np) (task_width * nt) ≡ true → runs_counted (run_width * nr) ≡ true → counts_right frame np nt nr ≡ true
 counts_of_lem frame np nt nr w c = rw (w, c)
 
@@ -173,7 +155,7 @@ part_length b a e h l = length-take-le (e - a) (drop a b) (rw (length-drop a b) 
 
 -- how many numbers a part of 2·n bytes holds
 part_nums : (b : List ℕ) (a n e : ℕ) → e ≡ a + 2 * n → e ≤ length b → length (nums_of (part b a e)) ≡ n
-part_nums b a n e q l = let m : length (part b a e) ≡ e - a = part_length b a e (omega arith) l in omega (arith, nums_of-length (part b a e))
+part_nums b a n e q l = let m : length (part b a e) ≡ e - a = part_length b a e (omega arith) l in omega (arith, nums_of_length (part b a e))
 
 module _ (b : List ℕ) (c : Contents) (long : length b ≡ size_of (part_width * c.partitions) (task_width * c.tasks) (run_width * c.runs)) where
   pub parts_are : length (table_by (Ok c) b Partitions) ≡ part_width * c.partitions
@@ -190,16 +172,16 @@ module _ (b : List ℕ) (c : Contents) (long : length b ≡ size_of (part_width 
 
 -- a body loaded
 loaded : (body t o : List ℕ) → o ≡ over (nums_of body) (min (length t) (length body / number_bytes)) t → o ≡ front (nums_of body) t
-loaded body t o e = rw (nums_of-length body) e
+loaded body t o e = rw (nums_of_length body) e
 
-pub loaded_body : (b : List ℕ) (c : Contents) (which : Body) (s : Stretch) (t o : List ℕ) → s ≡ body_of c which
-    → o ≡ over (nums_of (part b s.offset s.end)) (min (length t) (length (part b s.offset s.end) / number_bytes)) t
+pub loaded_body : (b : List ℕ) (c : Contents) (which : Body) (s : Range ℕ) (t o : List ℕ) → s ≡ body_of c which
+    → o ≡ over (nums_of (part b s.start s.end)) (min (length t) (length (part b s.start s.end) / number_bytes)) t
     → o ≡ front (table_by (Ok c) b which) t
 unfolding table_by
 loaded_body b c which s t o e h =
-    let ea : s.offset ≡ start_of c which = ap (λ (x : Stretch). x.offset) e in
-    let eb : s.end ≡ end_of c which = ap (λ (x : Stretch). x.end) e in
-    rw (← ea, ← eb) (loaded (part b s.offset s.end) t o h)
+    let ea : s.start ≡ start_of c which = ap (λ (x : Range ℕ). x.start) e in
+    let eb : s.end ≡ end_of c which = ap (λ (x : Range ℕ). x.end) e in
+    rw (← ea, ← eb) (loaded (part b s.start s.end) t o h)
 
 -- of a file without contents there is none
 pub none_loaded : (b : List ℕ) (x : Refusal) (which : Body) (t : List ℕ) → t ≡ front (table_by (Err x) b which) t
@@ -265,10 +247,10 @@ few-read b = step (read_of b) refl
     step (Err x) e = tt
     step (Ok c) e = few b c (accepted b c e).contents
 
-pub inside-read : (b : List ℕ) (which : Body) → ((body_at (read_of b) which).offset ≤ (body_at (read_of b) which).end) × ((body_at (read_of b) which).end ≤ length b)
+pub inside-read : (b : List ℕ) (which : Body) → ((body_at (read_of b) which).start ≤ (body_at (read_of b) which).end) × ((body_at (read_of b) which).end ≤ length b)
 inside-read b which = step (read_of b) refl
   where
-    step : (k : Result Contents Refusal) → read_of b ≡ k → ((body_at k which).offset ≤ (body_at k which).end) × ((body_at k which).end ≤ length b)
+    step : (k : Result Contents Refusal) → read_of b ≡ k → ((body_at k which).start ≤ (body_at k which).end) × ((body_at k which).end ≤ length b)
     step (Err x) e = (omega arith, omega arith)
     step (Ok c) e = let i = inside b c (accepted b c e).contents which in (i.in_order, i.in_file)
 

@@ -1,6 +1,6 @@
 // The contents: the first 16 bytes, and the refusals 1 to 5.
 ghost use Rattle.std.specs.Prelude.{◌≡◌, ◌<◌, ◌^◌};
-ghost use Rattle.file_read.specs.Reader.{counts_of, head_number, contents_of};
+ghost use Rattle.file_read.specs.Reader.{head_number, contents_of};
 ghost use Rattle.file_read.specs.Inner.{counts_right, offsets_right};
 
 use crate::Contents;
@@ -13,64 +13,27 @@ fn head_number(file: &[u8], k: usize) -> usize
     usize::from(file_codec::number(file, k))
 }
 
-fn counts_right(frame: usize, np: usize, nt: usize, nr: usize) -> bool
-    requires { (np < 2 ^ 16) × (nt < 2 ^ 16) × (nr < 2 ^ 16) }
-    ensures { result ≡ counts_right frame np nt nr }
+// Limits kept, by the counts.
+fn counts_right(c: Contents) -> bool
+    requires { (c.partitions < 2 ^ 16) × (c.tasks < 2 ^ 16) × (c.runs < 2 ^ 16) }
+    ensures { result ≡ counts_right c.frame c.partitions c.tasks c.runs }
 {
-    if !tables::within_limits(frame, PART_WIDTH * np, TASK_WIDTH * nt) {
-        return false;
-    }
-    file_tables::runs_counted(RUN_WIDTH * nr)
+    tables::within_limits(c.frame, PART_WIDTH * c.partitions, TASK_WIDTH * c.tasks)
+        && file_tables::runs_counted(RUN_WIDTH * c.runs)
 }
 
-fn offsets_right(po: usize, to: usize, ro: usize, np: usize, nt: usize) -> bool
-    requires { (np < 2 ^ 16) × (nt < 2 ^ 16) }
-    ensures { result ≡ offsets_right po to ro np nt }
+// Bodies without gaps, by the offsets.
+fn offsets_right(c: Contents, parts_at: usize, tasks_at: usize, runs_at: usize) -> bool
+    requires { (c.partitions < 2 ^ 16) × (c.tasks < 2 ^ 16) }
+    ensures { result ≡ offsets_right parts_at tasks_at runs_at c.partitions c.tasks }
 {
-    let tasks = HEAD_BYTES + NUMBER_BYTES * (PART_WIDTH * np);
-    if po != HEAD_BYTES {
-        return false;
-    }
-    if to != tasks {
-        return false;
-    }
-    ro == tasks + NUMBER_BYTES * (TASK_WIDTH * nt)
+    let tasks = HEAD_BYTES + NUMBER_BYTES * (PART_WIDTH * c.partitions);
+    let runs = tasks + NUMBER_BYTES * (TASK_WIDTH * c.tasks);
+    parts_at == HEAD_BYTES && tasks_at == tasks && runs_at == runs
 }
 
-// 3 to 5, of a file of this edition and so many bytes.
-fn counts(
-    edition: usize,
-    long: usize,
-    frame: usize,
-    po: usize,
-    np: usize,
-    to: usize,
-    nt: usize,
-    ro: usize,
-    nr: usize,
-) -> Result<Contents, Refusal>
-    requires { (np < 2 ^ 16) × (nt < 2 ^ 16) × (nr < 2 ^ 16) }
-    ensures { result ≡ counts_of edition long frame po np to nt ro nr }
-{
-    if !counts_right(frame, np, nt, nr) {
-        return Err(Refusal::Limits);
-    }
-    if !offsets_right(po, to, ro, np, nt) {
-        return Err(Refusal::Offset);
-    }
-    let numbers = PART_WIDTH * np + TASK_WIDTH * nt + RUN_WIDTH * nr;
-    if long != HEAD_BYTES + NUMBER_BYTES * numbers {
-        return Err(Refusal::Length);
-    }
-    Ok(Contents {
-        edition,
-        frame,
-        partitions: np,
-        tasks: nt,
-        runs: nr,
-    })
-}
-
+// 1 to 5.
+#[tactic(auto, unfolding(crate::specs::Reader::contents_of, crate::specs::Reader::counts_of))]
 pub fn contents(file: &[u8]) -> Result<Contents, Refusal>
     ensures { result ≡ contents_of file.now }
 {
@@ -81,15 +44,27 @@ pub fn contents(file: &[u8]) -> Result<Contents, Refusal>
     if !rules::good_edition(edition) {
         return Err(Refusal::Edition);
     }
-    counts(
+    let c = Contents {
         edition,
-        file.len(),
-        head_number(file, 1),
+        frame: head_number(file, 1),
+        partitions: head_number(file, 3),
+        tasks: head_number(file, 5),
+        runs: head_number(file, 7),
+    };
+    if !counts_right(c) {
+        return Err(Refusal::Limits);
+    }
+    if !offsets_right(
+        c,
         head_number(file, 2),
-        head_number(file, 3),
         head_number(file, 4),
-        head_number(file, 5),
         head_number(file, 6),
-        head_number(file, 7),
-    )
+    ) {
+        return Err(Refusal::Offset);
+    }
+    let numbers = PART_WIDTH * c.partitions + TASK_WIDTH * c.tasks + RUN_WIDTH * c.runs;
+    if file.len() != HEAD_BYTES + NUMBER_BYTES * numbers {
+        return Err(Refusal::Length);
+    }
+    Ok(c)
 }

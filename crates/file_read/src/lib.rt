@@ -7,6 +7,7 @@ ghost use Rattle.file_read.specs.Reader.{read_of, Reads, body_at, HandsBack};
 use load::load_file;
 use rules::Refusal;
 use rules::limits::{PART_NUMBERS, RUN_NUMBERS, TASK_NUMBERS};
+use std::ops::Range;
 
 mod head; // head.rt: the contents, the first 16 bytes
 pub mod load; // load.rt: the bodies as tables, judged
@@ -28,13 +29,6 @@ pub enum Body {
     Runs,
 }
 
-// Where a body lies in the file.
-#[derive(Clone, Copy)]
-pub struct Stretch {
-    pub offset: usize,
-    pub end: usize,
-}
-
 pub fn read(file: &[u8]) -> Result<Contents, Refusal>
     ensures { Reads file.now result }
 {
@@ -44,13 +38,13 @@ pub fn read(file: &[u8]) -> Result<Contents, Refusal>
     load_file(file, &mut parts, &mut tasks, &mut runs)
 }
 
-// Where a body lies in the file. Of a file that isn't accepted it is the empty stretch at 0.
-fn stretch_of(file: &[u8], which: Body) -> Stretch
+// Where a body lies in the file. Of a file that isn't accepted it is the empty range at 0.
+fn range_of(file: &[u8], which: Body) -> Range<usize>
     ensures { result ≡ body_at (read_of file.now) which }
 {
     match read(file) {
         Ok(c) => load::body_at(c, which),
-        Err(_) => Stretch { offset: 0, end: 0 },
+        Err(_) => 0..0,
     }
 }
 
@@ -58,8 +52,6 @@ fn stretch_of(file: &[u8], which: Body) -> Stretch
 pub fn section(file: &[u8], which: Body) -> &[u8]
     ensures { HandsBack file.now which result.now }
 {
-    let s = stretch_of(file, which);
-    let offset = s.offset;
-    let end = s.end;
-    &file[offset..end]
+    let part = range_of(file, which);
+    &file[part.start..part.end]
 }

@@ -5,12 +5,13 @@ ghost use Rattle.file_read.specs.Reader.{body_of, table_by, contents_of, read_of
 ghost use Rattle.file_read.specs.Inner.{Few, Inside, front, loaded_by};
 
 use crate::head::contents;
-use crate::{Body, Contents, Stretch};
+use crate::{Body, Contents};
 use rules::Refusal;
 use rules::limits::{HEAD_BYTES, NUMBER_BYTES, PART_WIDTH, RUN_WIDTH, TASK_WIDTH};
+use std::ops::Range;
 
 // Where a body lies in a file with these contents.
-pub fn body_at(c: Contents, which: Body) -> Stretch
+pub fn body_at(c: Contents, which: Body) -> Range<usize>
     requires { Few c }
     ensures { result ≡ body_of c which }
 {
@@ -18,31 +19,21 @@ pub fn body_at(c: Contents, which: Body) -> Stretch
     let runs_at = tasks_at + NUMBER_BYTES * (TASK_WIDTH * c.tasks);
     let end = runs_at + NUMBER_BYTES * (RUN_WIDTH * c.runs);
     match which {
-        Body::Partitions => Stretch {
-            offset: HEAD_BYTES,
-            end: tasks_at,
-        },
-        Body::Tasks => Stretch {
-            offset: tasks_at,
-            end: runs_at,
-        },
-        Body::Runs => Stretch {
-            offset: runs_at,
-            end,
-        },
+        Body::Partitions => HEAD_BYTES..tasks_at,
+        Body::Tasks => tasks_at..runs_at,
+        Body::Runs => runs_at..end,
     }
 }
 
 // A body, at the start of a table.
+#[tactic(auto, using(crate::proofs::Reader::loaded_body))]
 fn load_body(file: &[u8], c: Contents, which: Body, table: &mut [u16])
     requires few { Few c }
     requires inside { Inside file.now c which }
     ensures { table.new ≡ front (table_by (Ok c) file.now which) table.old }
 {
-    let s = body_at(c, which);
-    let offset = s.offset;
-    let end = s.end;
-    file_codec::load(&file[offset..end], table);
+    let part = body_at(c, which);
+    file_codec::load(&file[part.start..part.end], table);
 }
 
 // What is read, where the tables of these contents are loaded.
@@ -66,6 +57,7 @@ fn judge_loaded(
 }
 
 // Reads a file: its tables are put at the start of the lent ones, which have room for any.
+#[tactic(auto, using(crate::proofs::Reader::few, crate::proofs::Reader::none_loaded, crate::proofs::Reader::read_loaded, crate::proofs::Reader::read_refused))]
 pub fn load_file(
     file: &[u8],
     parts: &mut [u16],

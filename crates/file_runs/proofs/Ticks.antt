@@ -133,11 +133,6 @@ unfolding runs_put runs_of
 runs-empty [] h = refl
 runs-empty (t ∷ plan) h = absurd (omega arith)
 
--- before the second tick
-pub runs-start : (plan : List ℕ) → 1 ≤ length plan → replicate 1 (get_or plan 0 0) ++ drop 1 plan ≡ plan
-runs-start [] h = absurd (omega arith)
-runs-start (t ∷ plan) h = refl
-
 -- ---- there and back
 
 ticks-joined : (t : ℕ) (rs : List ℕ) → ticks_of (joined t rs) ≡ t ∷ ticks_of rs

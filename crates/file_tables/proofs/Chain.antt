@@ -1,12 +1,11 @@
 -- Laws of the runs' tests and of the refusals of a file's tables, at the numbers that the code holds. Assumes nothing.
 use Prim.Native.Nat.{ℕ, ◌+◌, ◌*◌, ◌/◌, ◌≤◌, ◌<◌}
-use mathlib.Core.Path.{◌≡◌, refl, sym, ◌∙◌}
+use mathlib.Core.Path.{◌≡◌, refl, sym, ap, ◌∙◌}
 use mathlib.Core.List.{List}
 use mathlib.Core.Bool.{Bool, true, false, not}
 use native.Mathlib.Omega.{arith}
 use lib.ListN.{length}
-use lib.Dec.{ltb, leb}
-use borrow.Author.Tests.{lt-ltb, le-ltb, lt-leb, le-leb}
+use lib.Dec.{ltb}
 use Rattle.rules.specs.Limits.{most_partitions, most_tasks, longest, newest_edition, part_width, task_width, run_width}
 use Rattle.rules.specs.Walk.{pick, first, fails, sum, Every}
 use Rattle.rules.specs.Table.{partitions, tasks}
@@ -15,67 +14,27 @@ use Rattle.tables.specs.Tables.{edition_judged, in_edition, unless, GoodTables}
 use Rattle.rules.specs.declared.Refusal.{Refusal}
 use Rattle.rules.specs.declared.Refusal.TheVariants.{Edition, Limits, Partition, Task, Tick}
 use Rattle.std.specs.Prelude.{Result, Ok, Err}
-use Rattle.rules.proofs.First.{first_every}
+use Rattle.rules.proofs.First.{first-none}
 use Rattle.rules.proofs.Sum.{sum_more}
 use Rattle.rules.proofs.Tests.{pick_first, good-edition}
 use Rattle.tables.proofs.Chain.{not_good, both_good, lowest-good, good-lowest, lowest-found, counted-parts, within, tables_on, good_exactly, unless_holds, usual-not_21}
-use Rattle.file_tables.specs.Inner.{runs_counted, first_bad_run}
-use Rattle.file_tables.specs.Runs.{run_owner, run_length, runs, repeats, reached, good_run, runs_judged, file_tables_of}
+use Rattle.file_tables.specs.Inner.{runs_counted}
+use Rattle.file_tables.specs.Runs.{run_length, runs, good_run, runs_judged, file_tables_of}
 
 -- a turn adds the length at k
 pub total_more : (rs : List ℕ) (s k l : ℕ) → s ≡ sum (run_length rs) k → l ≡ run_length rs k → s + l ≡ sum (run_length rs) (k + 1)
 total_more rs s k l es el = rw (sum_more (run_length rs) k, es, el)
 
--- ---- one run's test, in the code's order
+-- ---- 8: the walk's find and its end
 
-module _ (parts frame : ℕ) (rs : List ℕ) (k o : ℕ) (eo : o ≡ run_owner rs k) where
-  pub run_owner_lem : parts < o → false ≡ good_run parts frame rs k
-  unfolding good_run
-  run_owner_lem h = rw (← eo, lt-leb o parts h)
+module _ (parts frame : ℕ) (rs : List ℕ) where
+  pub runs_8 : (k : ℕ) → k < runs rs → ((j : ℕ) → j < k → good_run parts frame rs j ≡ true) → good_run parts frame rs k ≡ false → Err (Tick (k + 1)) ≡ runs_judged parts frame rs
+  unfolding runs_judged fails
+  runs_8 k l h e = lowest-found Tick (good_run parts frame rs) (runs rs) k l (first-none _ k (λ j m. ap not (h j m))) (ap not e)
 
-  module _ (ho : o ≤ parts) (l : ℕ) (el : l ≡ run_length rs k) where
-    pub run_empty : l < 1 → false ≡ good_run parts frame rs k
-    unfolding good_run
-    run_empty h = rw (← eo, ← el, le-leb o parts ho, lt-leb 1 l h)
-
-    module _ (hl : 1 ≤ l) where
-      pub run_repeats : repeats rs k ≡ true → false ≡ good_run parts frame rs k
-      unfolding good_run
-      run_repeats h = rw (← eo, ← el, le-leb o parts ho, le-leb 1 l hl, h)
-
-      module _ (hr : repeats rs k ≡ false) (total : ℕ) (et : total ≡ reached rs k) where
-        pub run_past : frame < total → false ≡ good_run parts frame rs k
-        unfolding good_run
-        run_past h = rw (← et, ← eo, ← el, le-leb o parts ho, le-leb 1 l hl, hr, lt-leb total frame h)
-
-        module _ (ht : total ≤ frame) where
-          pub run_more : k + 1 < runs rs → true ≡ good_run parts frame rs k
-          unfolding good_run
-          run_more h = rw (← et, ← eo, ← el, le-leb o parts ho, le-leb 1 l hl, hr, le-leb total frame ht, lt-ltb (k + 1) (runs rs) h)
-
-          pub run_last : runs rs ≤ k + 1 → leb frame total ≡ good_run parts frame rs k
-          unfolding good_run
-          run_last h = rw (← et, ← eo, ← el, le-leb o parts ho, le-leb 1 l hl, hr, le-leb total frame ht, le-ltb (k + 1) (runs rs) h)
-
--- a turn's find and its going on
-pub run_bad : (parts frame : ℕ) (rs : List ℕ) (k : ℕ) (r : Bool) → r ≡ good_run parts frame rs k → not r ≡ true → fails (good_run parts frame rs) k ≡ true
-unfolding fails
-run_bad parts frame rs k r e h = rw (← e) h
-
-pub run_good : (parts frame : ℕ) (rs : List ℕ) (k : ℕ) (r : Bool) → r ≡ good_run parts frame rs k → not r ≡ false → fails (good_run parts frame rs) k ≡ false
-unfolding fails
-run_good parts frame rs k r e h = rw (← e) h
-
--- ---- 8
-
-module _ (parts frame : ℕ) (rs : List ℕ) (k : ℕ) where
-  pub runs_8 : k < runs rs → first (fails (good_run parts frame rs)) k ≡ k → fails (good_run parts frame rs) k ≡ true → Err (Tick (k + 1)) ≡ runs_judged parts frame rs
+  pub runs_good : Every (good_run parts frame rs) (runs rs) → (Ok tt) ≡ runs_judged parts frame rs
   unfolding runs_judged
-  runs_8 h e f = lowest-found Tick (good_run parts frame rs) (runs rs) k h e f
-
-  pub runs_good : runs rs ≡ k → first (fails (good_run parts frame rs)) k ≡ k → (Ok tt) ≡ runs_judged parts frame rs
-  unfolding runs_judged
-  runs_good z e = sym (good-lowest Tick (good_run parts frame rs) (runs rs) (first_every (good_run parts frame rs) (runs rs) (rw z (omega (arith, e)))))
+  runs_good h = sym (good-lowest Tick (good_run parts frame rs) (runs rs) h)
 
 -- ---- 2, 3, 6, 7, 8
 
@@ -87,20 +46,6 @@ module _ (ed frame : ℕ) (ps ts rs : List ℕ) where
   pub file_2 : good_edition ed ≡ false → Err Edition ≡ file_tables_of ed frame ps ts rs
   unfolding file_tables_of
   file_2 d = rw d
-
-  module _ (d : good_edition ed ≡ true) where
-    pub file_3 : runs_counted (length rs) ≡ false → Err Limits ≡ file_tables_of ed frame ps ts rs
-    unfolding file_tables_of
-    file_3 e = rw (d, e)
-
-    module _ (c : runs_counted (length rs) ≡ true) where
-      pub file-tables : (r : Refusal) → in_edition (filed ed) frame ps ts ≡ Err r → Err r ≡ file_tables_of ed frame ps ts rs
-      unfolding file_tables_of
-      file-tables r e = rw (d, c, e)
-
-      pub file-runs : in_edition (filed ed) frame ps ts ≡ (Ok tt) → (t : Result (Unit {0}) Refusal) → t ≡ runs_judged (partitions ps) frame rs → t ≡ file_tables_of ed frame ps ts rs
-      unfolding file_tables_of
-      file-runs e t h = rw (d, c, e) h
 
 -- nothing tells against an edition, a frame and three tables
 pub record GoodFile (ed frame : ℕ) (ps ts rs : List ℕ) : Type 0 where
@@ -145,6 +90,9 @@ module _ (ed frame : ℕ) (ps ts rs : List ℕ) where
   unfolding file_tables_of runs_judged
   file_holds P refused next two three six seven eight h = judged (good_edition ed) refl
     where
+      bad : ℕ
+      bad = first (fails (good_run (partitions ps) frame rs)) (runs rs)
+
       last : (b : Bool) (r : ℕ) → P (unless refused (pick b (Err (Tick r)) (Ok tt)) next)
       last true r = eight r
       last false r = h
@@ -152,7 +100,7 @@ module _ (ed frame : ℕ) (ps ts rs : List ℕ) where
       counted : (b : Bool) → good_edition ed ≡ true → P (unless refused (pick b (unless Err (in_edition (filed ed) frame ps ts) (runs_judged (partitions ps) frame rs)) (Err Limits)) next)
       counted false d = three
       counted true d = rw (tables_on (filed ed) frame ps ts d)
-          (unless_holds (filed ed) frame ps ts (λ (t : Result (Unit {0}) Refusal). P (unless refused t next)) Err (runs_judged (partitions ps) frame rs) two three usual-not_21 six seven (last (ltb (first_bad_run (partitions ps) frame rs) (runs rs)) (first_bad_run (partitions ps) frame rs + 1)))
+          (unless_holds (filed ed) frame ps ts (λ (t : Result (Unit {0}) Refusal). P (unless refused t next)) Err (runs_judged (partitions ps) frame rs) two three usual-not_21 six seven (last (ltb bad (runs rs)) (bad + 1)))
 
       judged : (b : Bool) → good_edition ed ≡ b → P (unless refused (unless Err (pick b (Ok tt) (Err Edition)) (pick (runs_counted (length rs)) (unless Err (in_edition (filed ed) frame ps ts) (runs_judged (partitions ps) frame rs)) (Err Limits))) next)
       judged false d = two d

@@ -8,12 +8,14 @@ ghost use Rattle.file_tables.specs.Runs.{run_owner, run_length, runs, reached, r
 use rules::Refusal;
 use rules::limits::{LONGEST, RUN_WIDTH};
 
+#[tactic(auto, unfolding(crate::specs::Runs::run_owner))]
 pub fn run_owner(table: &[u16], k: usize) -> u16
     ensures { result ≡ run_owner table.now k }
 {
     rules::records::field_at(table, RUN_WIDTH, k, 0)
 }
 
+#[tactic(auto, unfolding(crate::specs::Runs::run_length))]
 pub fn run_length(table: &[u16], k: usize) -> u16
     ensures { result ≡ run_length table.now k }
 {
@@ -26,39 +28,28 @@ pub fn runs(table: &[u16]) -> usize
     table.len() / RUN_WIDTH
 }
 
+#[tactic(auto, unfolding(crate::specs::Runs::repeats))]
 fn repeats(table: &[u16], k: usize) -> bool
     ensures { result ≡ repeats table.now k }
 {
-    if k < 1 {
-        return false;
-    }
-    run_owner(table, k) == run_owner(table, k - 1)
+    k > 0 && run_owner(table, k) == run_owner(table, k - 1)
 }
 
 // Whether the run at k is good, where the lengths up to it add up to `total`.
+#[tactic(auto, unfolding(crate::specs::Runs::good_run))]
 fn good_run(table: &[u16], parts: usize, frame: usize, k: usize, total: usize) -> bool
     requires { (k < runs table.now) × (total ≡ reached table.now k) }
     ensures { result ≡ good_run parts frame table.now k }
 {
-    if parts < usize::from(run_owner(table, k)) {
-        return false;
-    }
-    if run_length(table, k) < 1 {
-        return false;
-    }
-    if repeats(table, k) {
-        return false;
-    }
-    if frame < total {
-        return false;
-    }
-    if k + 1 < runs(table) {
-        return true;
-    }
-    frame <= total
+    usize::from(run_owner(table, k)) <= parts
+        && 1 <= run_length(table, k)
+        && !repeats(table, k)
+        && total <= frame
+        && (k + 1 < runs(table) || frame <= total)
 }
 
-// 8.
+// 8. (No `tables::lowest`: the lengths' total runs along.)
+#[tactic(auto, using(crate::proofs::Chain::total_more, crate::proofs::Chain::runs_8, crate::proofs::Chain::runs_good), unfolding(rules::specs::Walk::sum))]
 fn judge_runs(table: &[u16], parts: usize, frame: usize) -> Result<(), Refusal>
     requires { length table.now < 2 ^ 32 }
     ensures { result ≡ runs_judged parts frame table.now }
@@ -81,6 +72,7 @@ pub fn runs_counted(numbers: usize) -> bool
 }
 
 // What tells against an edition, a frame and three tables: 2, 3, 6, 7 and 8.
+#[tactic(auto, using(tables::proofs::Chain::found_err, tables::proofs::Chain::found_ok), unfolding(crate::specs::Runs::file_tables_of))]
 pub fn judge_file(
     edition: usize,
     frame: usize,

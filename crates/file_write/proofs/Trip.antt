@@ -1,6 +1,6 @@
 -- The round trips: reading what was written gives back the tables, and writing what was read gives back the bytes. Assumes nothing.
 use Prim.Native.Nat.{ℕ, zero, suc, ◌+◌, ◌-◌, ◌*◌, ◌/◌, ◌≤◌, ◌<◌}
-use mathlib.Core.Path.{◌≡◌, refl, sym, ◌∙◌}
+use mathlib.Core.Path.{◌≡◌, sym, ◌∙◌}
 use mathlib.Core.List.{List, ◌++◌, append_assoc}
 use native.Mathlib.Omega.{arith}
 use lib.ListN.{length, get_or, take, drop, length-append}
@@ -10,12 +10,12 @@ use Rattle.rules.specs.Table.{partitions, tasks}
 use Rattle.file_codec.specs.Bytes.{nums_of, bytes_of, part, Bytes}
 use Rattle.file_tables.specs.Runs.{runs}
 use Rattle.file_codec.specs.Contents.{tasks_at, runs_at, size_of, contents}
-use Rattle.file_codec.proofs.Bytes.{nums_of-length, nums_of-take, bytes_of-length, bytes_of-append, nums_bytes, bytes_nums}
+use Rattle.file_codec.proofs.Bytes.{nums_of_length, nums_of-take, bytes_of-length, bytes_of-append, nums_bytes, bytes_nums}
 use Rattle.file_tables.proofs.Chain.{GoodFile, of_good, sizes}
 use Rattle.file_read.specs.declared.Contents.{Contents}
 use Rattle.file_read.specs.declared.Body.TheVariants.{Partitions, Tasks, Runs}
 use Rattle.file_read.specs.Reader.{head_number, table_by, contents_of, read_of, table_of}
-use Rattle.file_read.proofs.Reader.{counts-good, counts_of_lem, read-counts, right, Contained, contained, accepted, part_length, parts_are, tasks_are, runs_are, read-good}
+use Rattle.file_read.proofs.Reader.{counts_of_lem, contents-right, Contained, contained, accepted, part_length, parts_are, tasks_are, runs_are, read-good}
 use Rattle.file_read.proofs.Proved.{parts_all}
 use Rattle.std.specs.Prelude.{Ok}
 use Rattle.file_write.specs.Writer.{file_of, size_for, write_of, written_left}
@@ -94,11 +94,18 @@ module _ (ed frame : ℕ) (ps ts rs : List ℕ) where
     file-contents =
         let n = file-length in
         let w : (k : ℕ) → head_number (file_of ed frame ps ts rs) k ≡ get_or (contents ed frame (length ps) (length ts) (length rs) ++ ps ++ ts ++ rs) k 0 = λ k. rw file_nums in
-        let c = counts_of_lem frame (partitions ps) (tasks ts) (runs rs) (rw (np, nt) g.tables.limits) (rw nr g.counted) in
-        let o = right (partitions ps) (tasks ts) in
-        sym (read-counts (file_of ed frame ps ts rs) (omega arith) ed (sym (w 0)) g.tables.edition frame 16 (partitions ps) (tasks_at (part_width * partitions ps)) (tasks ts) (runs_at (part_width * partitions ps) (task_width * tasks ts)) (runs rs)
-        (sym (w 1)) (sym (w 2)) (sym (w 3)) (rw np (sym (w 4))) (sym (w 5)) (rw (np, nt) (sym (w 6))) (sym (w 7))
-        (Ok said) (counts-good ed (length (file_of ed frame ps ts rs)) frame 16 (partitions ps) (tasks_at (part_width * partitions ps)) (tasks ts) (runs_at (part_width * partitions ps) (task_width * tasks ts)) (runs rs) c o (length (file_of ed frame ps ts rs)) (rw (np, nt, nr) n) refl))
+        contents-right (file_of ed frame ps ts rs) said (record {
+          long = rw (np, nt, nr) n;
+          edition = w 0;
+          is_frame = w 1;
+          parts_at = w 2;
+          is_np = w 3;
+          tasks_at_lem = rw np (w 4);
+          is_nt = w 5;
+          runs_at_lem = rw (np, nt) (w 6);
+          is_nr = w 7;
+          counts = counts_of_lem frame (partitions ps) (tasks ts) (runs rs) (rw (np, nt) g.tables.limits) (rw nr g.counted);
+        }) g.tables.edition
 
     file-read : read_of (file_of ed frame ps ts rs) ≡ Ok said
     file-read =
@@ -146,7 +153,7 @@ head_numbers : (b : List ℕ) (c : Contents) → Contained b c → nums_of (take
 head_numbers b c a =
     let l : 16 ≤ length b = omega (arith, a.long) in
     let n : length (take 16 b) ≡ 16 = length-take-le 16 b l in
-    let m : length (nums_of (take 16 b)) ≡ 8 = omega (arith, nums_of-length (take 16 b)) in
+    let m : length (nums_of (take 16 b)) ≡ 8 = omega (arith, nums_of_length (take 16 b)) in
     let w : (k : ℕ) → k < 8 → get_or (nums_of (take 16 b)) k 0 ≡ head_number b k = λ k h. nums_of-take b 16 k l (omega arith) in
     let qp : c.partitions ≡ 3 * c.partitions / 3 = omega arith in
     let qt : c.tasks ≡ 4 * c.tasks / 4 = omega arith in

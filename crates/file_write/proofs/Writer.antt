@@ -1,11 +1,11 @@
 -- The order of the writer's refusals at the numbers that the code holds, and what it leaves. Assumes nothing.
-use Prim.Native.Nat.{ℕ, ◌*◌, ◌≤◌, ◌<◌}
+use Prim.Native.Nat.{ℕ, ◌*◌, ◌≤◌}
 use mathlib.Core.Path.{◌≡◌, refl, ◌∙◌}
 use mathlib.Core.List.{List, ◌++◌}
 use native.Mathlib.Omega.{arith}
 use lib.ListN.{length, take, drop, length-append}
 use lib.Dec.{ltb}
-use borrow.Author.Tests.{lt-ltb, le-ltb, ltb-false}
+use borrow.Author.Tests.{le-ltb, ltb-false}
 use Rattle.rules.specs.Limits.{head_bytes, longest_file}
 use Rattle.rules.specs.Walk.{pick}
 use Rattle.tables.specs.Tables.{unless}
@@ -26,8 +26,8 @@ module _ (ed frame : ℕ) (ps ts rs : List ℕ) where
   pub small : GoodFile ed frame ps ts rs → Small ed frame (length ps) (length ts) (length rs)
   small g = let s = sizes ed frame ps ts rs g in (s.edition_high, s.frame_high, omega (arith, s.parts_whole, s.parts_high), omega (arith, s.tasks_whole, s.tasks_high), omega (arith, s.runs_whole, s.runs_high))
 
-  pub good-small : file_tables_of ed frame ps ts rs ≡ (Ok tt) → Small ed frame (length ps) (length ts) (length rs)
-  good-small e = small (good_of ed frame ps ts rs e)
+  pub good_small : file_tables_of ed frame ps ts rs ≡ (Ok tt) → Small ed frame (length ps) (length ts) (length rs)
+  good_small e = small (good_of ed frame ps ts rs e)
 
   -- an output of the longest file's bytes is long enough for any
   pub write-room : (room : ℕ) → longest_file ≤ room → write_of ed frame ps ts rs room ≡ write_of ed frame ps ts rs longest_file
@@ -40,21 +40,11 @@ module _ (ed frame : ℕ) (ps ts rs : List ℕ) where
       step : (t : Result (Unit {0}) Refusal) → file_tables_of ed frame ps ts rs ≡ t
           → unless Err t (pick (ltb room size) (Err Output) (Ok size)) ≡ unless Err t (pick (ltb longest_file size) (Err Output) (Ok size))
       step (Err r) e = refl
-      step (Ok _) e = let s = good-small e in rw (le-ltb room size (omega arith), le-ltb longest_file size (omega arith))
+      step (Ok _) e = let s = good_small e in rw (le-ltb room size (omega arith), le-ltb longest_file size (omega arith))
 
-  module _ (room : ℕ) where
-    pub write-tables : (r : Refusal) → file_tables_of ed frame ps ts rs ≡ Err r → Err r ≡ write_of ed frame ps ts rs room
-    unfolding write_of
-    write-tables r e = rw e
-
-    module _ (g : file_tables_of ed frame ps ts rs ≡ (Ok tt)) (size : ℕ) (e : size ≡ size_for ps ts rs) where
-      pub write_12 : room < size → Err Output ≡ write_of ed frame ps ts rs room
-      unfolding write_of
-      write_12 h = rw (g, ← e, lt-ltb room size h)
-
-      pub write-all : size ≤ room → Ok size ≡ write_of ed frame ps ts rs room
-      unfolding write_of
-      write-all h = rw (g, ← e, le-ltb room size h)
+  pub write-all : (room : ℕ) → file_tables_of ed frame ps ts rs ≡ (Ok tt) → (size : ℕ) → size ≡ size_for ps ts rs → size ≤ room → Ok size ≡ write_of ed frame ps ts rs room
+  unfolding write_of
+  write-all room g size e h = rw (g, ← e, le-ltb room size h)
 
 -- the bodies, one behind the other
 pub laid : (ed frame : ℕ) (ps ts rs d o1 o2 o3 o4 : List ℕ)
@@ -92,12 +82,12 @@ fit n ed frame ps ts rs room e =
 
 -- what the writer leaves, from what it answers
 module _ (ed frame : ℕ) (ps ts rs out : List ℕ) where
-  pub left-none : (x : Refusal) → write_of ed frame ps ts rs (length out) ≡ Err x → out ≡ written_left ed frame ps ts rs out
-  left-none x e = rw e
+  pub left_none : (x : Refusal) → write_of ed frame ps ts rs (length out) ≡ Err x → out ≡ written_left ed frame ps ts rs out
+  left_none x e = rw e
 
-  pub left-all : (n : ℕ) → write_of ed frame ps ts rs (length out) ≡ Ok n → (o : List ℕ)
+  pub left_all : (n : ℕ) → write_of ed frame ps ts rs (length out) ≡ Ok n → (o : List ℕ)
       → o ≡ file_of ed frame ps ts rs ++ drop (size_for ps ts rs) out → o ≡ written_left ed frame ps ts rs out
-  left-all n e o h = rw (e, (fit n ed frame ps ts rs (length out) e).is_size) h
+  left_all n e o h = rw (e, (fit n ed frame ps ts rs (length out) e).is_size) h
 
   -- what the writing of a file asks
   pub ready : (n : ℕ) → write_of ed frame ps ts rs (length out) ≡ Ok n → Small ed frame (length ps) (length ts) (length rs) × (size_for ps ts rs ≤ length out)

@@ -11,6 +11,7 @@ use rules::limits::{HEAD_BYTES, NUMBER_BYTES};
 mod put; // put.rt: the contents and the bodies, put into the output
 
 // The answer, for an output of so many bytes.
+#[tactic(auto, using(crate::proofs::Writer::good_small, tables::proofs::Chain::found_err, tables::proofs::Chain::found_ok), unfolding(crate::specs::Writer::write_of))]
 fn write_answer(
     edition: usize,
     frame: usize,
@@ -29,6 +30,7 @@ fn write_answer(
     Ok(size)
 }
 
+#[tactic(auto, using(crate::proofs::Writer::ready, crate::proofs::Writer::left_none, crate::proofs::Writer::left_all))]
 pub fn write(
     edition: usize,
     frame: usize,

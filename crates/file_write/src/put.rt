@@ -38,6 +38,7 @@ fn put_body(table: &[u16], out: &mut [u8], offset: usize)
     file_codec::put_all(table, &mut out[offset..]);
 }
 
+#[tactic(auto, using(crate::proofs::Writer::laid))]
 pub fn put_file(
     edition: usize,
     frame: usize,

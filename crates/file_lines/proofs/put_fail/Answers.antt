@@ -5,4 +5,4 @@ use Rattle.file_lines.proofs.put_fail.Goals as goal
 
 pub returns : goal.returns
 unfolding fail_line
-returns c = let p = c.put_text.ensures.place in (and_then (and_then c.put_field-a.ensures.0 c.put_field-b.ensures.0) c.put_text.ensures, search rules)
+returns c = let p = c.put_text.ensures.place in (and_then c.put_task-a.ensures.0 c.put_text.ensures, search rules)
