@@ -32,15 +32,13 @@ use Rattle.file_runs.specs.Ticks.{joined, runs_of, runs_put}
 use Rattle.file_runs.proofs.Ticks.{runs-some}
 use Rattle.rules.specs.Limits.{longest_line}
 use Rattle.output.specs.Refused.{refused_line}
-use Rattle.share_line.specs.Expected.{expected_line}
 use Rattle.share_text.specs.declared.Numbers.{Numbers}
-use Rattle.share_text.specs.declared.Expected.{Expected}
 use Rattle.share_text.specs.declared.Unread.{Unread}
 use Rattle.share_text.specs.declared.Unread.TheVariants as unread
 use Rattle.share_text.specs.Table.{part_in, task_in, records_of, read_text_of}
 use Rattle.share_text.specs.Table as text
 use Rattle.share_text.proofs.Order.{fits}
-use Rattle.share_plan.specs.Answer.{plan_runs, plan_file, checked_write, written_by, write_built_of, write_plan_of, why_line, file_or_line, answer_of}
+use Rattle.share_plan.specs.Answer.{plan_runs, plan_file, checked_write, written_by, write_built_of, write_plan_of, why_line, file_or_line, answer_by, answer_of}
 
 -- numbers at the start of a table that has room for them
 pub front : (s l o : List ℕ) (n : ℕ) → n ≡ length s → n ≤ length l → o ≡ sets l 0 s → (n ≤ length o) × (take n o ≡ s)
@@ -177,12 +175,8 @@ unfolding answer_of
 answer-tables i h t ps ts out r n er e ep et s =
     rw (h, sym er ∙ e, ← ep, ← et, ← (fits t (part_width * most_partitions) (task_width * most_tasks) n (sym er ∙ e)).granule_is) s
 
-pub answer-line : (i : ℕ) → good_edition i ≡ true → (t out : List ℕ) {o : List ℕ} {n : ℕ} (r : Result Numbers Unread) (x : Expected) → r ≡ read_text_of t (part_width * most_partitions) (task_width * most_tasks) → r ≡ Err (unread.Expected x)
-    → Put out 0 (expected_line x.line x.what) n o → Put out 0 (answer_of i t (length out)) n o
+pub answer-unread : (i : ℕ) → good_edition i ≡ true → (t out : List ℕ) {o : List ℕ} {n : ℕ} (r : Result Numbers Unread) (x : Unread) → r ≡ read_text_of t (part_width * most_partitions) (task_width * most_tasks) → r ≡ Err x
+    → Put out 0 (answer_by (Err x) []) n o → Put out 0 (answer_of i t (length out)) n o
 unfolding answer_of
-answer-line i h t out r x er e s = rw (h, sym er ∙ e) s
-
-pub answer-refused : (i : ℕ) → good_edition i ≡ true → (t out : List ℕ) {o : List ℕ} {n : ℕ} (r : Result Numbers Unread) (x : Refusal) → r ≡ read_text_of t (part_width * most_partitions) (task_width * most_tasks) → r ≡ Err (unread.Refused x)
-    → Put out 0 (refused_line x) n o → Put out 0 (answer_of i t (length out)) n o
-unfolding answer_of
-answer-refused i h t out r x er e s = rw (h, sym er ∙ e) s
+answer-unread i h t out r (unread.Expected x) er e s = rw (h, sym er ∙ e) s
+answer-unread i h t out r (unread.Refused x) er e s = rw (h, sym er ∙ e) s

@@ -1,17 +1,32 @@
 // From a share table as text to the bytes of its plan file, in the edition asked for, or to one line that says why there is none.
 #![tactic(auto)]
 
-ghost use Rattle.std.specs.Prelude.{◌≡◌, ◌≤◌, max, length};
+ghost use Rattle.std.specs.Prelude.{◌≡◌, ◌≤◌, [], Err, max, length};
+ghost use Rattle.output.specs.Put.{Put};
 ghost use Rattle.rules.specs.Limits.{longest_line};
-ghost use Rattle.share_plan.specs.Answer.{Plans, edition_asked};
+ghost use Rattle.share_plan.specs.Answer.{Plans, answer_by, edition_asked};
 
-use output::put_refusal;
+use output::Output;
 use plan_file::put_file_or_line;
 use rules::limits::{PART_NUMBERS, TASK_NUMBERS};
 use rules::{Refusal, Terms};
+use share_line::expected::put_expected;
 use share_text::Unread;
 
 mod plan_file; // plan_file.rt: the plan file of two tables, or the line of its refusal
+
+// The line that says why there is nothing to plan, at the start of `out`. The answer is its length.
+fn put_unread(out: &mut [u8], unread: Unread) -> usize
+    ensures { Put out.old 0 (answer_by (Err unread) []) result out.new
+        × (result ≤ longest_line) }
+{
+    let mut out = Output::new(out);
+    match unread {
+        Unread::Expected(e) => put_expected(&mut out, e.line, e.what),
+        Unread::Refused(r) => out.put_refusal(r),
+    }
+    out.at
+}
 
 // Puts what the program writes at the start of `out`, as far as there is room. The answer is its length.
 pub fn plan(edition: usize, text: &[u8], out: &mut [u8]) -> usize
@@ -19,7 +34,7 @@ pub fn plan(edition: usize, text: &[u8], out: &mut [u8]) -> usize
     ensures fits { result ≤ max longest_line (length out.old) }
 {
     if !rules::good_edition(edition) {
-        return put_refusal(out, Refusal::Edition);
+        return put_unread(out, Unread::Refused(Refusal::Edition));
     }
     let mut parts = [0u16; PART_NUMBERS];
     let mut tasks = [0u16; TASK_NUMBERS];
@@ -32,8 +47,7 @@ pub fn plan(edition: usize, text: &[u8], out: &mut [u8]) -> usize
             };
             put_file_or_line(terms, &parts[..n.partitions], &tasks[..n.tasks], out)
         }
-        Err(Unread::Expected(e)) => share_line::expected::put_expected(out, e.line, e.what),
-        Err(Unread::Refused(r)) => put_refusal(out, r),
+        Err(unread) => put_unread(out, unread),
     }
 }
 

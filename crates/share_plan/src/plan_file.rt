@@ -1,5 +1,5 @@
 // The plan file of two tables, or the line of its refusal.
-ghost use Rattle.std.specs.Prelude.{◌≡◌, ◌≤◌, max, length};
+ghost use Rattle.std.specs.Prelude.{◌≡◌, ◌+◌, ◌≤◌, ◌<◌, ◌^◌, max, length};
 ghost use Rattle.rules.specs.Limits.{longest};
 ghost use Rattle.output.specs.Put.{Put};
 ghost use Rattle.rules.specs.Limits.{longest_line};
@@ -8,7 +8,7 @@ ghost use Rattle.file_write.specs.Writer.{file_of, write_of};
 ghost use Rattle.file_runs.specs.Ticks.{runs_of};
 ghost use Rattle.share_plan.specs.Answer.{checked_write, write_built_of, write_plan_of, plan_file, short_line, why_line, file_or_line};
 
-use output::{put_field, put_refusal, put_text};
+use output::Output;
 use rules::limits::{LONGEST, RUN_NUMBERS};
 use rules::{Refusal, Terms};
 
@@ -71,22 +71,26 @@ fn write_plan(terms: Terms, parts: &[u16], tasks: &[u16], out: &mut [u8]) -> Res
 }
 
 // The line of 9, which says what is short.
-fn put_short(out: &mut [u8], partition: usize, start: usize, held: usize, wanted: usize) -> usize
-    ensures { Put out.old 0 (short_line partition start held wanted) result out.new
-        × (result ≤ longest_line) }
+fn put_short(out: &mut Output<'_, u8>, partition: usize, start: usize, held: usize, wanted: usize)
+    requires { out.old.at < 2 ^ 40 }
+    ensures same_reference { out.new.lent.ghost_name ≡ out.old.lent.ghost_name }
+    ensures put { Put out.old.lent.now out.old.at (short_line partition start held wanted) out.new.at out.new.lent.now }
+    ensures short { out.new.at ≤ out.old.at + longest_line }
 {
-    let a = put_field(out, 0, b"refused 9 partition ", partition);
-    let b = put_field(out, a, b" start ", start);
-    let c = put_field(out, b, b" held ", held);
-    let d = put_field(out, c, b" wanted ", wanted);
-    put_text(out, d, b"\n")
+    out.put_field(b"refused 9 partition ", partition);
+    out.put_field(b" start ", start);
+    out.put_field(b" held ", held);
+    out.put_field(b" wanted ", wanted);
+    out.put_all(b"\n");
 }
 
 // The line of a refusal.
 #[tactic(auto, unfolding(crate::specs::Answer::why_line))]
-fn put_why(out: &mut [u8], refusal: Refusal) -> usize
-    ensures { Put out.old 0 (why_line refusal) result out.new
-        × (result ≤ longest_line) }
+fn put_why(out: &mut Output<'_, u8>, refusal: Refusal)
+    requires { out.old.at < 2 ^ 40 }
+    ensures same_reference { out.new.lent.ghost_name ≡ out.old.lent.ghost_name }
+    ensures put { Put out.old.lent.now out.old.at (why_line refusal) out.new.at out.new.lent.now }
+    ensures short { out.new.at ≤ out.old.at + longest_line }
 {
     match refusal {
         Refusal::Shortfall {
@@ -95,7 +99,7 @@ fn put_why(out: &mut [u8], refusal: Refusal) -> usize
             held,
             wanted,
         } => put_short(out, partition, start, held, wanted),
-        _ => put_refusal(out, refusal),
+        _ => out.put_refusal(refusal),
     }
 }
 
@@ -108,6 +112,10 @@ pub fn put_file_or_line(terms: Terms, parts: &[u16], tasks: &[u16], out: &mut [u
     let w = write_plan(terms, parts, tasks, out);
     match w {
         Ok(n) => n,
-        Err(r) => put_why(out, r),
+        Err(r) => {
+            let mut out = Output::new(out);
+            put_why(&mut out, r);
+            out.at
+        }
     }
 }

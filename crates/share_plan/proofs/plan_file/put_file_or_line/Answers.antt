@@ -6,4 +6,7 @@ pub returns-in-Ok : goal.returns-in-Ok
 returns-in-Ok c = file_put _ _ _ _ _ _ _ c.write_plan-w.ensures.0 c.write_plan-w.ensures.1 c.in-Ok.is
 
 pub returns-in-Err : goal.returns-in-Err
-returns-in-Err c = (line_put _ _ _ _ _ _ _ c.write_plan-w.ensures.0 c.write_plan-w.ensures.1 c.in-Err.is c.put_why.ensures.0, search rules)
+returns-in-Err c =
+    let p = rw (c.new-out.ensures.empty.0, c.new-out.ensures.empty.1) at c.put_why.ensures.put in
+    let l = line_put _ _ _ _ _ _ _ c.write_plan-w.ensures.0 c.write_plan-w.ensures.1 c.in-Err.is p in
+    (search rules, search rules)
