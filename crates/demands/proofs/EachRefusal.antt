@@ -25,7 +25,7 @@ use Rattle.output.specs.Decimal.{digits, decimal, value}
 use Rattle.output.specs.Refused.{refused_line}
 use Rattle.file_lines.specs.Lines.{frame_line, partition_line, pass_line}
 use Rattle.file_page.specs.Page.{part_line, task_line, page_of}
-use Rattle.share_words.specs.Words.{blank, stops, stops_at, width, word_of, rest_of, differs, same, is_number, numeral}
+use Rattle.share_words.specs.Words.{blank, solid, ends_word, comment, newline, no_digit, stops_at, width, word_of, rest_of, is_number, numeral}
 use Rattle.share_line.specs.Rows.{granule_row, part_row, task_row, record_of, row_of}
 use Rattle.share_line.specs.Expected.{expected_line}
 use Rattle.share_text.specs.Table.{line_of, after_line, from_line, row_at, closes_at, wrong_at, nums_at, records_of, seen_of, sized_of, read_text_of}
@@ -181,7 +181,7 @@ files = record {
 }
 
 texts : EachText
-unfolding only fails first sum count smallest largest gathered round_up wants counted_in within_limits good_granule good_edition in_edition tables_of good_share good_times pairs frame all_wanted unharmonic laid_of build_of digits decimal value refused_line expected_line blank stops stops_at width word_of rest_of differs same is_number numeral granule_row part_row task_row record_of row_of line_of after_line from_line row_at closes_at wrong_at nums_at records_of seen_of sized_of read_text_of joined runs_of repeats run_owner run_length good_run runs_judged file_tables_of service owner owned sooner rank give turn planned listed walk write_of short_at scan_of plan_check_of check_of plan_file write_built_of write_plan_of why_line file_or_line answer_of
+unfolding only fails first sum count smallest largest gathered round_up wants counted_in within_limits good_granule good_edition in_edition tables_of good_share good_times pairs frame all_wanted unharmonic laid_of build_of digits decimal value refused_line expected_line blank solid ends_word comment newline no_digit stops_at width word_of rest_of is_number numeral granule_row part_row task_row record_of row_of line_of after_line from_line row_at closes_at wrong_at nums_at records_of seen_of sized_of read_text_of joined runs_of repeats run_owner run_length good_run runs_judged file_tables_of service owner owned sooner rank give turn planned listed walk write_of short_at scan_of plan_check_of check_of plan_file write_built_of write_plan_of why_line file_or_line answer_of
 texts = record {
   plan_2 = record { place = refl; bytes = refl };
   plan_2_past = record { place = refl; bytes = refl };
@@ -200,7 +200,7 @@ texts = record {
 }
 
 editions : EachEdition
-unfolding only fails first sum count smallest largest walk gathered round_up wants counted_in within_limits good_granule good_edition in_edition tables_of good_share good_times owner owner_before switch_tick unswitched service owned least curve_of short_at scan_of plan_check_of check_of rival task_load asked demand multiple point holds earliest place_of answerable_of pass_at verdict_by nums_of bytes_of run_owner run_length repeats good_run runs_judged file_tables_of table_by counts_of contents_of read_of file_of write_of ticks_of digits decimal value refused_line tables_lines listing_of list_of pairs frame all_wanted sooner rank give turn planned listed unharmonic laid_of build_of blank stops stops_at width word_of rest_of differs same is_number numeral granule_row part_row task_row record_of row_of line_of after_line from_line row_at closes_at wrong_at nums_at records_of seen_of sized_of read_text_of joined runs_of plan_file write_built_of write_plan_of short_line why_line file_or_line answer_of
+unfolding only fails first sum count smallest largest walk gathered round_up wants counted_in within_limits good_granule good_edition in_edition tables_of good_share good_times owner owner_before switch_tick unswitched service owned least curve_of short_at scan_of plan_check_of check_of rival task_load asked demand multiple point holds earliest place_of answerable_of pass_at verdict_by nums_of bytes_of run_owner run_length repeats good_run runs_judged file_tables_of table_by counts_of contents_of read_of file_of write_of ticks_of digits decimal value refused_line tables_lines listing_of list_of pairs frame all_wanted sooner rank give turn planned listed unharmonic laid_of build_of blank solid ends_word comment newline no_digit stops_at width word_of rest_of is_number numeral granule_row part_row task_row record_of row_of line_of after_line from_line row_at closes_at wrong_at nums_at records_of seen_of sized_of read_text_of joined runs_of plan_file write_built_of write_plan_of short_line why_line file_or_line answer_of
 editions = record {
   held = ((_, refl, refl), (_, refl, refl));
   held_joined = ((_, refl, refl), (_, refl, refl));

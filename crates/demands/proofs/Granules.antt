@@ -27,10 +27,10 @@ use Rattle.task_verdict.specs.Verdict.{answerable_of, verdict_by}
 use Rattle.file_write.specs.Writer.{file_of}
 use Rattle.file_runs.specs.Ticks.{runs_of}
 use Rattle.file_page.specs.Page.{part_line}
+use Rattle.share_line.specs.declared.What.{What}
 use Rattle.share_line.specs.declared.Row.{Row}
 use Rattle.share_line.specs.declared.Row.TheVariants as row
-use Rattle.share_text.specs.declared.Kind.TheVariants.{Granules}
-use Rattle.share_text.specs.Table.{row_at, nums_in, nums_at, records_of}
+use Rattle.share_text.specs.Table.{row_at, granule_in, nums_at, records_of}
 use Rattle.share_plan.specs.Answer.{written_by, write_built_of, write_plan_of, plan_file}
 use Rattle.share_plan.proofs.Proved.{built_accepted}
 use Rattle.demands.specs.GranuleOne.{whole_ticks, tables01, written01, GranuleOne}
@@ -116,14 +116,14 @@ unfolding good_edition in_edition tables_of good_granule
 tables-whole frame ps ts = refl
 
 -- the numbers of a line that gives no granule
-no_number_lem : (r : Row) → ((g : ℕ) → ¬ (r ≡ row.Granule g)) → nums_in Granules r ≡ []
-no_number_lem row.Nothing h = refl
-no_number_lem (row.Granule g) h = absurd (h g refl)
-no_number_lem (row.Partition m n d) h = refl
-no_number_lem (row.Task p c d t) h = refl
-no_number_lem (row.Wrong w) h = refl
+no_number_lem : (r : Result Row What) → ((g : ℕ) → ¬ (r ≡ Ok (row.Granule g))) → granule_in r ≡ []
+no_number_lem (Ok row.Nothing) h = refl
+no_number_lem (Ok (row.Granule g)) h = absurd (h g refl)
+no_number_lem (Ok (row.Partition m n d)) h = refl
+no_number_lem (Ok (row.Task p c d t)) h = refl
+no_number_lem (Err w) h = refl
 
-no_granule : (t : List ℕ) → ((k g : ℕ) → ¬ (row_at t k ≡ row.Granule g)) → (n : ℕ) → gathered (nums_at Granules t) n ≡ []
+no_granule : (t : List ℕ) → ((k g : ℕ) → ¬ (row_at t k ≡ Ok (row.Granule g))) → (n : ℕ) → gathered (nums_at granule_in t) n ≡ []
 unfolding gathered nums_at
 no_granule t h zero = refl
 no_granule t h (suc n) = rw (no_granule t h n) (no_number_lem (row_at t n) (h n))

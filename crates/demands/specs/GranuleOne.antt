@@ -53,7 +53,7 @@ pub record GranuleOne : Type 0 where
       ≡ unless Err (unless Err (tables01 (length plan) ps ts) (place_of Own (whole_ticks ps) plan ps ts place))
       (pass_at (deadline ts (place - 1)) (engine Own plan ts (place - 1)))
   -- the planner: a text that gives no granule has granule 1, and its tables are judged, built and written the same: no plan that is built is refused with 9
-  pub of_text : (t : List ℕ) → ((k g : ℕ) → ¬ (row_at t k ≡ Granule g)) → granule_of t ≡ 1
+  pub of_text : (t : List ℕ) → ((k g : ℕ) → ¬ (row_at t k ≡ Ok (Granule g))) → granule_of t ≡ 1
   pub of_planner :
       (ps ts : List ℕ) (room : ℕ) → write_plan_of usual ps ts room ≡ unless Err (tables01 longest ps ts) (written01 (build_of usual ps longest) ps ts room)
   pub of_file : (ps ts : List ℕ) → plan_file usual ps ts ≡ file_of 1 (frame ps) ps ts (runs_of (harmonic_plan (whole_ticks ps) ps))

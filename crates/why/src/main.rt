@@ -53,8 +53,8 @@ fn page_all<R: Read, W: Write, E: Write>(
 // The task that the program was started for.
 fn place_given(rt: &HostRuntime) -> usize {
     let mut word = [0u8; WORD];
-    let n = streams::word(rt, 1, &mut word);
-    why_page::place_asked(streams::word_count(rt), &word[..n])
+    let word = streams::word(rt, 1, &mut word).unwrap_or(&[]);
+    why_page::place_asked(streams::word_count(rt), word)
 }
 
 fn main(rt: HostRuntime) {
