@@ -16,6 +16,7 @@ use rules::limits::{
     LONGEST, PART_NUMBERS, PART_WIDTH, ROW_WIDTH, RUN_NUMBERS, RUN_WIDTH, TASK_NUMBERS, TASK_WIDTH,
 };
 use share_words::numbers::numeral;
+use task_demand::{TICKS, TaskLists};
 use task_page::Paged;
 
 // A page's numbers, at most: a row for each tick up to the longest deadline.
@@ -80,7 +81,13 @@ fn size_at(task: Task<'_>, t: usize) -> Size
 {
     let i = task.place - 1;
     let rule = rules::rule_of(task.edition);
-    let lists = task_demand::draw_task(rule, task.plan, task.table, i);
+    let mut curve = [0; TICKS];
+    let mut asks = [0; TICKS];
+    task_demand::draw_task(rule, task.plan, task.table, i, &mut curve, &mut asks);
+    let lists = TaskLists {
+        curve: &curve,
+        asks: &asks,
+    };
     let needs = usize::from(rules::records::budget(task.table, i)) + lists.asks[t] as usize;
     let has = lists.curve[t] as usize;
     Size { needs, has }
