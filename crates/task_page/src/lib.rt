@@ -84,7 +84,8 @@ fn tightest_in(lists: &TaskLists<'_>, c: u16, d: u16) -> usize
     best
 }
 
-// A row's four numbers, from a place on; the answer is the place behind them.
+// A row's four numbers, from a place on; the answer is the place behind them. (A loop over them would need an invariant, and
+// be no plainer.)
 fn put_row(
     rows: &mut [u32],
     at: usize,

@@ -19,7 +19,8 @@ pub fn tick_in(lists: &TaskLists<'_>, c: u16, d: u16) -> Option<usize>
     earliest(d, |t| fits(lists, c, t))
 }
 
-// The smallest tick that holds.
+// The smallest tick that holds. (Apart from `first_point`: one function over both would take the search as a closure over two
+// lent lists, and be no plainer.)
 pub fn first_tick(rule: Rule, plan: &[u16], tasks: &[u16], i: usize) -> Option<usize>
     requires { Judgeable tasks.now i }
     ensures { result ≡ in_time (deadline tasks.now i) (task_tick rule plan.now tasks.now i) }
