@@ -17,6 +17,7 @@ use rules::limits::{
 };
 use share_words::numbers::numeral;
 use task_page::Paged;
+use why_lines::Size;
 
 // A page's numbers, at most: a row for each tick up to the longest deadline.
 const MOST_NUMBERS: usize = ROW_WIDTH * LONGEST;
@@ -30,11 +31,12 @@ fn put_line(out: &mut Output<'_, u8>, rows: &[u32], k: usize, tightest: usize)
     ensures short { out.new.at ≤ out.old.at + longest_line }
 {
     let row = ROW_WIDTH * k;
-    let point = rows[row] as usize;
-    let needs = rows[row + 1] as usize;
-    let has = rows[row + 2] as usize;
-    let start = rows[row + 3] as usize;
-    why_lines::put_row(out, tightest, point, needs, has, start);
+    let size = Size {
+        tick: rows[row] as usize,
+        needs: rows[row + 1] as usize,
+        has: rows[row + 2] as usize,
+    };
+    why_lines::put_row(out, tightest, size, rows[row + 3] as usize);
 }
 
 // The lines of the first n rows.
@@ -67,23 +69,22 @@ fn partition_of(task: Task<'_>) -> usize
     usize::from(rules::records::partition(task.table, task.place - 1))
 }
 
-// What a task needs of some ticks, and what it can be sure of.
-#[derive(Clone, Copy)]
-struct Size {
-    needs: usize,
-    has: usize,
-}
-
+// What the task needs of t ticks, and what it can be sure of.
 fn size_at(task: Task<'_>, t: usize) -> Size
     requires { (1 ≤ task.place) × InReach task.plan.now task.table.now (task.place - 1) t }
-    ensures { Sized (rule_of task.entry.edition) task.entry.plan.now task.entry.table.now (task.entry.place - 1) t result.needs result.has }
+    ensures { Sized (rule_of task.entry.edition) task.entry.plan.now task.entry.table.now (task.entry.place - 1) t result.needs result.has
+        × (result.tick ≡ t) }
 {
     let i = task.place - 1;
     let rule = rules::rule_of(task.edition);
     let lists = task_demand::draw_task(rule, task.plan, task.table, i);
     let needs = usize::from(rules::records::budget(task.table, i)) + lists.asks[t] as usize;
     let has = lists.curve[t] as usize;
-    Size { needs, has }
+    Size {
+        tick: t,
+        needs,
+        has,
+    }
 }
 
 // The sentence about a task that passes at a point.
@@ -95,7 +96,7 @@ fn put_spare(out: &mut Output<'_, u8>, task: Task<'_>, t: usize)
     ensures short { out.new.at ≤ out.old.at + longest_line }
 {
     let size = size_at(task, t);
-    why_lines::put_spare(out, t, size.needs, size.has);
+    why_lines::put_spare(out, size);
 }
 
 // The sentence about a task that fails, its tightest point being t.
@@ -109,7 +110,7 @@ fn put_short(out: &mut Output<'_, u8>, task: Task<'_>, t: usize)
     let size = size_at(task, t);
     let rule = rules::rule_of(task.edition);
     let start = plan_service::worst_start(rule, task.plan, partition_of(task), t, size.has);
-    why_lines::put_short(out, t, size.needs, size.has, start);
+    why_lines::put_short(out, size, start);
 }
 
 fn put_passing(out: &mut Output<'_, u8>, task: Task<'_>, point: usize)
