@@ -42,7 +42,9 @@ fn put_column(out: &mut Output<'_, u8>, n: usize)
 fn put_task(out: &mut Output<'_, u8>, place: usize, partition: usize, verdict: &[u8])
     requires { (out.old.at < 2 ^ 40) × (length verdict.now < 2 ^ 6) }
     ensures same_reference { out.new.lent.ghost_name ≡ out.old.lent.ghost_name }
-    ensures put { Put out.old.lent.now out.old.at (task_words place partition ++ verdict.now) out.new.at out.new.lent.now }
+    ensures put { Put out.old.lent.now out.old.at
+        (task_words place partition ++ verdict.now)
+        out.new.at out.new.lent.now }
     ensures short { out.new.at ≤ out.old.at + longest_line }
 {
     out.put_field(b"task ", place);
@@ -83,7 +85,9 @@ pub fn put_names(out: &mut Output<'_, u8>)
 fn put_columns(out: &mut Output<'_, u8>, size: Size)
     requires { out.old.at < 2 ^ 40 }
     ensures same_reference { out.new.lent.ghost_name ≡ out.old.lent.ghost_name }
-    ensures put { Put out.old.lent.now out.old.at (columns size.tick size.needs size.has) out.new.at out.new.lent.now }
+    ensures put { Put out.old.lent.now out.old.at
+        (columns size.tick size.needs size.has)
+        out.new.at out.new.lent.now }
     ensures short { out.new.at ≤ out.old.at + 112 }
 {
     put_column(out, size.tick);
@@ -112,9 +116,15 @@ fn mark(tightest: bool) -> &'static [u8]
 
 // A point's line.
 pub fn put_row(out: &mut Output<'_, u8>, tightest: usize, size: Size, start: usize)
-    requires { (out.old.at < 2 ^ 40) × (size.tick < 2 ^ 32) × (size.needs < 2 ^ 32) × (size.has < 2 ^ 32) × (start < 2 ^ 32) }
+    requires { (out.old.at < 2 ^ 40)
+        × (size.tick < 2 ^ 32)
+        × (size.needs < 2 ^ 32)
+        × (size.has < 2 ^ 32)
+        × (start < 2 ^ 32) }
     ensures same_reference { out.new.lent.ghost_name ≡ out.old.lent.ghost_name }
-    ensures put { Put out.old.lent.now out.old.at (row_line tightest size.tick size.needs size.has start) out.new.at out.new.lent.now }
+    ensures put { Put out.old.lent.now out.old.at
+        (row_line tightest size.tick size.needs size.has start)
+        out.new.at out.new.lent.now }
     ensures short { out.new.at ≤ out.old.at + longest_line }
 {
     put_columns(out, size);
@@ -125,7 +135,9 @@ pub fn put_row(out: &mut Output<'_, u8>, tightest: usize, size: Size, start: usi
 fn put_tick(out: &mut Output<'_, u8>, size: Size)
     requires { out.old.at < 2 ^ 40 }
     ensures same_reference { out.new.lent.ghost_name ≡ out.old.lent.ghost_name }
-    ensures put { Put out.old.lent.now out.old.at (tick_words size.tick size.needs size.has) out.new.at out.new.lent.now }
+    ensures put { Put out.old.lent.now out.old.at
+        (tick_words size.tick size.needs size.has)
+        out.new.at out.new.lent.now }
     ensures short { out.new.at ≤ out.old.at + 98 }
 {
     out.put_field(b"at tick ", size.tick);
@@ -137,7 +149,9 @@ fn put_tick(out: &mut Output<'_, u8>, size: Size)
 pub fn put_spare(out: &mut Output<'_, u8>, size: Size)
     requires { (out.old.at < 2 ^ 40) × (size.tick < 2 ^ 16) × (size.needs < 2 ^ 33) × (size.has < 2 ^ 33) }
     ensures same_reference { out.new.lent.ghost_name ≡ out.old.lent.ghost_name }
-    ensures put { Put out.old.lent.now out.old.at (spare_line size.tick size.needs size.has) out.new.at out.new.lent.now }
+    ensures put { Put out.old.lent.now out.old.at
+        (spare_line size.tick size.needs size.has)
+        out.new.at out.new.lent.now }
     ensures short { out.new.at ≤ out.old.at + longest_line }
 {
     put_tick(out, size);
@@ -147,9 +161,15 @@ pub fn put_spare(out: &mut Output<'_, u8>, size: Size)
 
 // What is said of a task that fails, and at which tick it does so by the least.
 pub fn put_short(out: &mut Output<'_, u8>, size: Size, start: usize)
-    requires { (out.old.at < 2 ^ 40) × (size.tick < 2 ^ 16) × (size.needs < 2 ^ 33) × (size.has < 2 ^ 33) × (start < 2 ^ 33) }
+    requires { (out.old.at < 2 ^ 40)
+        × (size.tick < 2 ^ 16)
+        × (size.needs < 2 ^ 33)
+        × (size.has < 2 ^ 33)
+        × (start < 2 ^ 33) }
     ensures same_reference { out.new.lent.ghost_name ≡ out.old.lent.ghost_name }
-    ensures put { Put out.old.lent.now out.old.at (short_line size.tick size.needs size.has start) out.new.at out.new.lent.now }
+    ensures put { Put out.old.lent.now out.old.at
+        (short_line size.tick size.needs size.has start)
+        out.new.at out.new.lent.now }
     ensures short { out.new.at ≤ out.old.at + longest_line }
 {
     put_tick(out, size);

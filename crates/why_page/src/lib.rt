@@ -43,7 +43,9 @@ fn put_line(out: &mut Output<'_, u8>, rows: &[u32], k: usize, tightest: usize)
 fn put_lines(out: &mut Output<'_, u8>, rows: &[u32], n: usize, tightest: usize)
     requires { (n ≤ longest) × (out.old.at < 2 ^ 33) × (length rows.now ≡ most_numbers) }
     ensures same_reference { out.new.lent.ghost_name ≡ out.old.lent.ghost_name }
-    ensures put { Put out.old.lent.now out.old.at (gathered (line_of tightest rows.now) n) out.new.at out.new.lent.now }
+    ensures put { Put out.old.lent.now out.old.at
+        (gathered (line_of tightest rows.now) n)
+        out.new.at out.new.lent.now }
     ensures short { out.new.at ≤ out.old.at + longest_line * n }
 {
     for k in 0..n {
@@ -72,7 +74,8 @@ fn partition_of(task: Task<'_>) -> usize
 // What the task needs of t ticks, and what it can be sure of.
 fn size_at(task: Task<'_>, t: usize) -> Size
     requires { (1 ≤ task.place) × InReach task.plan.now task.table.now (task.place - 1) t }
-    ensures { Sized (rule_of task.entry.edition) task.entry.plan.now task.entry.table.now (task.entry.place - 1) t result.needs result.has
+    ensures { Sized (rule_of task.entry.edition) task.entry.plan.now
+        task.entry.table.now (task.entry.place - 1) t result.needs result.has
         × (result.tick ≡ t) }
 {
     let i = task.place - 1;
@@ -92,7 +95,9 @@ fn size_at(task: Task<'_>, t: usize) -> Size
 fn put_spare(out: &mut Output<'_, u8>, task: Task<'_>, t: usize)
     requires { (1 ≤ task.place) × InReach task.plan.now task.table.now (task.place - 1) t × (out.old.at < 2 ^ 40) }
     ensures same_reference { out.new.lent.ghost_name ≡ out.old.lent.ghost_name }
-    ensures put { Put out.old.lent.now out.old.at (spare_of (rule_of task.entry.edition) task.entry.plan.now task.entry.table.now (task.entry.place - 1) t) out.new.at out.new.lent.now }
+    ensures put { Put out.old.lent.now out.old.at
+        (spare_of (rule_of task.entry.edition) task.entry.plan.now task.entry.table.now (task.entry.place - 1) t)
+        out.new.at out.new.lent.now }
     ensures short { out.new.at ≤ out.old.at + longest_line }
 {
     let size = size_at(task, t);
@@ -104,7 +109,9 @@ fn put_spare(out: &mut Output<'_, u8>, task: Task<'_>, t: usize)
 fn put_short(out: &mut Output<'_, u8>, task: Task<'_>, t: usize)
     requires { (1 ≤ task.place) × InReach task.plan.now task.table.now (task.place - 1) t × (out.old.at < 2 ^ 40) }
     ensures same_reference { out.new.lent.ghost_name ≡ out.old.lent.ghost_name }
-    ensures put { Put out.old.lent.now out.old.at (short_of (rule_of task.entry.edition) task.entry.plan.now task.entry.table.now (task.entry.place - 1) t) out.new.at out.new.lent.now }
+    ensures put { Put out.old.lent.now out.old.at
+        (short_of (rule_of task.entry.edition) task.entry.plan.now task.entry.table.now (task.entry.place - 1) t)
+        out.new.at out.new.lent.now }
     ensures short { out.new.at ≤ out.old.at + longest_line }
 {
     let size = size_at(task, t);
@@ -114,9 +121,13 @@ fn put_short(out: &mut Output<'_, u8>, task: Task<'_>, t: usize)
 }
 
 fn put_passing(out: &mut Output<'_, u8>, task: Task<'_>, point: usize)
-    requires { (1 ≤ task.place) × InReach task.plan.now task.table.now (task.place - 1) point × (out.old.at < 2 ^ 32) }
+    requires { (1 ≤ task.place)
+        × InReach task.plan.now task.table.now (task.place - 1) point
+        × (out.old.at < 2 ^ 32) }
     ensures same_reference { out.new.lent.ghost_name ≡ out.old.lent.ghost_name }
-    ensures put { Put out.old.lent.now out.old.at (pass_text (rule_of task.entry.edition) task.entry.plan.now task.entry.table.now task.entry.place point) out.new.at out.new.lent.now }
+    ensures put { Put out.old.lent.now out.old.at
+        (pass_text (rule_of task.entry.edition) task.entry.plan.now task.entry.table.now task.entry.place point)
+        out.new.at out.new.lent.now }
     ensures short { out.new.at ≤ out.old.at + longest_why }
 {
     why_lines::put_passes(out, task.place, partition_of(task));
@@ -124,9 +135,13 @@ fn put_passing(out: &mut Output<'_, u8>, task: Task<'_>, point: usize)
 }
 
 fn put_failing(out: &mut Output<'_, u8>, task: Task<'_>, rows: &[u32], n: usize, tightest: usize)
-    requires { (1 ≤ task.place) × Rowed (rule_of task.edition) task.plan.now task.table.now (task.place - 1) rows.now n tightest × (out.old.at < 2 ^ 32) }
+    requires { (1 ≤ task.place)
+        × Rowed (rule_of task.edition) task.plan.now task.table.now (task.place - 1) rows.now n tightest
+        × (out.old.at < 2 ^ 32) }
     ensures same_reference { out.new.lent.ghost_name ≡ out.old.lent.ghost_name }
-    ensures put { Put out.old.lent.now out.old.at (fail_text (rule_of task.entry.edition) task.entry.plan.now task.entry.table.now task.entry.place) out.new.at out.new.lent.now }
+    ensures put { Put out.old.lent.now out.old.at
+        (fail_text (rule_of task.entry.edition) task.entry.plan.now task.entry.table.now task.entry.place)
+        out.new.at out.new.lent.now }
     ensures short { out.new.at ≤ out.old.at + longest_why }
 {
     why_lines::put_fails(out, task.place, partition_of(task));
@@ -138,9 +153,12 @@ fn put_failing(out: &mut Output<'_, u8>, task: Task<'_>, rows: &[u32], n: usize,
 // What the page says of the task, as text; a fail left its rows.
 #[tactic(auto, unfolding(crate::specs::Why::tables_text))]
 fn put_paged(out: &mut Output<'_, u8>, task: Task<'_>, rows: &[u32], paged: Paged)
-    requires { PagedSo task.edition task.plan.now task.parts.now task.table.now task.place rows.now (Ok paged) × (out.old.at < 2 ^ 32) }
+    requires { PagedSo task.edition task.plan.now task.parts.now task.table.now task.place rows.now (Ok paged)
+        × (out.old.at < 2 ^ 32) }
     ensures same_reference { out.new.lent.ghost_name ≡ out.old.lent.ghost_name }
-    ensures put { Put out.old.lent.now out.old.at (tables_text task.entry.edition task.entry.plan.now task.entry.parts.now task.entry.table.now task.entry.place) out.new.at out.new.lent.now }
+    ensures put { Put out.old.lent.now out.old.at
+        (tables_text task.entry.edition task.entry.plan.now task.entry.parts.now task.entry.table.now task.entry.place)
+        out.new.at out.new.lent.now }
     ensures short { out.new.at ≤ out.old.at + longest_why }
 {
     match paged {
@@ -157,7 +175,9 @@ fn put_paged(out: &mut Output<'_, u8>, task: Task<'_>, rows: &[u32], paged: Page
 fn put_page(out: &mut Output<'_, u8>, task: Task<'_>)
     requires { out.old.at < 2 ^ 32 }
     ensures same_reference { out.new.lent.ghost_name ≡ out.old.lent.ghost_name }
-    ensures put { Put out.old.lent.now out.old.at (tables_text task.entry.edition task.entry.plan.now task.entry.parts.now task.entry.table.now task.entry.place) out.new.at out.new.lent.now }
+    ensures put { Put out.old.lent.now out.old.at
+        (tables_text task.entry.edition task.entry.plan.now task.entry.parts.now task.entry.table.now task.entry.place)
+        out.new.at out.new.lent.now }
     ensures short { out.new.at ≤ out.old.at + longest_why }
 {
     let mut rows = [0u32; MOST_NUMBERS];
