@@ -11,6 +11,14 @@ use output::Output;
 
 const COLUMN: usize = 8;
 
+// What a task needs at a tick, and what it can be sure of there.
+#[derive(Clone, Copy)]
+pub struct Size {
+    pub tick: usize,
+    pub needs: usize,
+    pub has: usize,
+}
+
 // How many digits a number has.
 fn digits(n: usize) -> usize
     ensures { result ≡ length (decimal n) }
@@ -34,7 +42,9 @@ fn put_column(out: &mut Output<'_, u8>, n: usize)
 fn put_task(out: &mut Output<'_, u8>, place: usize, partition: usize, verdict: &[u8])
     requires { (out.old.at < 2 ^ 40) × (length verdict.now < 2 ^ 6) }
     ensures same_reference { out.new.lent.ghost_name ≡ out.old.lent.ghost_name }
-    ensures put { Put out.old.lent.now out.old.at (task_words place partition ++ verdict.now) out.new.at out.new.lent.now }
+    ensures put { Put out.old.lent.now out.old.at
+        (task_words place partition ++ verdict.now)
+        out.new.at out.new.lent.now }
     ensures short { out.new.at ≤ out.old.at + longest_line }
 {
     out.put_field(b"task ", place);
@@ -72,16 +82,18 @@ pub fn put_names(out: &mut Output<'_, u8>)
     out.put_all(b"   point   needs     has   short   worst stretch in wall ticks\n");
 }
 
-fn put_columns(out: &mut Output<'_, u8>, point: usize, needs: usize, has: usize)
+fn put_columns(out: &mut Output<'_, u8>, size: Size)
     requires { out.old.at < 2 ^ 40 }
     ensures same_reference { out.new.lent.ghost_name ≡ out.old.lent.ghost_name }
-    ensures put { Put out.old.lent.now out.old.at (columns point needs has) out.new.at out.new.lent.now }
+    ensures put { Put out.old.lent.now out.old.at
+        (columns size.tick size.needs size.has)
+        out.new.at out.new.lent.now }
     ensures short { out.new.at ≤ out.old.at + 112 }
 {
-    put_column(out, point);
-    put_column(out, needs);
-    put_column(out, has);
-    put_column(out, needs.saturating_sub(has));
+    put_column(out, size.tick);
+    put_column(out, size.needs);
+    put_column(out, size.has);
+    put_column(out, size.needs.saturating_sub(size.has));
 }
 
 // The wall ticks of the worst stretch, as many as the point says.
@@ -103,56 +115,65 @@ fn mark(tightest: bool) -> &'static [u8]
 }
 
 // A point's line.
-pub fn put_row(
-    out: &mut Output<'_, u8>,
-    tightest: usize,
-    point: usize,
-    needs: usize,
-    has: usize,
-    start: usize,
-)
-    requires { (out.old.at < 2 ^ 40) × (point < 2 ^ 32) × (needs < 2 ^ 32) × (has < 2 ^ 32) × (start < 2 ^ 32) }
+pub fn put_row(out: &mut Output<'_, u8>, tightest: usize, size: Size, start: usize)
+    requires { (out.old.at < 2 ^ 40)
+        × (size.tick < 2 ^ 32)
+        × (size.needs < 2 ^ 32)
+        × (size.has < 2 ^ 32)
+        × (start < 2 ^ 32) }
     ensures same_reference { out.new.lent.ghost_name ≡ out.old.lent.ghost_name }
-    ensures put { Put out.old.lent.now out.old.at (row_line tightest point needs has start) out.new.at out.new.lent.now }
+    ensures put { Put out.old.lent.now out.old.at
+        (row_line tightest size.tick size.needs size.has start)
+        out.new.at out.new.lent.now }
     ensures short { out.new.at ≤ out.old.at + longest_line }
 {
-    put_columns(out, point, needs, has);
-    put_window(out, start, point);
-    out.put_all(mark(point == tightest));
+    put_columns(out, size);
+    put_window(out, start, size.tick);
+    out.put_all(mark(size.tick == tightest));
 }
 
-fn put_tick(out: &mut Output<'_, u8>, tick: usize, needs: usize, has: usize)
+fn put_tick(out: &mut Output<'_, u8>, size: Size)
     requires { out.old.at < 2 ^ 40 }
     ensures same_reference { out.new.lent.ghost_name ≡ out.old.lent.ghost_name }
-    ensures put { Put out.old.lent.now out.old.at (tick_words tick needs has) out.new.at out.new.lent.now }
+    ensures put { Put out.old.lent.now out.old.at
+        (tick_words size.tick size.needs size.has)
+        out.new.at out.new.lent.now }
     ensures short { out.new.at ≤ out.old.at + 98 }
 {
-    out.put_field(b"at tick ", tick);
-    out.put_field(b" it needs ", needs);
-    out.put_field(b" and can be sure of ", has);
+    out.put_field(b"at tick ", size.tick);
+    out.put_field(b" it needs ", size.needs);
+    out.put_field(b" and can be sure of ", size.has);
 }
 
 // What is said of a task that passes at a tick.
-pub fn put_spare(out: &mut Output<'_, u8>, tick: usize, needs: usize, has: usize)
-    requires { (out.old.at < 2 ^ 40) × (tick < 2 ^ 16) × (needs < 2 ^ 33) × (has < 2 ^ 33) }
+pub fn put_spare(out: &mut Output<'_, u8>, size: Size)
+    requires { (out.old.at < 2 ^ 40) × (size.tick < 2 ^ 16) × (size.needs < 2 ^ 33) × (size.has < 2 ^ 33) }
     ensures same_reference { out.new.lent.ghost_name ≡ out.old.lent.ghost_name }
-    ensures put { Put out.old.lent.now out.old.at (spare_line tick needs has) out.new.at out.new.lent.now }
+    ensures put { Put out.old.lent.now out.old.at
+        (spare_line size.tick size.needs size.has)
+        out.new.at out.new.lent.now }
     ensures short { out.new.at ≤ out.old.at + longest_line }
 {
-    put_tick(out, tick, needs, has);
-    out.put_field(b": ", has.saturating_sub(needs));
+    put_tick(out, size);
+    out.put_field(b": ", size.has.saturating_sub(size.needs));
     out.put_all(b" to spare\n");
 }
 
 // What is said of a task that fails, and at which tick it does so by the least.
-pub fn put_short(out: &mut Output<'_, u8>, tick: usize, needs: usize, has: usize, start: usize)
-    requires { (out.old.at < 2 ^ 40) × (tick < 2 ^ 16) × (needs < 2 ^ 33) × (has < 2 ^ 33) × (start < 2 ^ 33) }
+pub fn put_short(out: &mut Output<'_, u8>, size: Size, start: usize)
+    requires { (out.old.at < 2 ^ 40)
+        × (size.tick < 2 ^ 16)
+        × (size.needs < 2 ^ 33)
+        × (size.has < 2 ^ 33)
+        × (start < 2 ^ 33) }
     ensures same_reference { out.new.lent.ghost_name ≡ out.old.lent.ghost_name }
-    ensures put { Put out.old.lent.now out.old.at (short_line tick needs has start) out.new.at out.new.lent.now }
+    ensures put { Put out.old.lent.now out.old.at
+        (short_line size.tick size.needs size.has start)
+        out.new.at out.new.lent.now }
     ensures short { out.new.at ≤ out.old.at + longest_line }
 {
-    put_tick(out, tick, needs, has);
-    out.put_field(b": ", needs.saturating_sub(has));
+    put_tick(out, size);
+    out.put_field(b": ", size.needs.saturating_sub(size.has));
     out.put_field(b" short; the worst stretch starts at tick ", start);
     out.put_all(b"\n");
 }

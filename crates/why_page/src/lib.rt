@@ -18,6 +18,7 @@ use rules::limits::{
 use share_words::numbers::numeral;
 use task_demand::{TICKS, TaskLists};
 use task_page::Paged;
+use why_lines::Size;
 
 // A page's numbers, at most: a row for each tick up to the longest deadline.
 const MOST_NUMBERS: usize = ROW_WIDTH * LONGEST;
@@ -31,18 +32,21 @@ fn put_line(out: &mut Output<'_, u8>, rows: &[u32], k: usize, tightest: usize)
     ensures short { out.new.at ≤ out.old.at + longest_line }
 {
     let row = ROW_WIDTH * k;
-    let point = rows[row] as usize;
-    let needs = rows[row + 1] as usize;
-    let has = rows[row + 2] as usize;
-    let start = rows[row + 3] as usize;
-    why_lines::put_row(out, tightest, point, needs, has, start);
+    let size = Size {
+        tick: rows[row] as usize,
+        needs: rows[row + 1] as usize,
+        has: rows[row + 2] as usize,
+    };
+    why_lines::put_row(out, tightest, size, rows[row + 3] as usize);
 }
 
 // The lines of the first n rows.
 fn put_lines(out: &mut Output<'_, u8>, rows: &[u32], n: usize, tightest: usize)
     requires { (n ≤ longest) × (out.old.at < 2 ^ 33) × (length rows.now ≡ most_numbers) }
     ensures same_reference { out.new.lent.ghost_name ≡ out.old.lent.ghost_name }
-    ensures put { Put out.old.lent.now out.old.at (gathered (line_of tightest rows.now) n) out.new.at out.new.lent.now }
+    ensures put { Put out.old.lent.now out.old.at
+        (gathered (line_of tightest rows.now) n)
+        out.new.at out.new.lent.now }
     ensures short { out.new.at ≤ out.old.at + longest_line * n }
 {
     for k in 0..n {
@@ -68,16 +72,12 @@ fn partition_of(task: Task<'_>) -> usize
     usize::from(rules::records::partition(task.table, task.place - 1))
 }
 
-// What a task needs of some ticks, and what it can be sure of.
-#[derive(Clone, Copy)]
-struct Size {
-    needs: usize,
-    has: usize,
-}
-
+// What the task needs of t ticks, and what it can be sure of.
 fn size_at(task: Task<'_>, t: usize) -> Size
     requires { (1 ≤ task.place) × InReach task.plan.now task.table.now (task.place - 1) t }
-    ensures { Sized (rule_of task.entry.edition) task.entry.plan.now task.entry.table.now (task.entry.place - 1) t result.needs result.has }
+    ensures { Sized (rule_of task.entry.edition) task.entry.plan.now
+        task.entry.table.now (task.entry.place - 1) t result.needs result.has
+        × (result.tick ≡ t) }
 {
     let i = task.place - 1;
     let rule = rules::rule_of(task.edition);
@@ -90,7 +90,11 @@ fn size_at(task: Task<'_>, t: usize) -> Size
     };
     let needs = usize::from(rules::records::budget(task.table, i)) + lists.asks[t] as usize;
     let has = lists.curve[t] as usize;
-    Size { needs, has }
+    Size {
+        tick: t,
+        needs,
+        has,
+    }
 }
 
 // The sentence about a task that passes at a point.
@@ -98,11 +102,13 @@ fn size_at(task: Task<'_>, t: usize) -> Size
 fn put_spare(out: &mut Output<'_, u8>, task: Task<'_>, t: usize)
     requires { (1 ≤ task.place) × InReach task.plan.now task.table.now (task.place - 1) t × (out.old.at < 2 ^ 40) }
     ensures same_reference { out.new.lent.ghost_name ≡ out.old.lent.ghost_name }
-    ensures put { Put out.old.lent.now out.old.at (spare_of (rule_of task.entry.edition) task.entry.plan.now task.entry.table.now (task.entry.place - 1) t) out.new.at out.new.lent.now }
+    ensures put { Put out.old.lent.now out.old.at
+        (spare_of (rule_of task.entry.edition) task.entry.plan.now task.entry.table.now (task.entry.place - 1) t)
+        out.new.at out.new.lent.now }
     ensures short { out.new.at ≤ out.old.at + longest_line }
 {
     let size = size_at(task, t);
-    why_lines::put_spare(out, t, size.needs, size.has);
+    why_lines::put_spare(out, size);
 }
 
 // The sentence about a task that fails, its tightest point being t.
@@ -110,19 +116,25 @@ fn put_spare(out: &mut Output<'_, u8>, task: Task<'_>, t: usize)
 fn put_short(out: &mut Output<'_, u8>, task: Task<'_>, t: usize)
     requires { (1 ≤ task.place) × InReach task.plan.now task.table.now (task.place - 1) t × (out.old.at < 2 ^ 40) }
     ensures same_reference { out.new.lent.ghost_name ≡ out.old.lent.ghost_name }
-    ensures put { Put out.old.lent.now out.old.at (short_of (rule_of task.entry.edition) task.entry.plan.now task.entry.table.now (task.entry.place - 1) t) out.new.at out.new.lent.now }
+    ensures put { Put out.old.lent.now out.old.at
+        (short_of (rule_of task.entry.edition) task.entry.plan.now task.entry.table.now (task.entry.place - 1) t)
+        out.new.at out.new.lent.now }
     ensures short { out.new.at ≤ out.old.at + longest_line }
 {
     let size = size_at(task, t);
     let rule = rules::rule_of(task.edition);
     let start = plan_service::worst_start(rule, task.plan, partition_of(task), t, size.has);
-    why_lines::put_short(out, t, size.needs, size.has, start);
+    why_lines::put_short(out, size, start);
 }
 
 fn put_passing(out: &mut Output<'_, u8>, task: Task<'_>, point: usize)
-    requires { (1 ≤ task.place) × InReach task.plan.now task.table.now (task.place - 1) point × (out.old.at < 2 ^ 32) }
+    requires { (1 ≤ task.place)
+        × InReach task.plan.now task.table.now (task.place - 1) point
+        × (out.old.at < 2 ^ 32) }
     ensures same_reference { out.new.lent.ghost_name ≡ out.old.lent.ghost_name }
-    ensures put { Put out.old.lent.now out.old.at (pass_text (rule_of task.entry.edition) task.entry.plan.now task.entry.table.now task.entry.place point) out.new.at out.new.lent.now }
+    ensures put { Put out.old.lent.now out.old.at
+        (pass_text (rule_of task.entry.edition) task.entry.plan.now task.entry.table.now task.entry.place point)
+        out.new.at out.new.lent.now }
     ensures short { out.new.at ≤ out.old.at + longest_why }
 {
     why_lines::put_passes(out, task.place, partition_of(task));
@@ -130,9 +142,13 @@ fn put_passing(out: &mut Output<'_, u8>, task: Task<'_>, point: usize)
 }
 
 fn put_failing(out: &mut Output<'_, u8>, task: Task<'_>, rows: &[u32], n: usize, tightest: usize)
-    requires { (1 ≤ task.place) × Rowed (rule_of task.edition) task.plan.now task.table.now (task.place - 1) rows.now n tightest × (out.old.at < 2 ^ 32) }
+    requires { (1 ≤ task.place)
+        × Rowed (rule_of task.edition) task.plan.now task.table.now (task.place - 1) rows.now n tightest
+        × (out.old.at < 2 ^ 32) }
     ensures same_reference { out.new.lent.ghost_name ≡ out.old.lent.ghost_name }
-    ensures put { Put out.old.lent.now out.old.at (fail_text (rule_of task.entry.edition) task.entry.plan.now task.entry.table.now task.entry.place) out.new.at out.new.lent.now }
+    ensures put { Put out.old.lent.now out.old.at
+        (fail_text (rule_of task.entry.edition) task.entry.plan.now task.entry.table.now task.entry.place)
+        out.new.at out.new.lent.now }
     ensures short { out.new.at ≤ out.old.at + longest_why }
 {
     why_lines::put_fails(out, task.place, partition_of(task));
@@ -144,9 +160,12 @@ fn put_failing(out: &mut Output<'_, u8>, task: Task<'_>, rows: &[u32], n: usize,
 // What the page says of the task, as text; a fail left its rows.
 #[tactic(auto, unfolding(crate::specs::Why::tables_text))]
 fn put_paged(out: &mut Output<'_, u8>, task: Task<'_>, rows: &[u32], paged: Paged)
-    requires { PagedSo task.edition task.plan.now task.parts.now task.table.now task.place rows.now (Ok paged) × (out.old.at < 2 ^ 32) }
+    requires { PagedSo task.edition task.plan.now task.parts.now task.table.now task.place rows.now (Ok paged)
+        × (out.old.at < 2 ^ 32) }
     ensures same_reference { out.new.lent.ghost_name ≡ out.old.lent.ghost_name }
-    ensures put { Put out.old.lent.now out.old.at (tables_text task.entry.edition task.entry.plan.now task.entry.parts.now task.entry.table.now task.entry.place) out.new.at out.new.lent.now }
+    ensures put { Put out.old.lent.now out.old.at
+        (tables_text task.entry.edition task.entry.plan.now task.entry.parts.now task.entry.table.now task.entry.place)
+        out.new.at out.new.lent.now }
     ensures short { out.new.at ≤ out.old.at + longest_why }
 {
     match paged {
@@ -163,7 +182,9 @@ fn put_paged(out: &mut Output<'_, u8>, task: Task<'_>, rows: &[u32], paged: Page
 fn put_page(out: &mut Output<'_, u8>, task: Task<'_>)
     requires { out.old.at < 2 ^ 32 }
     ensures same_reference { out.new.lent.ghost_name ≡ out.old.lent.ghost_name }
-    ensures put { Put out.old.lent.now out.old.at (tables_text task.entry.edition task.entry.plan.now task.entry.parts.now task.entry.table.now task.entry.place) out.new.at out.new.lent.now }
+    ensures put { Put out.old.lent.now out.old.at
+        (tables_text task.entry.edition task.entry.plan.now task.entry.parts.now task.entry.table.now task.entry.place)
+        out.new.at out.new.lent.now }
     ensures short { out.new.at ≤ out.old.at + longest_why }
 {
     let mut rows = [0u32; MOST_NUMBERS];

@@ -9,4 +9,4 @@ unfolding row_line
 returns-clause-put c = and_then (and_then c.put_columns.ensures.put c.put_window.ensures.put) (rw c.mark.ensures.0 at c.put_all.ensures.put)
 
 pub returns-clause-short : goal.returns-clause-short
-returns-clause-short c = within (returns-clause-put c) (row-long c.args.tightest c.args.point c.args.needs c.args.has c.args.start (search rules) (search rules) (search rules) (search rules))
+returns-clause-short c = within (returns-clause-put c) (row-long c.args.tightest c.args.size.tick c.args.size.needs c.args.size.has c.args.start (search rules) (search rules) (search rules) (search rules))

@@ -9,4 +9,4 @@ unfolding spare_line
 returns-clause-put c = and_then (and_then c.put_tick.ensures.put (rw c.saturating_sub.ensures at c.put_field.ensures.put)) c.put_all.ensures.put
 
 pub returns-clause-short : goal.returns-clause-short
-returns-clause-short c = within (returns-clause-put c) (spare_long c.args.tick c.args.needs c.args.has (search rules) (search rules) (search rules))
+returns-clause-short c = within (returns-clause-put c) (spare_long c.args.size.tick c.args.size.needs c.args.size.has (search rules) (search rules) (search rules))

@@ -10,4 +10,5 @@ pub draw_task-requires : goal.draw_task-requires
 draw_task-requires c = (search rules, zeros-all (longest + 1), search rules, search rules)
 
 pub returns : goal.returns
-returns c = sized _ _ _ _ _ _ c.args.t _ _ _ _ c.requires.1 (rw c.rule_of-rule.ensures at c.draw_task.ensures) c.budget.ensures c.from.ensures refl refl (search rules) (search rules) (search rules)
+returns c =
+    (sized _ _ _ _ _ _ c.args.t _ _ _ _ c.requires.1 (rw c.rule_of-rule.ensures at c.draw_task.ensures) c.budget.ensures c.from.ensures refl refl (search rules) (search rules) (search rules), refl)
