@@ -1,7 +1,7 @@
 // The listing of a plan file: read and judged once, its plan checked once for all its tasks.
 #![tactic(auto)]
 
-ghost use Rattle.std.specs.Prelude.{◌≡◌, ◌≤◌, length};
+ghost use Rattle.std.specs.Prelude.{◌≡◌, ◌+◌, ◌≤◌, ◌<◌, ◌^◌, length};
 ghost use Rattle.rules.specs.Limits.{longest_listing};
 ghost use Rattle.rules.specs.Terms.{filed, rule_of, wanted};
 ghost use Rattle.plan_check.specs.Check.{scan_of, check_of};
@@ -12,6 +12,7 @@ ghost use Rattle.file_page.specs.Inner.{GoodRecords};
 ghost use Rattle.file_listing.specs.Inner.{Listable};
 
 use file_read::load::load_file;
+use output::Output;
 use rules::Refusal;
 use rules::limits::{
     LONGEST, LONGEST_LISTING, PART_NUMBERS, PART_WIDTH, RUN_NUMBERS, RUN_WIDTH, TASK_NUMBERS,
@@ -26,19 +27,21 @@ fn put_checked(
     plan: &[u16],
     parts: &[u16],
     table: &[u16],
-    out: &mut [u8],
-) -> usize
+    out: &mut Output<'_, u8>,
+)
     requires good_records { GoodRecords parts.now table.now }
     requires judged { check_of (filed edition) plan.now parts.now
         ≡ scan_of (rule_of edition) (wanted (filed edition) parts.now) plan.now parts.now }
-    ensures { Put out.old 0
-        (tables_lines edition frame plan.now parts.now table.now) result out.new
-        × (result ≤ longest_listing) }
+    requires low { out.old.at < 2 ^ 30 }
+    ensures same_reference { out.new.lent.ghost_name ≡ out.old.lent.ghost_name }
+    ensures put { Put out.old.lent.now out.old.at
+        (tables_lines edition frame plan.now parts.now table.now) out.new.at out.new.lent.now }
+    ensures short { out.new.at ≤ out.old.at + longest_listing }
 {
     let rule = rules::rule_of(edition);
     match plan_check::scan(rule, rules::filed(edition), plan, parts) {
         Ok(()) => file_page::put_page(rule, frame, plan, parts, table, out),
-        Err(r) => output::put_refusal(out, r),
+        Err(r) => out.put_refusal(r),
     }
 }
 
@@ -49,23 +52,27 @@ fn put_tables(
     parts: &[u16],
     table: &[u16],
     runs: &[u16],
-    out: &mut [u8],
-) -> usize
-    requires { Listable edition frame parts.now table.now runs.now }
-    ensures { Put out.old 0
+    out: &mut Output<'_, u8>,
+)
+    requires listable { Listable edition frame parts.now table.now runs.now }
+    requires low { out.old.at < 2 ^ 30 }
+    ensures same_reference { out.new.lent.ghost_name ≡ out.old.lent.ghost_name }
+    ensures put { Put out.old.lent.now out.old.at
         (tables_lines edition frame (ticks_of runs.now) parts.now table.now)
-        result out.new
-        × (result ≤ longest_listing) }
+        out.new.at out.new.lent.now }
+    ensures short { out.new.at ≤ out.old.at + longest_listing }
 {
     let mut plan = [0u16; LONGEST];
     file_runs::ticks_of(runs, &mut plan);
-    put_checked(edition, frame, &plan[..frame], parts, table, out)
+    put_checked(edition, frame, &plan[..frame], parts, table, out);
 }
 
-// Puts the listing of a file's bytes at the start of the output, as far as there is room. The answer is its length.
-pub fn compose(file: &[u8], out: &mut [u8]) -> usize
-    ensures { Put out.old 0 (listing_of file.now) result out.new
-        × (result ≤ longest_listing) }
+// The lines of a file's bytes.
+fn put_lines(file: &[u8], out: &mut Output<'_, u8>)
+    requires { out.old.at < 2 ^ 30 }
+    ensures same_reference { out.new.lent.ghost_name ≡ out.old.lent.ghost_name }
+    ensures put { Put out.old.lent.now out.old.at (listing_of file.now) out.new.at out.new.lent.now }
+    ensures short { out.new.at ≤ out.old.at + longest_listing }
 {
     let mut parts = [0u16; PART_NUMBERS];
     let mut tasks = [0u16; TASK_NUMBERS];
@@ -82,10 +89,20 @@ pub fn compose(file: &[u8], out: &mut [u8]) -> usize
                 &tasks[..t],
                 &runs[..r],
                 out,
-            )
+            );
         }
-        Err(r) => output::put_refusal(out, r),
+        Err(r) => out.put_refusal(r),
     }
+}
+
+// Puts the listing of a file's bytes at the start of the output, as far as there is room. The answer is its length.
+pub fn compose(file: &[u8], out: &mut [u8]) -> usize
+    ensures { Put out.old 0 (listing_of file.now) result out.new
+        × (result ≤ longest_listing) }
+{
+    let mut out = Output::new(out);
+    put_lines(file, &mut out);
+    out.at
 }
 
 // The listing of a file's bytes, at the start of the output. An output of LONGEST_LISTING bytes is long enough for any.
@@ -98,6 +115,6 @@ pub fn listing(file: &[u8], out: &mut [u8]) -> Result<usize, Refusal>
     if out.len() < n {
         return Err(Refusal::Output);
     }
-    output::put_text(out, 0, &page[..n]);
+    Output::new(out).put_all(&page[..n]);
     Ok(n)
 }
