@@ -46,11 +46,11 @@ abbrev numbers : List ℕ
 numbers = 3 ∷ 6 ∷ 8 ∷ 12 ∷ 20 ∷ 26 ∷ []
 
 -- the one refusal of a test, told with one of them
-by_test : (b : Bool) (q r : Refusal) → Numbered numbers (told q) → pick b (Ok tt) (Err q) ≡ Err r → Numbered numbers (told r)
+by_test : (b : Bool) (q r : Refusal) → Numbered numbers (told q) → pick b (Ok (tt {0})) (Err q) ≡ Err r → Numbered numbers (told r)
 by_test true q r h e = let z : ◌≡◌ {A = ℕ} 0 1 = cc e in absurd (omega arith)
 by_test false q r h e = let z : q ≡ r = cc e in rw (← z) h
 
-by_lowest : (b : Bool) (q r : Refusal) → Numbered numbers (told q) → pick b (Err q) (Ok tt) ≡ Err r → Numbered numbers (told r)
+by_lowest : (b : Bool) (q r : Refusal) → Numbered numbers (told q) → pick b (Err q) (Ok (tt {0})) ≡ Err r → Numbered numbers (told r)
 by_lowest true q r h e = let z : q ≡ r = cc e in rw (← z) h
 by_lowest false q r h e = let z : ◌≡◌ {A = ℕ} 0 1 = cc e in absurd (omega arith)
 

@@ -131,8 +131,8 @@ module _ (P : Outcome → Type 0) (clock n : ℕ) (l : List Job) (t c d : ℕ) w
   takes i s = outcome (filled (insert_at i (job s c d 0) js)) (length js + 1) t (Ok (Taken i s))
 
   taking-holds : (p : Place) → P (dropping t js (NoPlace (explanation_of t d js))) → ((i s : ℕ) → P (takes i s)) → P (taking t c d js p)
-  taking-holds Nowhere none new = none
-  taking-holds (At i s) none new = new i s
+  taking-holds Nowhere refused new = refused
+  taking-holds (At i s) refused new = new i s
 
   request_holds : P (stays Rules) → P (stays Numbers) → P (stays Past) → P (dropping t js Busy) → P (dropping t js Full) → P (dropping t js (NoPlace (explanation_of t d js)))
       → ((i s : ℕ) → P (takes i s)) → P (request_of clock n l t c d)

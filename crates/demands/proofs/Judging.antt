@@ -85,7 +85,7 @@ passed_0 d t = at (leb t d)
     at true = refl
     at false = refl
 
-pass-told : (j : Result (Option ℕ) Refusal) → (told_judged j).number ≡ 0 → 1 ≤ (told_judged j).first → j ≡ Ok (Some (told_judged j)).first
+pass-told : (j : Result (Option ℕ) Refusal) → (told_judged j).number ≡ 0 → 1 ≤ (told_judged j).first → j ≡ Ok (Some (told_judged j).first)
 pass-told (Ok (Some u)) e h = refl
 pass-told (Ok None) e h = absurd (omega arith)
 pass-told (Err r) e h = absurd (not_0 r e)

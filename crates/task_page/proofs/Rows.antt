@@ -13,7 +13,7 @@ use Rattle.rules.specs.Walk.{pick, only, count, gathered}
 use Rattle.rules.proofs.First.{gathered-zero, gathered_more}
 use Rattle.rules.proofs.Sum.{count-zero, count_more, count-le}
 use Rattle.output.specs.Put.{Put}
-use Rattle.output.proofs.Put.{put_none, and_then}
+use Rattle.output.proofs.Put.{put_none}
 use Rattle.rules.specs.Table.{partition, budget, deadline}
 use Rattle.rules.specs.declared.Rule.{Rule}
 use Rattle.theory.specs.Plan.{least, worst_start}
@@ -89,15 +89,12 @@ module _ (rule : Rule) (plan ts : List ℕ) (i : ℕ) where
   rows-length (suc n) =
       rw (length-append (gathered (row_at rule plan ts i) n) (row_at rule plan ts i n), rows-length n, row-length n, ← add-one n, count_more (point (task_load ts) i) n) (omega arith)
 
-  pub rows_few : {l o : List ℕ} {at : ℕ} (n : ℕ) → Put l 0 (gathered (row_at rule plan ts i) n) at o → at ≤ row_width * n
+  pub rows_few : {l o : List ℕ} {at r : ℕ} (n : ℕ) → Put l at (gathered (row_at rule plan ts i) n) r o → r ≤ at + row_width * n
   rows_few n p = omega (arith, p.place, rows-length n, count-le (point (task_load ts) i) n)
 
-  pub rows_none : (l : List ℕ) → Put l 0 (gathered (row_at rule plan ts i) 1) 0 l
-  rows_none l = rw (gathered_more (row_at rule plan ts i) 0, gathered-zero (row_at rule plan ts i), no_row_0) (put_none l 0)
+  pub rows_none : (l : List ℕ) (at : ℕ) → Put l at (gathered (row_at rule plan ts i) 1) at l
+  rows_none l at = rw (gathered_more (row_at rule plan ts i) 0, gathered-zero (row_at rule plan ts i), no_row_0) (put_none l at)
 
-  pub rows_more : {l m o : List ℕ} {at r : ℕ} (t : ℕ) → Put l 0 (gathered (row_at rule plan ts i) t) at m → Put m at (row_at rule plan ts i t) r o → Put l 0 (gathered (row_at rule plan ts i) (t + 1)) r o
-  rows_more t p q = rw (gathered_more (row_at rule plan ts i) t) (and_then p q)
-
-  pub rows_all : {l o : List ℕ} {r : ℕ} (t d : ℕ) → t ≡ d + 1 → d ≡ deadline ts i → Put l 0 (gathered (row_at rule plan ts i) t) r o → Put l 0 (rows_of rule plan ts i) r o
+  pub rows_all : {l o : List ℕ} {at r : ℕ} (t d : ℕ) → t ≡ d + 1 → d ≡ deadline ts i → Put l at (gathered (row_at rule plan ts i) t) r o → Put l at (rows_of rule plan ts i) r o
   unfolding rows_of
   rows_all t d et ed p = rw (← add-one (deadline ts i), ← ed, ← et) p

@@ -14,6 +14,7 @@ ghost use Rattle.task_verdict.specs.Verdict.{pass_at};
 ghost use Rattle.task_page.specs.Page.{row_at, rows_of, fail_of, paged_by, page_left, Pages};
 ghost use Rattle.task_page.specs.Inner.{point_in, short_in, Ready};
 
+use output::Output;
 use plan_service::worst_start;
 use rules::limits::ROW_WIDTH;
 use rules::{Refusal, Rule, Terms};
@@ -84,26 +85,17 @@ fn tightest_in(lists: &TaskLists<'_>, c: u16, d: u16) -> usize
     best
 }
 
-// A row's four numbers, from a place on; the answer is the place behind them. (A loop over them would need an invariant, and
-// be no plainer.)
-fn put_row(
-    rows: &mut [u32],
-    at: usize,
-    point: usize,
-    demand: usize,
-    least: usize,
-    start: usize,
-) -> usize
-    requires { (at < 2 ^ 32) × (point < 2 ^ 32) × (demand < 2 ^ 32) × (least < 2 ^ 32) × (start < 2 ^ 32) }
-    ensures { Put rows.old at (point ∷ demand ∷ least ∷ start ∷ []) result rows.new }
+// A row's four numbers.
+fn put_row(rows: &mut Output<'_, u32>, point: usize, demand: usize, least: usize, start: usize)
+    requires { (rows.old.at < 2 ^ 32) × (point < 2 ^ 32) × (demand < 2 ^ 32) × (least < 2 ^ 32) × (start < 2 ^ 32) }
+    ensures same_reference { rows.new.lent.ghost_name ≡ rows.old.lent.ghost_name }
+    ensures put { Put rows.old.lent.now rows.old.at
+        (point ∷ demand ∷ least ∷ start ∷ []) rows.new.at rows.new.lent.now }
 {
-    let a = output::put_one(rows, at, point as u32);
-    let b = output::put_one(rows, a, demand as u32);
-    let c = output::put_one(rows, b, least as u32);
-    output::put_one(rows, c, start as u32)
+    rows.put_all(&[point as u32, demand as u32, least as u32, start as u32]);
 }
 
-// The row of task i at tick t, where that is a scheduling point, from a place on.
+// The row of task i at tick t, where that is a scheduling point.
 fn put_point(
     rule: Rule,
     plan: &[u16],
@@ -111,12 +103,13 @@ fn put_point(
     i: usize,
     lists: &TaskLists<'_>,
     t: usize,
-    rows: &mut [u32],
-    at: usize,
-) -> usize
+    rows: &mut Output<'_, u32>,
+)
     requires ready { Ready rule plan.now tasks.now i lists.now.curve.now lists.now.asks.now }
-    requires in_reach { (1 ≤ t) × (t ≤ deadline tasks.now i) × (at < 2 ^ 32) }
-    ensures { Put rows.old at (row_at rule plan.now tasks.now i t) result rows.new }
+    requires in_reach { (1 ≤ t) × (t ≤ deadline tasks.now i) × (rows.old.at < 2 ^ 32) }
+    ensures same_reference { rows.new.lent.ghost_name ≡ rows.old.lent.ghost_name }
+    ensures put { Put rows.old.lent.now rows.old.at
+        (row_at rule plan.now tasks.now i t) rows.new.at rows.new.lent.now }
 {
     let d = usize::from(rules::records::deadline(tasks, i));
     if point_at(lists, d, t) {
@@ -125,9 +118,8 @@ fn put_point(
         let needs = c + lists.asks[t] as usize;
         let has = lists.curve[t] as usize;
         let start = worst_start(rule, plan, p, t, has);
-        return put_row(rows, at, t, needs, has, start);
+        put_row(rows, t, needs, has, start);
     }
-    at
 }
 
 // All rows of task i, in rising order of the points.
@@ -137,17 +129,18 @@ fn put_rows(
     tasks: &[u16],
     i: usize,
     lists: &TaskLists<'_>,
-    rows: &mut [u32],
-) -> usize
-    requires { Ready rule plan.now tasks.now i lists.now.curve.now lists.now.asks.now }
-    ensures { Put rows.old 0 (rows_of rule plan.now tasks.now i) result rows.new }
+    rows: &mut Output<'_, u32>,
+)
+    requires ready { Ready rule plan.now tasks.now i lists.now.curve.now lists.now.asks.now }
+    requires low { rows.old.at < 2 ^ 31 }
+    ensures same_reference { rows.new.lent.ghost_name ≡ rows.old.lent.ghost_name }
+    ensures put { Put rows.old.lent.now rows.old.at
+        (rows_of rule plan.now tasks.now i) rows.new.at rows.new.lent.now }
 {
     let d = usize::from(rules::records::deadline(tasks, i));
-    let mut at = 0;
     for t in 1..d + 1 {
-        at = put_point(rule, plan, tasks, i, lists, t, rows, at);
+        put_point(rule, plan, tasks, i, lists, t, rows);
     }
-    at
 }
 
 // Of task i, which fails, by its lists.
@@ -169,7 +162,7 @@ fn put_fail(
     if rows.len() < ROW_WIDTH * n {
         return Err(Refusal::Output);
     }
-    put_rows(rule, plan, tasks, i, lists, rows);
+    put_rows(rule, plan, tasks, i, lists, &mut Output::new(rows));
     let tightest = tightest_in(lists, c, d);
     let shortage = short_in(lists, c, tightest);
     Ok(Paged::Fail {

@@ -1,4 +1,5 @@
 use mathlib.Core.Path.{refl}
+use borrow.Author.Rules.{rules}
 use Rattle.task_page.proofs.Fails.{points_is, tightest_is, shortage_is, too_short, fails_so, rows_left}
 use Rattle.task_page.proofs.put_fail.Goals as goal
 
@@ -13,7 +14,8 @@ returns c = let w = c.requires in
     let d = c.deadline-d.ensures in
     let n = points_is _ _ _ _ _ _ w _ _ b d _ c.points_in-n.ensures.1 in
     let t = c.tightest_in-tightest.ensures in
-    let room = c.if-rows-n.false in (
+    let room = c.if-rows-n.false in
+    let left = rows_left _ _ _ _ _ n room (rw (c.new.ensures.empty.0, c.new.ensures.empty.1) at c.put_rows.ensures.put) in (
       fails_so _ _ _ _ _ _ n _ _ room (tightest_is _ _ _ _ _ _ w _ _ b d _ t.1) (shortage_is _ _ _ _ _ _ w _ _ b d _ t.1 _ t.0 c.short_in-shortage.ensures),
-      rows_left _ _ _ _ _ n room c.put_rows.ensures,
+      search rules,
     )
