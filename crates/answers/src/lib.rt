@@ -13,7 +13,7 @@ ghost use Rattle.desk.specs.Call.{said_done};
 ghost use Rattle.answers.specs.Parts.{named_part, part_at, told_range, told_part};
 
 use desk::{Ask, Asked, Done};
-use file_read::load::body_at;
+use file_read::load::body_of;
 use file_read::{Body, Contents};
 use rules::{Refusal, Told};
 use std::ops::Range;
@@ -155,7 +155,7 @@ fn part_at(which: usize, contents: Contents) -> Range<usize>
     ensures { result ≡ part_at which contents }
 {
     match named_part(which) {
-        Some(body) => body_at(contents, body),
+        Some(body) => body_of(contents, body),
         None => 0..0,
     }
 }

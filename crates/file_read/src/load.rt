@@ -1,7 +1,7 @@
 // The bodies of a file, loaded into tables of numbers and judged there by the writer's rules.
 ghost use Rattle.std.specs.Prelude.{◌≡◌, ◌*◌, length, Ok, IfOk};
 ghost use Rattle.rules.specs.Limits.{longest, most_partitions, most_tasks, part_width, task_width, run_width};
-ghost use Rattle.file_read.specs.Reader.{body_of, table_by, contents_of, read_of};
+ghost use Rattle.file_read.specs.Reader.{body_of, body_at, table_by, contents_of, read_of};
 ghost use Rattle.file_read.specs.Inner.{Few, Inside, front, loaded_by};
 
 use crate::head::contents;
@@ -11,7 +11,7 @@ use rules::limits::{HEAD_BYTES, NUMBER_BYTES, PART_WIDTH, RUN_WIDTH, TASK_WIDTH}
 use std::ops::Range;
 
 // Where a body lies in a file with these contents.
-pub fn body_at(c: Contents, which: Body) -> Range<usize>
+pub fn body_of(c: Contents, which: Body) -> Range<usize>
     requires { Few c }
     ensures { result ≡ body_of c which }
 {
@@ -25,6 +25,17 @@ pub fn body_at(c: Contents, which: Body) -> Range<usize>
     }
 }
 
+// The same of what is read. Of a refused file it is the empty range at 0.
+pub fn body_at(read: Result<Contents, Refusal>, which: Body) -> Range<usize>
+    requires { IfOk read Few }
+    ensures { result ≡ body_at read which }
+{
+    match read {
+        Ok(c) => body_of(c, which),
+        Err(_) => 0..0,
+    }
+}
+
 // A body, at the start of a table.
 #[tactic(auto, using(crate::proofs::Reader::loaded_body))]
 fn load_body(file: &[u8], c: Contents, which: Body, table: &mut [u16])
@@ -32,7 +43,7 @@ fn load_body(file: &[u8], c: Contents, which: Body, table: &mut [u16])
     requires inside { Inside file.now c which }
     ensures { table.new ≡ front (table_by (Ok c) file.now which) table.old }
 {
-    let part = body_at(c, which);
+    let part = body_of(c, which);
     file_codec::load(&file[part.start..part.end], table);
 }
 

@@ -6,7 +6,7 @@ use native.Mathlib.Nat.{add-zero}
 use native.Mathlib.Numerals.{add-one}
 use native.Mathlib.Omega.{arith}
 use lib.ListN.{length, set, get_or, take, drop, length-append}
-use lib.Seq.{sets, sets-eq, take-suc, take_at, length-take-le}
+use lib.Seq.{sets, sets-eq, take-suc, take_at}
 use Rattle.rules.specs.Walk.{gathered}
 use Rattle.rules.proofs.First.{gathered-zero, gathered_more}
 use Rattle.output.specs.Put.{Put}
@@ -17,9 +17,6 @@ sets_append (x ∷ a) b l i = sets_append a b (set l i x) (suc i) ∙ (let e : s
 
 pub put_none : {A : Type 0} (l : List A) (i : ℕ) → Put l i [] i l
 put_none l i = record { place = sym (add-zero i); bytes = refl }
-
-pub put_one : {l o : List ℕ} {i x r : ℕ} → r ≡ i + 1 → o ≡ set l i x → Put l i (x ∷ []) r o
-put_one p b = record { place = p; bytes = b }
 
 pub and_then : {A : Type 0} {l m o a b : List A} {i j r : ℕ} → Put l i a j m → Put m j b r o → Put l i (a ++ b) r o
 and_then {l = l} {m} {o} {a} {b} {i} {j} {r} p q = record {
@@ -39,12 +36,6 @@ lines_none f l i = rw (gathered-zero f) (put_none l i)
 
 pub lines_more : {l m o : List ℕ} {i j r : ℕ} (f : ℕ → List ℕ) (k : ℕ) → Put l i (gathered f k) j m → Put m j (f k) r o → Put l i (gathered f (k + 1)) r o
 lines_more f k p q = rw (gathered_more f k) (and_then p q)
-
--- a loop's turn over a text: one more of it
-pub put_more : {o m : List ℕ} (l : List ℕ) (i : ℕ) (s : List ℕ) (k : ℕ) → k < length s → o ≡ sets l i (take k s) → m ≡ set o (i + k) (get_or s k 0) → m ≡ sets l i (take (k + 1) s)
-put_more {o} {m} l i s k h eo em =
-    let n : length (take k s) ≡ k = length-take-le k s (omega arith) in
-    rw (add-one k, take-suc s k 0 h, sets_append (take k s) (get_or s k 0 ∷ []) l i, n, ← eo) em
 
 -- into an output with room
 pub put_front : {l o s : List ℕ} {r : ℕ} → Put l 0 s r o → length s ≤ length l → o ≡ s ++ drop (length s) l

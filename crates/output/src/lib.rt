@@ -1,4 +1,4 @@
-// What is put into a lent output from a place on, as far as there is room: numbers, text, decimals, and the line of a refusal.
+// What is put into a lent output, as far as there is room: numbers, text, decimals, and the line of a refusal.
 #![tactic(auto)]
 
 ghost use Rattle.std.specs.Prelude.{◌≡◌, ◌++◌, [], ◌∷◌, ◌+◌, ◌≤◌, ◌<◌, ◌^◌, length, set};
@@ -10,17 +10,6 @@ ghost use Rattle.output.specs.Refused.{refused_line};
 ghost use Rattle.rules.specs.Limits.{longest_line};
 
 use rules::{Refusal, Told};
-
-// One number or byte, where there is room for it; and the next place.
-pub fn put_one<T: Copy>(out: &mut [T], at: usize, x: T) -> usize
-    requires { at < 2 ^ 62 }
-    ensures { (result ≡ at + 1) × (out.new ≡ set out.old at x) }
-{
-    if at < out.len() {
-        out[at] = x;
-    }
-    at + 1
-}
 
 // A lent output, filled from its start on, and the place behind what was put: what finds no room is counted all the same.
 #[derive(Drop)]
@@ -104,55 +93,4 @@ impl<'a> Output<'a, u8> {
         self.put_field(b"refused ", Told::from(refusal).number);
         self.put_all(b"\n");
     }
-}
-
-// The digits of n, most significant first: those of n / 10, and then the last.
-fn put_decimal(out: &mut [u8], at: usize, n: usize) -> usize
-    requires { at < 2 ^ 60 }
-    ensures { Put out.old at (decimal n) result out.new }
-{
-    if n < 10 {
-        return put_one(out, at, digit(n));
-    }
-    let next = put_decimal(out, at, n / 10);
-    put_one(out, next, digit(n % 10))
-}
-
-pub fn put_text(out: &mut [u8], at: usize, text: &[u8]) -> usize
-    requires { (at < 2 ^ 60) × (length text.now < 2 ^ 32) }
-    ensures { Put out.old at text.now result out.new }
-{
-    for (k, b) in text.iter().enumerate() {
-        put_one(out, at + k, *b);
-    }
-    at + text.len()
-}
-
-// A text, and a number behind it.
-pub fn put_field(out: &mut [u8], at: usize, text: &[u8], n: usize) -> usize
-    requires { (at < 2 ^ 50) × (length text.now < 2 ^ 32) }
-    ensures { Put out.old at (text.now ++ decimal n) result out.new
-        × (result ≤ at + length text.now + 20) }
-{
-    let next = put_text(out, at, text);
-    put_decimal(out, next, n)
-}
-
-// The line `refused N`.
-fn put_refused(out: &mut [u8], at: usize, number: usize) -> usize
-    requires { at < 2 ^ 40 }
-    ensures { Put out.old at (bytes "refused " ++ decimal number ++ bytes "\n") result out.new
-        × (result ≤ at + longest_line) }
-{
-    let a = put_field(out, at, b"refused ", number);
-    put_text(out, a, b"\n")
-}
-
-// A refusal's line, at the start of the output; the answer is its length.
-pub fn put_refusal(out: &mut [u8], refusal: Refusal) -> usize
-    ensures { Put out.old 0 (refused_line refusal) result out.new
-        × (result ≤ longest_line) }
-{
-    let told = Told::from(refusal);
-    put_refused(out, 0, told.number)
 }

@@ -202,14 +202,11 @@ pub fn curve(
 ) -> Result<usize, Refusal>
     ensures { DrawsCurve edition plan.now p n list.old list.new result }
 {
-    if !rules::good_edition(edition) {
-        return Err(Refusal::Edition);
-    }
+    let rule = Rule::try_from(edition)?;
     let needed = (n as usize) + 1;
     if list.len() < needed {
         return Err(Refusal::Output);
     }
-    let rule = rules::rule_of(edition);
     draw(rule, plan, usize::from(p), list, needed);
     Ok(needed)
 }

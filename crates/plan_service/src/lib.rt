@@ -96,10 +96,7 @@ fn held_from(rule: Rule, plan: &[u16], p: usize, n: usize, s: usize) -> usize
 pub fn held(edition: usize, plan: &[u16], p: u16, s: u32, n: u32) -> Result<usize, Refusal>
     ensures { HeldIs edition plan.now p s n result }
 {
-    if !rules::good_edition(edition) {
-        return Err(Refusal::Edition);
-    }
-    let rule = rules::rule_of(edition);
+    let rule = Rule::try_from(edition)?;
     Ok(held_from(rule, plan, usize::from(p), n as usize, s as usize))
 }
 
@@ -202,9 +199,6 @@ pub fn worst_start(rule: Rule, plan: &[u16], p: usize, t: usize, low: usize) -> 
 pub fn least(edition: usize, plan: &[u16], p: u16, t: u32) -> Result<usize, Refusal>
     ensures { LeastIs edition plan.now p t result }
 {
-    if !rules::good_edition(edition) {
-        return Err(Refusal::Edition);
-    }
-    let rule = rules::rule_of(edition);
+    let rule = Rule::try_from(edition)?;
     Ok(least_by(rule, plan, p, t))
 }

@@ -1,9 +1,12 @@
--- A refusal is known by its number and what is told beside it, but for 8: told with place 0 it is a question's. Assumes nothing.
+-- A refusal is known by its number and what is told beside it, but for 8: told with place 0 it is a question's; and a given edition by its rule. Assumes nothing.
 use Prim.Native.Nat.{ℕ, ◌≤◌}
 use mathlib.Core.Path.{◌≡◌, refl, sym, ap, ◌∙◌}
 use native.Mathlib.Omega.{arith}
+use mathlib.Core.Bool.{Bool, true, false}
 use lib.Dec.{eqb}
 use Rattle.rules.specs.Walk.{pick}
+use Rattle.rules.specs.Terms.{good_edition, rule_of, rule_given}
+use Rattle.rules.specs.declared.Rule.{Rule}
 use Rattle.rules.specs.Refusals.{placed, told, told_done, told_count, Tells}
 use Rattle.rules.specs.declared.Told.{Told}
 use Rattle.rules.specs.declared.Refusal.{Refusal}
@@ -90,3 +93,13 @@ filling_refused (Err r) n h e = (r, refl, e)
 -- a call that tells what is told of the one answer f
 pub tells_one : {A : Type 0} (tell : A → Told) (Answers : A → Type 0) (f : A) → ((r : A) → Answers r → r ≡ f) → (t : Told) → Tells tell Answers t → t ≡ tell f
 tells_one tell Answers f one t (r, p, e) = e ∙ ap tell (one r p)
+
+-- ---- an edition that is given
+
+-- a rule is found of a good edition alone, and is that edition's
+pub edition_given : (e : ℕ) (r : Rule) → rule_given e ≡ Ok r → (good_edition e ≡ true) × (r ≡ rule_of e)
+edition_given e r q = go (good_edition e) refl q
+  where
+    go : (b : Bool) → good_edition e ≡ b → pick b (Ok (rule_of e)) (Err Edition) ≡ Ok r → (good_edition e ≡ true) × (r ≡ rule_of e)
+    go true g q = let z : rule_of e ≡ r = cc q in (g, sym z)
+    go false g q = let z : ◌≡◌ {A = ℕ} 0 1 = cc in absurd (omega arith)

@@ -1,6 +1,5 @@
 use mathlib.Core.Path.{◌∙◌}
 use Rattle.output.proofs.Put.{put_turn}
-use borrow.Author.Rules.{rules}
 use Rattle.output.proofs.Output.put_all.Goals as goal
 
 pub loop-x-preserved : goal.loop-x-preserved

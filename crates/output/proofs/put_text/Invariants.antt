@@ -1,7 +1,0 @@
-use mathlib.Core.Path.{◌≡◌}
-use lib.ListN.{take}
-use lib.Seq.{sets}
-use Rattle.output.proofs.put_text.Given as goal
-
-abbrev pub invariant-loop-k : goal.invariant-loop-k
-invariant-loop-k l = l.out ≡ sets l.initial.out l.at (take l.k l.text)
