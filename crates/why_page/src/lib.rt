@@ -238,6 +238,7 @@ pub fn compose(file: &[u8], place: usize, out: &mut [u8]) -> usize
 
 // The place that a program is asked for, of so many words with its own name, `word` being the one behind that: 0, which is
 // no task's, where it is no number or not the only one.
+// A number, no Option: the definition has it so, and the page refuses 0 as any place that no task has.
 #[tactic(auto, unfolding(crate::specs::Why::place_asked))]
 pub fn place_asked(words: usize, word: &[u8]) -> usize
     ensures { result ≡ place_asked words word.now }
