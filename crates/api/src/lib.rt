@@ -107,13 +107,7 @@ pub fn merkazobi_verdict(
     ensures { TellsVerdict edition granule plan.now parts.now tasks.now
         place result }
 {
-    answers::tell(task_verdict::verdict(
-        Terms { edition, granule },
-        plan,
-        parts,
-        tasks,
-        place,
-    ))
+    answers::tell(task_verdict::verdict(Terms { edition, granule }, plan, parts, tasks, place))
 }
 
 pub fn merkazobi_plain(

@@ -31,7 +31,7 @@ pub fn body_at(read: Result<Contents, Refusal>, which: Body) -> Range<usize>
     ensures { result ≡ body_at read which }
 {
     match read {
-        Ok(c) => body_of(c, which),
+        Ok(contents) => body_of(contents, which),
         Err(_) => 0..0,
     }
 }

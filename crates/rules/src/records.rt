@@ -103,7 +103,10 @@ pub fn wants(granule: usize, m: u16, num: u16, den: u16) -> usize
     if den == 0 {
         return 0;
     }
-    up_to_granule(granule, (usize::from(num) * usize::from(m) + (usize::from(den) - 1)) / usize::from(den))
+    up_to_granule(
+        granule,
+        (usize::from(num) * usize::from(m) + (usize::from(den) - 1)) / usize::from(den),
+    )
 }
 
 // What the partition at place k wants.
