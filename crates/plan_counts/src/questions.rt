@@ -10,7 +10,6 @@ use crate::judging::{good_name, good_stretch};
 use counts_rows::look_up;
 use rules::Refusal;
 use rules::limits::QUESTION_WIDTH;
-use rules::records::field_at;
 use tables::lowest;
 
 // A question's three numbers.
@@ -22,12 +21,13 @@ struct Question {
 }
 
 fn question_at(table: &[u16], k: usize) -> Question
+    requires { k < questions table.now }
     ensures { (result.asked ≡ asked table.now k) × (result.start ≡ start table.now k) × (result.span ≡ span table.now k) }
 {
     Question {
-        asked: usize::from(field_at(table, QUESTION_WIDTH, k, 0)),
-        start: usize::from(field_at(table, QUESTION_WIDTH, k, 1)),
-        span: usize::from(field_at(table, QUESTION_WIDTH, k, 2)),
+        asked: usize::from(table[QUESTION_WIDTH * k]),
+        start: usize::from(table[QUESTION_WIDTH * k + 1]),
+        span: usize::from(table[QUESTION_WIDTH * k + 2]),
     }
 }
 

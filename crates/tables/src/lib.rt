@@ -2,7 +2,7 @@
 // against a plan's ticks: 8.
 #![tactic(auto)]
 
-ghost use Rattle.std.specs.Prelude.{◌≡◌, [], ◌<◌};
+ghost use Rattle.std.specs.Prelude.{◌≡◌, ℕ, [], ◌<◌};
 ghost use Rattle.rules.specs.Terms.{good_granule};
 ghost use Rattle.rules.specs.Table.{good_share, good_times, good_part, good_task, good_tick};
 ghost use Rattle.tables.specs.Inner.{Lowest};
@@ -118,7 +118,7 @@ fn good_tick(plan: &[u16], parts: usize, t: usize) -> bool
 // Whether each of n records is good, or the place of the lowest that isn't, from 1.
 #[tactic(auto, unfolding(crate::specs::Inner::Lowest))]
 pub fn lowest<G: Fn(usize) -> bool>(n: usize, good: G) -> Result<(), usize>
-    requires { G.IsAlwaysCallable good }
+    requires { (k : ℕ) → k < n → G.pre good k }
     ensures { Lowest (G.post good) n result }
 {
     for k in 0..n {

@@ -1,5 +1,5 @@
 use mathlib.Core.Path.{◌≡◌, sym, ◌∙◌}
-use Rattle.std.proofs.Common.{rules, Result, Ok, Err}
+use Rattle.std.proofs.Common.{rules, Err}
 use Rattle.rules.specs.Table.{partitions, tasks, good_part, good_task}
 use Rattle.rules.specs.declared.Refusal.TheVariants.{Partition, Task}
 use Rattle.tables.specs.Tables.{lowest}

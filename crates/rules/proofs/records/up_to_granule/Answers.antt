@@ -1,5 +1,4 @@
 use mathlib.Core.Path.{sym}
-use Prim.Native.Nat.{◌-◌}
 use native.Mathlib.Omega.{arith}
 use Rattle.rules.proofs.Round.{round_multiple, round_over}
 use Rattle.rules.proofs.records.up_to_granule.Goals as goal
