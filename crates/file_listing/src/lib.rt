@@ -1,7 +1,7 @@
 // The listing of a plan file: read and judged once, its plan checked once for all its tasks.
 #![tactic(auto)]
 
-ghost use Rattle.std.specs.Prelude.{◌≡◌, ◌+◌, ◌≤◌, ◌<◌, ◌^◌, length};
+ghost use Rattle.std.specs.Prelude.{◌≡◌, ◌≤◌, length};
 ghost use Rattle.rules.specs.Limits.{longest_listing};
 ghost use Rattle.rules.specs.Terms.{filed, rule_of, wanted};
 ghost use Rattle.plan_check.specs.Check.{scan_of, check_of};
@@ -27,21 +27,19 @@ fn put_checked(
     plan: &[u16],
     parts: &[u16],
     table: &[u16],
-    out: &mut Output<'_, u8>,
-)
+    out: &mut [u8],
+) -> usize
     requires good_records { GoodRecords parts.now table.now }
     requires judged { check_of (filed edition) plan.now parts.now
         ≡ scan_of (rule_of edition) (wanted (filed edition) parts.now) plan.now parts.now }
-    requires low { out.old.at < 2 ^ 30 }
-    ensures same_reference { out.new.lent.ghost_name ≡ out.old.lent.ghost_name }
-    ensures put { Put out.old.lent.now out.old.at
-        (tables_lines edition frame plan.now parts.now table.now) out.new.at out.new.lent.now }
-    ensures short { out.new.at ≤ out.old.at + longest_listing }
+    ensures { Put out.old 0
+        (tables_lines edition frame plan.now parts.now table.now) result out.new
+        × (result ≤ longest_listing) }
 {
     let rule = rules::rule_of(edition);
     match plan_check::scan(rule, rules::filed(edition), plan, parts) {
         Ok(()) => file_page::put_page(rule, frame, plan, parts, table, out),
-        Err(r) => out.put_refusal(r),
+        Err(r) => output::put_refusal(out, r),
     }
 }
 
@@ -52,27 +50,23 @@ fn put_tables(
     parts: &[u16],
     table: &[u16],
     runs: &[u16],
-    out: &mut Output<'_, u8>,
-)
-    requires listable { Listable edition frame parts.now table.now runs.now }
-    requires low { out.old.at < 2 ^ 30 }
-    ensures same_reference { out.new.lent.ghost_name ≡ out.old.lent.ghost_name }
-    ensures put { Put out.old.lent.now out.old.at
+    out: &mut [u8],
+) -> usize
+    requires { Listable edition frame parts.now table.now runs.now }
+    ensures { Put out.old 0
         (tables_lines edition frame (ticks_of runs.now) parts.now table.now)
-        out.new.at out.new.lent.now }
-    ensures short { out.new.at ≤ out.old.at + longest_listing }
+        result out.new
+        × (result ≤ longest_listing) }
 {
     let mut plan = [0u16; LONGEST];
     file_runs::ticks_of(runs, &mut plan);
-    put_checked(edition, frame, &plan[..frame], parts, table, out);
+    put_checked(edition, frame, &plan[..frame], parts, table, out)
 }
 
-// The lines of a file's bytes.
-fn put_lines(file: &[u8], out: &mut Output<'_, u8>)
-    requires { out.old.at < 2 ^ 30 }
-    ensures same_reference { out.new.lent.ghost_name ≡ out.old.lent.ghost_name }
-    ensures put { Put out.old.lent.now out.old.at (listing_of file.now) out.new.at out.new.lent.now }
-    ensures short { out.new.at ≤ out.old.at + longest_listing }
+// Puts the listing of a file's bytes at the start of the output, as far as there is room. The answer is its length.
+pub fn compose(file: &[u8], out: &mut [u8]) -> usize
+    ensures { Put out.old 0 (listing_of file.now) result out.new
+        × (result ≤ longest_listing) }
 {
     let mut parts = [0u16; PART_NUMBERS];
     let mut tasks = [0u16; TASK_NUMBERS];
@@ -89,20 +83,10 @@ fn put_lines(file: &[u8], out: &mut Output<'_, u8>)
                 &tasks[..t],
                 &runs[..r],
                 out,
-            );
+            )
         }
-        Err(r) => out.put_refusal(r),
+        Err(r) => output::put_refusal(out, r),
     }
-}
-
-// Puts the listing of a file's bytes at the start of the output, as far as there is room. The answer is its length.
-pub fn compose(file: &[u8], out: &mut [u8]) -> usize
-    ensures { Put out.old 0 (listing_of file.now) result out.new
-        × (result ≤ longest_listing) }
-{
-    let mut out = Output::new(out);
-    put_lines(file, &mut out);
-    out.at
 }
 
 // The listing of a file's bytes, at the start of the output. An output of LONGEST_LISTING bytes is long enough for any.

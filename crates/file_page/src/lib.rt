@@ -94,15 +94,16 @@ pub fn put_page(
     plan: &[u16],
     parts: &[u16],
     table: &[u16],
-    out: &mut Output<'_, u8>,
-)
-    requires { GoodRecords parts.now table.now × (out.old.at < 2 ^ 30) }
-    ensures same_reference { out.new.lent.ghost_name ≡ out.old.lent.ghost_name }
-    ensures put { Put out.old.lent.now out.old.at
-        (page_of rule frame plan.now parts.now table.now) out.new.at out.new.lent.now }
-    ensures short { out.new.at ≤ out.old.at + longest_listing }
+    out: &mut [u8],
+) -> usize
+    requires { GoodRecords parts.now table.now }
+    ensures { Put out.old 0
+        (page_of rule frame plan.now parts.now table.now) result out.new
+        × (result ≤ longest_listing) }
 {
-    put_frame(out, frame);
-    put_parts(rule, plan, parts, out);
-    put_tasks(rule, plan, parts, table, out);
+    let mut out = Output::new(out);
+    put_frame(&mut out, frame);
+    put_parts(rule, plan, parts, &mut out);
+    put_tasks(rule, plan, parts, table, &mut out);
+    out.at
 }

@@ -94,3 +94,13 @@ impl<'a> Output<'a, u8> {
         self.put_all(b"\n");
     }
 }
+
+// A refusal's line, at the start of the output; the answer is its length.
+pub fn put_refusal(out: &mut [u8], refusal: Refusal) -> usize
+    ensures { Put out.old 0 (refused_line refusal) result out.new
+        × (result ≤ longest_line) }
+{
+    let mut out = Output::new(out);
+    out.put_refusal(refusal);
+    out.at
+}

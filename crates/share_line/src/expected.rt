@@ -22,13 +22,14 @@ fn put_what(out: &mut Output<'_, u8>, what: What)
     }
 }
 
-pub fn put_expected(out: &mut Output<'_, u8>, line: usize, what: What)
-    requires { out.old.at < 2 ^ 40 }
-    ensures same_reference { out.new.lent.ghost_name ≡ out.old.lent.ghost_name }
-    ensures put { Put out.old.lent.now out.old.at (expected_line line what) out.new.at out.new.lent.now }
-    ensures short { out.new.at ≤ out.old.at + longest_line }
+// At the start of the output; the answer is its length.
+pub fn put_expected(out: &mut [u8], line: usize, what: What) -> usize
+    ensures { Put out.old 0 (expected_line line what) result out.new
+        × (result ≤ longest_line) }
 {
+    let mut out = Output::new(out);
     out.put_field(b"line ", line);
     out.put_all(b": expected ");
-    put_what(out, what);
+    put_what(&mut out, what);
+    out.at
 }

@@ -6,7 +6,7 @@ ghost use Rattle.output.specs.Put.{Put};
 ghost use Rattle.rules.specs.Limits.{longest_line};
 ghost use Rattle.share_plan.specs.Answer.{Plans, answer_by, edition_asked};
 
-use output::Output;
+use output::put_refusal;
 use plan_file::put_file_or_line;
 use rules::limits::{PART_NUMBERS, TASK_NUMBERS};
 use rules::{Refusal, Terms};
@@ -20,12 +20,10 @@ fn put_unread(out: &mut [u8], unread: Unread) -> usize
     ensures { Put out.old 0 (answer_by (Err unread) []) result out.new
         × (result ≤ longest_line) }
 {
-    let mut out = Output::new(out);
     match unread {
-        Unread::Expected(e) => put_expected(&mut out, e.line, e.what),
-        Unread::Refused(r) => out.put_refusal(r),
+        Unread::Expected(e) => put_expected(out, e.line, e.what),
+        Unread::Refused(r) => put_refusal(out, r),
     }
-    out.at
 }
 
 // Puts what the program writes at the start of `out`, as far as there is room. The answer is its length.

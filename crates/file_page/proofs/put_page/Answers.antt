@@ -1,7 +1,8 @@
 use Rattle.output.proofs.Put.{and_then}
 use Rattle.file_page.specs.Page.{page_of}
+use borrow.Author.Rules.{rules}
 use Rattle.file_page.proofs.put_page.Goals as goal
 
-pub returns-clause-put : goal.returns-clause-put
+pub returns : goal.returns
 unfolding page_of
-returns-clause-put c = and_then (and_then c.put_frame.ensures.put c.put_parts.ensures.put) c.put_tasks.ensures.put
+returns c = let p = and_then (and_then c.put_frame.ensures.put c.put_parts.ensures.put) c.put_tasks.ensures.put in (search rules, search rules)
