@@ -30,21 +30,29 @@ short_part rule q plan ps = first (short_in rule q plan ps) (partitions ps)
 abbrev pub shortfall : Rule → (ℕ → ℕ) → List ℕ → List ℕ → ℕ → ℕ → Refusal
 shortfall rule q plan ps k s = Shortfall (k + 1) s (held rule plan (k + 1) (cycle ps k) s) (q k)
 
+-- ---- the scan's two loops
+
 module _ (rule : Rule) (q : ℕ → ℕ) (plan ps : List ℕ) (k : ℕ) where
+  pub short_no : (s h m w : ℕ) → m ≡ cycle ps k → w ≡ q k → h ≡ held rule plan (k + 1) m s → w ≤ h → short_at rule q plan ps k s ≡ false
+  unfolding short_at
+  short_no s h m w em ew eh l = rw (← ew, ← em, ← eh) (le-ltb h w l)
+
   -- no start of the partition holds too little
-  pub whole : first (short_at rule q plan ps k) (length plan) ≡ length plan → short_in rule q plan ps k ≡ false
-  whole e = rw e (le-ltb (length plan) (length plan) (omega arith))
+  pub whole : (s : ℕ) → s ≤ length plan → length plan ≤ s → first (short_at rule q plan ps k) s ≡ s → short_in rule q plan ps k ≡ false
+  whole s h l e = rw (first_done _ (length plan) s h l e) (le-ltb (length plan) (length plan) (omega arith))
 
   -- the scan stopped at start s
   pub stopped :
-      (s h w : ℕ) → k < partitions ps → first (short_in rule q plan ps) k ≡ k → s < length plan → short_start rule q plan ps k ≡ s
-      → h ≡ held rule plan (k + 1) (cycle ps k) s → w ≡ q k
+      (s h m w : ℕ) → k < partitions ps → first (short_in rule q plan ps) k ≡ k → s < length plan → first (short_at rule q plan ps k) s ≡ s
+      → m ≡ cycle ps k → w ≡ q k → h ≡ held rule plan (k + 1) m s → h < w
       → Err (Shortfall (k + 1) s h w) ≡ scan_of rule q plan ps
-  unfolding scan_of
-  stopped s h w lk ek ls start eh ew =
+  unfolding scan_of short_at
+  stopped s h m w lk ek ls es em ew eh l =
+      let short : short_at rule q plan ps k s ≡ true = rw (← ew, ← em, ← eh) (lt-ltb h w l) in
+      let start : short_start rule q plan ps k ≡ s = first_found _ (length plan) s ls es short in
       let here : short_in rule q plan ps k ≡ true = rw start (lt-ltb s (length plan) ls) in
       let part : short_part rule q plan ps ≡ k = first_found _ (partitions ps) k lk ek here in
-      rw (part, lt-ltb k (partitions ps) lk, start, ← ew, ← eh)
+      rw (part, lt-ltb k (partitions ps) lk, start, ← ew, ← em, ← eh)
 
 module _ (rule : Rule) (q : ℕ → ℕ) (plan ps : List ℕ) where
   -- the scan ran to its end

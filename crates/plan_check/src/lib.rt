@@ -8,24 +8,29 @@ ghost use Rattle.plan_check.specs.Check.{scan_of, plan_check_of, Checks};
 use rules::{Refusal, Rule, Terms};
 
 // Refusal 9 alone: the lowest partition's lowest start whose stretch holds too little. It is public for a caller
-// whose plan is judged already, as the listing's is by the reader.
+// whose plan is judged already, as the listing's is by the reader. (Document 01 names the form: two loops, left by a label.)
 pub fn scan(rule: Rule, terms: Terms, plan: &[u16], parts: &[u16]) -> Result<(), Refusal>
     ensures { result ≡ scan_of rule (wanted terms parts.now) plan.now parts.now }
 {
-    for k in 0..rules::records::partitions(parts) {
+    let mut found = Ok(());
+    'scan: for k in 0..rules::records::partitions(parts) {
         let m = usize::from(rules::records::cycle(parts, k));
         let q = rules::records::wanted(terms, parts, k);
-        let short = plan_service::earliest(rule, plan, k + 1, m, |held| held < q);
-        if let Some((start, held)) = short {
-            return Err(Refusal::Shortfall {
-                partition: k + 1,
-                start,
-                held,
-                wanted: q,
-            });
+        let mut stretch = plan_service::stretch_from(rule, plan, k + 1, m, 0);
+        for s in 0..plan.len() {
+            if stretch.held < q {
+                found = Err(Refusal::Shortfall {
+                    partition: k + 1,
+                    start: s,
+                    held: stretch.held,
+                    wanted: q,
+                });
+                break 'scan;
+            }
+            stretch = plan_service::next_stretch(rule, plan, k + 1, s, stretch);
         }
     }
-    Ok(())
+    found
 }
 
 // Refusals 8 and 9, of tables whose numbers are within their limits.

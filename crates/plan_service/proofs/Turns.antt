@@ -10,17 +10,14 @@ use native.Mathlib.Omega.{arith}
 use borrow.Author.Tests.{eq-eqb, ne_eqb}
 use lib.Dec.{eqb}
 use lib.ListN.{length, get_or, get_or-eq_default}
-use Rattle.std.specs.Prelude.{Option, Some, None}
-use Rattle.rules.specs.Walk.{pick, first, only, sum, count}
-use Rattle.rules.proofs.First.{first-none, first_found}
+use Rattle.rules.specs.Walk.{pick, only, sum, count}
 use Rattle.rules.proofs.Sum.{only-add, only-eq, only_ne, only_self}
 use Rattle.rules.specs.declared.Rule.{Rule}
 use Rattle.rules.specs.declared.Rule.TheVariants.{Own, Switching}
-use Rattle.theory.specs.Plan.{owner, owner_before, switch_tick, unswitched, service, owned, held}
+use Rattle.theory.specs.Plan.{owner, owner_before, switch_tick, unswitched, service, owned, held, least, worst}
 use Rattle.theory.proofs.Plan.{owner-place, service-place, held-zero, held_more, held_around}
 use Rattle.theory.proofs.Switch.{service_within}
 use Rattle.theory.proofs.Need.{owned_split}
-use Rattle.plan_service.specs.Inner.{Earliest}
 
 -- ---- a tick at its place in the frame
 
@@ -148,14 +145,11 @@ place-next f s n at r ea er = let e : s + n + 1 ≡ s + 1 + n = omega arith in r
 
 -- ---- the lowest start that passes a test
 
-module _ (p : ℕ → Bool) (h : ℕ → ℕ) (f : ℕ) (Answers : ℕ → Bool → Type 0) (r : Option (ℕ × ℕ)) (e : Earliest Answers h f r) (told : (s : ℕ) (b : Bool) → Answers (h s) b → b ≡ p s) where
-  pub earliest_none : r ≡ None → first p f ≡ f
-  unfolding Earliest
-  earliest_none z = let a = rw z at e in first-none p f (λ s l. sym (told s false (a s l)))
+module _ (rule : Rule) (plan : List ℕ) (p t low h s : ℕ) (eh : h ≡ held rule plan p t s) (el : low ≡ least rule plan p t) where
+  pub is_worst : h ≡ low → worst rule plan p t s ≡ true
+  unfolding worst
+  is_worst e = eq-eqb _ _ (sym eh ∙ e ∙ el)
 
-  pub earliest_some : (s x : ℕ) → r ≡ Some (s, x) → (s < f) × (first p f ≡ s) × (x ≡ h s)
-  unfolding Earliest
-  earliest_some s x z =
-      let a = rw z at e in
-      let below : first p s ≡ s = first-none p s (λ u l. sym (told u false (a.3 u l))) in
-      (a.0, first_found p f s a.0 below (sym (told s true a.2)), a.1)
+  pub not-worst : ¬ (h ≡ low) → worst rule plan p t s ≡ false
+  unfolding worst
+  not-worst e = ne_eqb _ _ (λ z. e (eh ∙ z ∙ sym el))

@@ -3,7 +3,7 @@
 
 ghost use Rattle.std.specs.Prelude.{◌≡◌, ◌+◌, ◌%◌, ◌^◌, ◌≤◌, ◌<◌, eqb, length};
 ghost use Rattle.theory.specs.Plan.{service, held, HeldIs, least, LeastIs, worst_start};
-ghost use Rattle.plan_service.specs.Inner.{Counted, Earliest};
+ghost use Rattle.plan_service.specs.Inner.{Counted};
 
 use rules::{Refusal, Rule};
 
@@ -103,10 +103,10 @@ pub fn held(edition: usize, plan: &[u16], p: u16, s: u32, n: u32) -> Result<usiz
 // A stretch on the walk over starts: how many of its ticks serve some partition, and the place in the frame of the tick
 // behind it, which enters next. Its length stands there for the contracts alone.
 #[derive(Clone, Copy)]
-struct Stretch {
-    length: usize,
-    held: usize,
-    enters: usize,
+pub struct Stretch {
+    pub length: usize,
+    pub held: usize,
+    pub enters: usize,
 }
 
 // The place of tick t in the frame (of an empty plan t itself).
@@ -120,7 +120,7 @@ fn place(plan: &[u16], t: usize) -> usize
 }
 
 // The stretch of n ticks from tick s on, counted; both are of 32 bits, as callers have them, so that no sum can wrap.
-fn stretch_from(rule: Rule, plan: &[u16], p: usize, n: usize, s: usize) -> Stretch
+pub fn stretch_from(rule: Rule, plan: &[u16], p: usize, n: usize, s: usize) -> Stretch
     requires { (n < 2 ^ 32) × (s < 2 ^ 32) }
     ensures { (result.length ≡ n) × Counted rule plan.now p s result }
 {
@@ -132,7 +132,7 @@ fn stretch_from(rule: Rule, plan: &[u16], p: usize, n: usize, s: usize) -> Stret
 }
 
 // The stretch that starts behind tick s: the tick that enters is added, the tick that leaves is taken off.
-fn next_stretch(rule: Rule, plan: &[u16], p: usize, s: usize, stretch: Stretch) -> Stretch
+pub fn next_stretch(rule: Rule, plan: &[u16], p: usize, s: usize, stretch: Stretch) -> Stretch
     requires { (stretch.length < 2 ^ 32) × (s < length plan.now) × Counted rule plan.now p s stretch }
     ensures { (result.length ≡ stretch.length) × Counted rule plan.now p (s + 1) result }
 {
@@ -147,29 +147,7 @@ fn next_stretch(rule: Rule, plan: &[u16], p: usize, s: usize, stretch: Stretch) 
     }
 }
 
-// The lowest start from which n ticks hold a number that passes the test, and that number. One stretch is counted, the
-// others follow from it.
-pub fn earliest<T: Fn(usize) -> bool>(
-    rule: Rule,
-    plan: &[u16],
-    p: usize,
-    n: usize,
-    test: T,
-) -> Option<(usize, usize)>
-    requires { (n < 2 ^ 32) × T.IsAlwaysCallable test }
-    ensures { Earliest (T.post test) (held rule plan.now p n) (length plan.now) result }
-{
-    let mut stretch = stretch_from(rule, plan, p, n, 0);
-    for s in 0..plan.len() {
-        if test(stretch.held) {
-            return Some((s, stretch.held));
-        }
-        stretch = next_stretch(rule, plan, p, s, stretch);
-    }
-    None
-}
-
-// The smallest number of ticks that serve p in any t consecutive ticks.
+// The smallest number of ticks that serve p in any t consecutive ticks: one stretch is counted, the others follow from it.
 pub fn least_by(rule: Rule, plan: &[u16], p: u16, t: u32) -> usize
     ensures { result ≡ least rule plan.now p t }
 {
@@ -189,10 +167,14 @@ pub fn worst_start(rule: Rule, plan: &[u16], p: usize, t: usize, low: usize) -> 
     requires { (t < 2 ^ 32) × (low ≡ least rule plan.now p t) }
     ensures { (result ≤ length plan.now) × (result ≡ worst_start rule plan.now p t) }
 {
-    match earliest(rule, plan, p, t, |held| held == low) {
-        Some((start, _)) => start,
-        None => plan.len(),
+    let mut stretch = stretch_from(rule, plan, p, t, 0);
+    for s in 0..plan.len() {
+        if stretch.held == low {
+            return s;
+        }
+        stretch = next_stretch(rule, plan, p, s, stretch);
     }
+    plan.len()
 }
 
 // The least number by an edition.

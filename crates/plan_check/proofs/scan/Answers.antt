@@ -1,32 +1,26 @@
-use Prim.Native.Nat.{ℕ, ◌+◌}
-use mathlib.Core.Path.{ap, ◌∙◌}
-use Rattle.std.proofs.Common.{rules}
-use Rattle.rules.specs.Terms.{wanted}
+use mathlib.Core.Path.{refl, ◌∙◌}
 use Rattle.rules.proofs.First.{first-zero, first_more}
-use Rattle.theory.specs.Plan.{held}
-use Rattle.plan_service.proofs.Turns.{earliest_none, earliest_some}
-use Rattle.plan_check.specs.Check.{short_at}
-use Rattle.plan_check.proofs.Orders.{whole, stopped, served}
+use Rattle.plan_check.proofs.Orders.{short_no, whole, stopped, served}
+use borrow.Author.Rules.{rules}
 use Rattle.plan_check.proofs.scan.Goals as goal
 
-pub loop-k-init : goal.loop-k-init
-loop-k-init c = first-zero _
+pub scan-init : goal.scan-init
+scan-init c = (refl, first-zero _)
 
-pub loop-k-preserved : goal.loop-k-preserved
-unfolding short_at
-loop-k-preserved c =
-    let a = c.args in
-    let q = wanted a.terms a.parts.now in
-    let none = earliest_none (short_at a.rule q a.plan.now a.parts.now c.loop-k.k) _ _ _ _ c.earliest-short.ensures (λ s b p. search rules) c.in_default.is in
-    first_more _ _ c.loop-k.invariant (whole a.rule q a.plan.now a.parts.now _ none)
+pub loop-s-init : goal.loop-s-init
+loop-s-init c = let e = c.stretch_from-stretch.ensures in (c.scan.invariant.0, e.0, e.1, first-zero _)
 
-pub returns : goal.returns
-returns c = served _ _ _ _ _ (search rules) (search rules) c.loop-k.invariant
+pub loop-s-preserved : goal.loop-s-preserved
+loop-s-preserved c = let l = c.loop-s in
+    let e = c.next_stretch-stretch.ensures in
+    (l.invariant.0, e.0 ∙ l.invariant.1, e.1, first_more _ _ l.invariant.3 (short_no _ _ _ _ _ _ _ _ _ (l.invariant.1 ∙ c.from-m.ensures ∙ c.cycle.ensures) c.wanted-q.ensures l.invariant.2.holds c.if-stretch-q.false))
 
-pub returns-in-Some : goal.returns-in-Some
-unfolding short_at
-returns-in-Some c =
-    let a = c.args in
-    let q = wanted a.terms a.parts.now in
-    let w = earliest_some (short_at a.rule q a.plan.now a.parts.now c.loop-k.k) _ _ _ _ c.earliest-short.ensures (λ s b p. search rules) _ _ c.in-Some.is in
-    stopped a.rule q a.plan.now a.parts.now _ _ _ _ (search rules) c.loop-k.invariant w.0 w.1 (w.2 ∙ ap (λ (m : ℕ). held a.rule a.plan.now (c.loop-k.k + 1) m c.in-Some.start) (c.from-m.ensures ∙ c.cycle.ensures)) c.wanted-q.ensures
+pub scan-preserved : goal.scan-preserved
+scan-preserved c = let l = c.loop-s in (l.invariant.0, first_more _ _ c.scan.invariant.1 (whole _ _ _ _ _ _ (search rules) (search rules) l.invariant.3))
+
+pub returns-after-scan : goal.returns-after-scan
+returns-after-scan c = c.scan.invariant.0 ∙ served _ _ _ _ _ (search rules) (search rules) c.scan.invariant.1
+
+pub returns-then-stretch-q : goal.returns-then-stretch-q
+returns-then-stretch-q c = let l = c.loop-s in
+    stopped _ _ _ _ _ _ _ _ _ (search rules) c.scan.invariant.1 (search rules) l.invariant.3 (l.invariant.1 ∙ c.from-m.ensures ∙ c.cycle.ensures) c.wanted-q.ensures l.invariant.2.holds c.if-stretch-q.true
