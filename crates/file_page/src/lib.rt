@@ -53,7 +53,13 @@ fn put_task(table: &[u16], found: &[Option<Times>], j: usize, out: &mut Output<'
 {
     let partition = usize::from(rules::records::partition(table, j));
     match found[j] {
-        Some(times) => put_pass(out, j + 1, partition, times.point, times.tick),
+        Some(times) => put_pass(
+            out,
+            j + 1,
+            partition,
+            usize::from(times.point),
+            usize::from(times.tick),
+        ),
         None => put_fail(out, j + 1, partition),
     }
 }

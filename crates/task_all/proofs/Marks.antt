@@ -1,5 +1,5 @@
 -- What is put at the tasks' places, task by task and partition by partition. Assumes nothing.
-use Prim.Native.Nat.{ℕ, ◌+◌, ◌≤◌, ◌<◌}
+use Prim.Native.Nat.{ℕ, ◌+◌, ◌^◌, ◌≤◌, ◌<◌}
 use mathlib.Core.Path.{◌≡◌, refl, sym, ap, ◌∙◌}
 use mathlib.Core.Logic.{◌⊎◌, inl, inr}
 use mathlib.Core.Bool.{Bool, true, false}
@@ -8,7 +8,7 @@ use native.Mathlib.Decide.{ℕ_discrete}
 use native.Mathlib.Omega.{arith}
 use lib.Dec.{eqb, leb}
 use lib.ListN.{length, get_or, set, length-set}
-use borrow.Author.Tests.{eq-eqb, ne_eqb, le-leb, lt-leb}
+use borrow.Author.Tests.{eq-eqb, ne_eqb, le-leb, lt-leb, leb-true}
 use Rattle.rules.specs.Limits.{longest, most_tasks}
 use Rattle.rules.specs.Inner.{AsNamed}
 use Rattle.std.specs.Prelude.{Option, None, Some}
@@ -59,6 +59,15 @@ found_then : (o o' : ℕ → Option Times) (h : ℕ) (before cur after : List (O
 found_then o o' h before cur after v w = record { as_long = w.as_long ∙ v.as_long; done = w.done; rest = λ t l. w.rest t l ∙ v.rest t l }
 
 -- ---- one task
+
+-- what is found in time is small where the deadline is
+pub in-time_small : (d t x : ℕ) → d < 2 ^ 16 → in_time d t ≡ Some x → x < 2 ^ 16
+unfolding in_time
+in-time_small d t x h e = go (leb t d) refl e
+  where
+    go : (b : Bool) → leb t d ≡ b → pick b (Some t) None ≡ Some x → x < 2 ^ 16
+    go true l e = let z : t ≡ x = cc e in let k = leb-true t d l in omega arith
+    go false l e = let z : ◌≡◌ {A = ℕ} 0 1 = cc in absurd (omega arith)
 
 -- the tick is no later than the point, so that both are found where the point is
 both_at : (d t u : ℕ) → u ≤ t → both (in_time d t) (in_time d u) ≡ times_at d t u

@@ -14,11 +14,11 @@ use task_demand::{TICKS, TaskLists, ask_task};
 use task_plain::tick_in;
 use task_points::point_in;
 
-// Where a task passes: its scheduling point and its tick.
+// Where a task passes: its scheduling point and its tick. (No deadline is longer than 16 bits say; so a listing's stack stays.)
 #[derive(Clone, Copy)]
 pub struct Times {
-    pub point: usize,
-    pub tick: usize,
+    pub point: u16,
+    pub tick: u16,
 }
 
 // The deadline of task j, where it is of partition p, else 0.
@@ -52,7 +52,10 @@ fn times_in(lists: &TaskLists<'_>, table: &[u16], j: usize) -> Option<Times>
     let d = rules::records::deadline(table, j);
     let point = point_in(lists, c, d)?;
     let tick = tick_in(lists, c, d)?;
-    Some(Times { point, tick })
+    Some(Times {
+        point: point as u16,
+        tick: tick as u16,
+    })
 }
 
 // By the lists: what is found for task j, where it is of partition p, at its place.

@@ -1,7 +1,13 @@
-use mathlib.Core.Path.{◌≡◌, ◌∙◌}
+use mathlib.Core.Path.{◌≡◌, sym, ◌∙◌}
 use Rattle.std.proofs.Common.{rules, None}
-use Rattle.task_all.proofs.Marks.{point_none, tick_none, both_found}
+use Rattle.task_all.proofs.Marks.{point_none, tick_none, both_found, in-time_small}
 use Rattle.task_all.proofs.times_in.Goals as goal
+
+pub overflow_cast-result : goal.overflow_cast-result
+overflow_cast-result c = let l = in-time_small _ _ c.in_ok-point.point (search rules) (sym c.point_in.ensures ∙ c.in_ok-point.was) in search (rules, l)
+
+pub overflow_cast-result-2 : goal.overflow_cast-result-2
+overflow_cast-result-2 c = let l = in-time_small _ _ c.in_ok-tick.tick (search rules) (sym c.tick_in.ensures ∙ c.in_ok-tick.was) in search (rules, l)
 
 pub returns-in_err-point : goal.returns-in_err-point
 returns-in_err-point c =
