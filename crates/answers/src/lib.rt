@@ -116,6 +116,7 @@ impl Answer for Range<usize> {
     }
 }
 
+// (`as`: usize has no From<u32>.)
 impl Answer for Done {
     ghost told = { said_done };
 
@@ -161,6 +162,7 @@ fn part_at(which: usize, contents: Contents) -> Range<usize>
 }
 
 // Where that part lies in a file that is read, or why the file is refused.
+// (No From: it takes a number beside what is read.)
 pub fn tell_part(which: usize, read: Result<Contents, Refusal>) -> Told
     requires { IfOk read Few }
     ensures { result ≡ told_part which read }
@@ -169,6 +171,7 @@ pub fn tell_part(which: usize, read: Result<Contents, Refusal>) -> Told
 }
 
 // What a request asks the desk for.
+// (No From: three numbers wouldn't say what they are.)
 pub fn to_request(time: u32, budget: u32, deadline: u32) -> Ask
     ensures { result ≡ Request (record { time = time; budget = budget; deadline = deadline }) }
 {

@@ -1,4 +1,5 @@
 // The one surface: every entry over plain numbers and slices. api_c exports it to C.
+// (An edition stays a number, here and in the crates below: C gives it so, and a wrong one is refused with 2.)
 #![tactic(auto)]
 
 ghost use Rattle.rules.specs.Table.{WantsIs};

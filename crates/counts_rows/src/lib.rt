@@ -28,6 +28,7 @@ fn count_on(plan: &[u16], p: usize, k: usize, h: usize) -> usize
 }
 
 // p's numbers, counted from the plan; none are kept for idle.
+// (`as`: a count fits, and a TryFrom would bring a refusal that can't come.)
 pub fn fill_row(plan: &[u16], list: &mut [u16], p: usize)
     requires { (length plan.now ≤ longest) × (p * row_width plan.now ≤ length list.old) }
     ensures { Recounted plan.now p list.old list.new }
@@ -57,6 +58,7 @@ pub fn fill_rows(plan: &[u16], list: &mut [u16], parts: usize)
 }
 
 // Whether one of p's numbers isn't the plan's.
+// (Apart from `fill_row`, which writes and doesn't end early: the step that both share is `count_on`.)
 #[tactic(auto, using(counts::proofs::Agree::agrees_here, counts::proofs::Agree::differs_last, rules::proofs::First::first_more))]
 fn row_differs(plan: &[u16], list: &[u16], p: usize) -> bool
     requires { (0 < p) × (p * row_width plan.now ≤ length list.now) }

@@ -1,5 +1,5 @@
 -- One call of the desk, what it leaves in the caller's memory, and its answer as document 01 has it. Assumes nothing.
-use Rattle.std.specs.Prelude.{ℕ, ◌≡◌, List, Result, Ok, Err}
+use Rattle.std.specs.Prelude.{ℕ, ◌≡◌, List, Result}
 use Rattle.rules.specs.Refusals.{placed, telling, told_by}
 use Rattle.rules.specs.declared.Told.{Told}
 use Rattle.desk.specs.declared.Job.{Job}

@@ -13,6 +13,7 @@ pub struct Job {
 }
 
 // What the caller keeps beside the table.
+// (`count` is a number beside a lent table, no Vec: C keeps both.)
 #[repr(C)]
 #[derive(Clone, Copy)]
 pub struct Desk {
@@ -29,6 +30,7 @@ pub struct Asked {
 }
 
 // What a call asks for.
+// (No Option: C has a call for each of the two, and None wouldn't say which.)
 #[derive(Clone, Copy)]
 pub enum Ask {
     Open,
@@ -36,6 +38,7 @@ pub enum Ask {
 }
 
 // What a call answers that doesn't refuse; taken: at this place, with this start.
+// (No Option: an opened desk and a job taken in are two answers.)
 #[derive(Clone, Copy)]
 pub enum Done {
     Opened,

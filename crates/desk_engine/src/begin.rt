@@ -78,6 +78,7 @@ fn searching_none() -> Searching
 }
 
 // What the pass begins with.
+// (A match, no closure: which of the two is asked for comes from C.)
 pub fn scan_for(k: Desk, n: usize, ask: Ask) -> Option<Scan>
     ensures { result ≡ scan_for k n ask }
 {

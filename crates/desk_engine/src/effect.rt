@@ -60,6 +60,7 @@ fn keep_effect(why: Refusal, k: Desk) -> Effect
 }
 
 // A refusal that sets the clock and drops the finished jobs.
+// (No Option for `carry`: no job is put down, so it is an empty one. `as`, here and in `take_effect`: usize has no From<u32>.)
 fn drop_effect(why: Refusal, k: Desk, left: Searching) -> Effect
     ensures { result ≡ drop_effect why k left }
 {
@@ -130,6 +131,7 @@ fn request_effect(k: Desk, q: Searching) -> Effect
 }
 
 // Of any call on such a table.
+// (`opening` is a bool beside the state, here and in `effect_of`, as desk_reading's `Scan` says.)
 fn effect_by(k: Desk, opening: bool, q: Searching) -> Effect
     ensures { result ≡ effect_by k opening q }
 {

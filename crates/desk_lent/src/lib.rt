@@ -29,6 +29,7 @@ fn apply(jobs: &mut [Job], p: Effect)
 }
 
 // One reading pass, what is decided by it, and the writing passes.
+// (`opening` goes beside the state, as desk_reading's `Scan` says.)
 fn serve(jobs: &mut [Job], k: Desk, opening: bool, s: Option<Scan>) -> Effect
     ensures { (result ≡ effect_of k opening (scanned opening s jobs.old))
         × (jobs.new ≡ applied result jobs.old) }

@@ -42,6 +42,7 @@ fn is_outdone(b: Best, place: u32, room: u32) -> bool
 }
 
 // What binds a place's room before any job is looked at for it.
+// (`listed` is a bool, here and in `best_with`: a fact that is handed on, no switch of steps.)
 fn bound_at(place: u32, listed: bool) -> Bound
     ensures { result ≡ bound_at place listed }
 {
@@ -97,6 +98,7 @@ pub fn listed_binds(d: u32, j: Job) -> bool
     j.flex < d.saturating_sub(j.start)
 }
 
+// (No From, here and in `explain`: their names say what is made, `into` would not. `as`: usize has no From<u32>.)
 fn binding_of(b: Bound) -> Binding
     ensures { result ≡ binding_of b }
 {

@@ -15,6 +15,7 @@ pub struct Checking {
 }
 
 // Whether the x of the job before is the rule's, with so much room behind that job. An opening looks at no x.
+// (`opening` comes beside the state, here and below, as `Scan` says.)
 fn right_x(opening: bool, s: Checking, room: u64) -> bool
     ensures { result ≡ (eqb s.flex (min s.own room) || opening) }
 {

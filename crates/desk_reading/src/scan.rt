@@ -8,6 +8,7 @@ use desk::Job;
 use desk_records::records::no_job;
 
 // Listed jobs still to come, the check, and the search, which is of no account at an opening.
+// (`opening` goes beside the state: with an Option of the search in it, moving 63 jobs took 13 in a hundred more instructions.)
 #[derive(Clone, Copy)]
 pub struct Scan {
     pub left: u32,

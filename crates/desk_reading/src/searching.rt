@@ -23,6 +23,7 @@ pub enum Stage {
 // The request, jobs dropped so far, whether the first one left is running, and the place: found, or the next one to try
 // with the end of the job before it, which is place l once a job has a > d or none follows. How far the search is, and
 // the roomiest place gone past.
+// (`busy` is a bool, here and as a parameter below: a fact of its own, on which no value hangs.)
 #[derive(Clone, Copy)]
 pub struct Searching {
     pub time: u32,
@@ -121,6 +122,7 @@ pub fn search_step(s: Searching, j: Job) -> Searching
 }
 
 // The job asked for, at the start that the search has come to.
+// (No From: it takes a part of the search, and its name says for what.)
 pub fn new_job(s: Searching) -> Job
     ensures { result ≡ new_job s }
 {

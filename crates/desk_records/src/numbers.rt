@@ -4,6 +4,7 @@ ghost use Rattle.desk.specs.Request.{numbers_ok};
 
 use rules::limits::{LATEST, PLACES};
 
+// (`as`, here and in `FAR`: no conversion but this one is const.)
 pub const ALL_PLACES: u32 = PLACES as u32; // as a count of jobs
 
 // No deadline is later: what leaves a minimum as it is where no job is behind, so no step tests whether one is.

@@ -7,6 +7,7 @@ use desk::Job;
 use rules::limits::LATEST;
 
 // A place that holds nothing.
+// (No Option: C lends the table, and there such a place is all zeros.)
 pub fn no_job() -> Job
     ensures { result ≡ none }
 {
@@ -18,6 +19,7 @@ pub fn no_job() -> Job
     }
 }
 
+// (Apart from `last_start`: two sums of a job's own fields, no plainer as one.)
 pub fn end_of(j: Job) -> u64
     ensures { result ≡ ends j }
 {
@@ -39,12 +41,12 @@ pub fn last_start(j: Job) -> u64
 }
 
 // The flexibility of j before a job that starts at `behind` at the latest.
+// (0, no Option, as in the definition. `as`: the number fits, and a TryFrom would bring a refusal that can't come.)
 pub fn x_before(j: Job, behind: u64) -> u32
     ensures { result ≡ min (deadline j - start j - budget j) (behind - start j - budget j) }
 {
     let due = u64::from(j.deadline).min(behind);
-    let end = end_of(j);
-    if end < due { (due - end) as u32 } else { 0 }
+    due.saturating_sub(end_of(j)) as u32
 }
 
 pub fn job_ok(j: Job) -> bool

@@ -13,6 +13,7 @@ use desk_writing::fit::{Fit, fit_out, fit_step};
 use desk_writing::shift::{Shift, shift_out, shift_step};
 
 // The whole table, read once from the front.
+// (`opening` goes beside the state, as desk_reading's `Scan` says.)
 pub fn scan_pass(jobs: &[Job], opening: bool, s: Option<Scan>) -> Option<Scan>
     ensures { result ≡ scanned opening s jobs.now }
 {

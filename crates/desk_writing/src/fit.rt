@@ -24,6 +24,7 @@ fn fit_one(s: Fit, j: Job) -> Job
 }
 
 // What is put down where j stood.
+// (Apart from `fit_step`: `fitted_all` has what is put down and the state apart.)
 pub fn fit_out(s: Fit, j: Job) -> Job
     ensures { result ≡ fit_out s j }
 {

@@ -16,6 +16,7 @@ pub struct Shift {
 }
 
 // What is put down where j stood.
+// (Apart from `shift_step`: `shifted` has what is put down and the state apart.)
 pub fn shift_out(s: Shift, j: Job) -> Job
     ensures { result ≡ shift_out s j }
 {

@@ -9,6 +9,7 @@ ghost use Rattle.file_codec.specs.Inner.{over};
 use rules::limits::NUMBER_BYTES;
 
 // The number at place k of a body, or 0 past its end.
+// (0, no Option, as the contract's `get_or` has it.)
 #[tactic(auto, using(crate::proofs::Bytes::nums_of_at, crate::proofs::Bytes::nums_past))]
 pub fn number(body: &[u8], k: usize) -> u16
     ensures { result ≡ get_or (nums_of body.now) k 0 }
@@ -39,6 +40,7 @@ fn put(out: &mut [u8], at: usize, x: u16)
 }
 
 // The bytes of a table at the start of the output; those behind them are left alone.
+// (A slice, no Output: these are bytes at places of their own, no text.)
 #[tactic(auto, using(crate::proofs::Bytes::put_more, crate::proofs::Bytes::put_done))]
 pub fn put_all(table: &[u16], out: &mut [u8])
     requires { number_bytes * length table.now ≤ length out.old }

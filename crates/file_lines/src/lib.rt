@@ -18,6 +18,7 @@ pub fn put_frame(out: &mut Output<'_, u8>, frame: usize)
     out.put_all(b"\n");
 }
 
+// (Apart from share_plan's `put_short`: each promises its own text, and one function over texts would be no plainer.)
 pub fn put_partition(
     out: &mut Output<'_, u8>,
     place: usize,

@@ -20,6 +20,7 @@ use rules::limits::{
 };
 
 // The file's tables are judged already: of the plan only 9 is left.
+// (A slice, no Output, here and in `put_tables`: it is a whole output. The edition is a number, as the file gives it.)
 #[tactic(auto, unfolding(crate::specs::Listing::tables_lines))]
 fn put_checked(
     edition: usize,

@@ -15,6 +15,7 @@ use rules::Rule;
 use rules::limits::MOST_TASKS;
 use task_all::Times;
 
+// (`as` u16, here and in `put_tasks`: the number fits, and a TryFrom would bring a refusal that can't come.)
 #[tactic(auto, unfolding(crate::specs::Page::part_line))]
 fn put_part(rule: Rule, plan: &[u16], parts: &[u16], k: usize, out: &mut Output<'_, u8>)
     requires { (k < most_partitions) × (out.old.at < 2 ^ 40) }
@@ -25,10 +26,11 @@ fn put_part(rule: Rule, plan: &[u16], parts: &[u16], k: usize, out: &mut Output<
 {
     let m = rules::records::cycle(parts, k);
     let wanted = rules::records::wanted(rules::filed(1), parts, k);
-    let least = plan_service::least_by(rule, plan, (k + 1) as u16, m as u32);
+    let least = plan_service::least_by(rule, plan, (k + 1) as u16, u32::from(m));
     put_partition(out, k + 1, wanted, usize::from(m), least);
 }
 
+// (Apart from `put_lines`: one function over both would take a closure that writes, and ask more of it than the loops say.)
 fn put_parts(rule: Rule, plan: &[u16], parts: &[u16], out: &mut Output<'_, u8>)
     requires { (partitions parts.now ≤ most_partitions) × (out.old.at < 2 ^ 32) }
     ensures same_reference { out.new.lent.ghost_name ≡ out.old.lent.ghost_name }
@@ -94,6 +96,7 @@ fn put_tasks(rule: Rule, plan: &[u16], parts: &[u16], table: &[u16], out: &mut O
 }
 
 // The listing of a plan that serves: at most 1 + 16 + 128 lines.
+// (A slice, no Output: it is a whole output, and nothing is asked of a place in it.)
 pub fn put_page(
     rule: Rule,
     frame: usize,

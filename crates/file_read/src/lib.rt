@@ -12,6 +12,7 @@ mod head; // head.rt: the contents, the first 16 bytes
 pub mod load; // load.rt: the bodies as tables, judged
 
 // What the first 16 bytes say.
+// (The edition stays a number: a file gives it so, and a wrong one is refused with 2.)
 #[derive(Clone, Copy)]
 pub struct Contents {
     pub edition: usize,
@@ -21,6 +22,7 @@ pub struct Contents {
     pub runs: usize,
 }
 
+// One of a file's three tables. (The definitions speak of it; it says where a table lies and chooses no step.)
 #[derive(Clone, Copy)]
 pub enum Body {
     Partitions,

@@ -22,6 +22,7 @@ fn put_ticks(out: &mut Output<'_, u16>, owner: u16, n: usize)
 }
 
 // The ticks of a table of runs, as far as there is room. The answer is how many there are.
+// (0 is how many, here and in `runs_of`, no Option: `ticks_put` and `runs_put` have none there.)
 pub fn ticks_of(runs: &[u16], out: &mut [u16]) -> usize
     ensures { Put out.old 0 (ticks_put runs.now) result out.new }
 {

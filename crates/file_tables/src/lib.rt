@@ -8,6 +8,7 @@ ghost use Rattle.file_tables.specs.Runs.{run_owner, run_length, runs, reached, r
 use rules::Refusal;
 use rules::limits::{LONGEST, RUN_WIDTH};
 
+// (C lends the runs flat, so they stay flat: this, `run_length` and `runs` are one line each, under the definitions' names.)
 #[tactic(auto, unfolding(crate::specs::Runs::run_owner))]
 pub fn run_owner(table: &[u16], k: usize) -> u16
     ensures { result ≡ run_owner table.now k }
@@ -72,6 +73,7 @@ pub fn runs_counted(numbers: usize) -> bool
 }
 
 // What tells against an edition, a frame and three tables: 2, 3, 6, 7 and 8.
+// (An edition stays a number: C and files give it so, and a wrong one is refused with 2.)
 #[tactic(auto, using(tables::proofs::Chain::found_err, tables::proofs::Chain::found_ok), unfolding(crate::specs::Runs::file_tables_of))]
 pub fn judge_file(
     edition: usize,

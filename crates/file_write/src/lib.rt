@@ -11,6 +11,7 @@ use rules::limits::{HEAD_BYTES, NUMBER_BYTES};
 mod put; // put.rt: the contents and the bodies, put into the output
 
 // The answer, for an output of so many bytes.
+// (An edition stays a number, here and in `write`: C gives it so, a file says it so, and a wrong one is refused with 2.)
 #[tactic(auto, using(crate::proofs::Writer::good_small, tables::proofs::Chain::found_err, tables::proofs::Chain::found_ok), unfolding(crate::specs::Writer::write_of))]
 fn write_answer(
     edition: usize,

@@ -1,4 +1,5 @@
 // The contents and the bodies of a file, each put into its own stretch of the output.
+// (Slices, no Output: bytes at places of their own, no text. The edition is a number, as a file says it.)
 ghost use Rattle.std.specs.Prelude.{◌≡◌, ◌++◌, ◌+◌, ◌*◌, ◌≤◌, length, take, drop};
 ghost use Rattle.rules.specs.Limits.{head_bytes, number_bytes};
 ghost use Rattle.file_codec.specs.Bytes.{bytes_of};
@@ -9,6 +10,7 @@ ghost use Rattle.file_write.specs.Inner.{Small};
 use rules::limits::{HEAD_BYTES, NUMBER_BYTES, PART_WIDTH, RUN_WIDTH, TASK_WIDTH};
 
 // The contents, the first 16 bytes, of tables of so many numbers.
+// (`as`: each number fits, and a TryFrom would bring a refusal that can't come.)
 fn put_head(edition: usize, frame: usize, p: usize, t: usize, r: usize, out: &mut [u8])
     requires { Small edition frame p t r × (head_bytes ≤ length out.old) }
     ensures { out.new ≡ bytes_of (contents edition frame p t r) ++ drop head_bytes out.old }

@@ -27,6 +27,7 @@ fn list_input(file: &[u8], n: usize, out: &mut [u8]) -> usize
 
 // Lists what comes in, in pieces of any sizes, and writes the listing. The answer is whether no read and no write failed: then the
 // listing of all that the input had was written, and nothing else.
+// (A bool: a failed write was said at once, and no error is left to hand on.)
 fn list_all<R: Read, W: Write, E: Write>(input: &mut R, output: &mut W, said: &mut E) -> bool
     ensures { result ≡ true → IfSome (R.remaining input.old)
         (λ b. Appends (W.contents output.old) (W.contents output.new) (listing_of b)) }

@@ -50,6 +50,7 @@ impl<'a, T: Copy> Output<'a, T> {
     }
 }
 
+// (`as`: a digit fits, and a TryFrom would bring a refusal that can't come.)
 fn digit(n: usize) -> u8
     requires { n < 10 }
     ensures { result ≡ byte "0" + n }
@@ -96,6 +97,7 @@ impl<'a> Output<'a, u8> {
 }
 
 // A refusal's line, at the start of the output; the answer is its length.
+// (A slice, no Output: it is a whole output, and nothing is asked of a place in it.)
 pub fn put_refusal(out: &mut [u8], refusal: Refusal) -> usize
     ensures { Put out.old 0 (refused_line refusal) result out.new
         × (result ≤ longest_line) }

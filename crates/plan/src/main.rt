@@ -20,6 +20,7 @@ const READ: usize = LONGEST_TEXT + 1;
 
 // Of whatever came in, t, `text` has the first n bytes: all of it, or as many as there is room for.
 // Then what is answered to t is put at the start of `out`, which has room for any file; the result is its length.
+// (An edition stays a number down to `edition_given`, with 0 for none: the planner refuses with 2 what is no edition.)
 fn plan_input(edition: usize, text: &[u8], n: usize, out: &mut [u8]) -> usize
     requires { (n ≤ length text.now)
         × (longest_text < length text.now)
@@ -33,6 +34,7 @@ fn plan_input(edition: usize, text: &[u8], n: usize, out: &mut [u8]) -> usize
 
 // Plans what comes in, in pieces of any sizes, and writes what is answered. The answer is whether no read and no write failed: then
 // what is answered to all that the input had was written, and nothing else.
+// (A bool: a failed write was said at once, and no error is left to hand on.)
 fn plan_all<R: Read, W: Write, E: Write>(
     edition: usize,
     input: &mut R,
@@ -57,6 +59,7 @@ fn edition_given(rt: &HostRuntime) -> usize {
     share_plan::edition_asked(streams::word_count(rt), word).unwrap_or(0)
 }
 
+// (Apart from the other programs' `main`: each hands its own streams on.)
 fn main(rt: HostRuntime) {
     let edition = edition_given(&rt);
     plan_all(edition, &mut rt.stdin(), &mut rt.stdout(), &mut rt.stderr());

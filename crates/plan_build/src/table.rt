@@ -40,10 +40,7 @@ fn clash(parts: &[u16], k: usize, j: usize) -> bool
 {
     let a = rules::records::cycle(parts, k);
     let b = rules::records::cycle(parts, j);
-    if divides(a, b) {
-        return false;
-    }
-    !divides(b, a)
+    !divides(a, b) && !divides(b, a)
 }
 
 // Whether place k clashes with one before it.
@@ -61,6 +58,7 @@ pub fn unharmonic(parts: &[u16]) -> bool
 }
 
 // What place k wants in a frame of h ticks.
+// (0, no Option: the definition's q·(h/m) is 0 of a cycle of 0.)
 fn wanted_in(terms: Terms, parts: &[u16], h: usize, k: usize) -> usize
     requires { (terms.granule ≤ most_granule) × (h < 2 ^ 16) }
     ensures { (result < 2 ^ 53) × (result ≡ wanted_in (wanted terms parts.now) parts.now h k) }

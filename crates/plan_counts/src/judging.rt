@@ -40,6 +40,7 @@ pub fn judge_plan(plan: &[u16], parts: &[u16]) -> Result<(), Refusal>
 }
 
 // 12 and 20.
+// (`enough` is a bool, here and in `judge_call`: a fact that is handed on, no switch of steps.)
 #[tactic(auto, unfolding(counts::specs::Counts::list_judged))]
 fn judge_list(plan: &[u16], parts: &[u16], list: &[u16], enough: bool) -> Result<(), Refusal>
     requires { Sized plan.now parts.now }

@@ -73,6 +73,7 @@ pub fn held_many(
 }
 
 // The tick given to its new owner, and both owners' numbers counted again.
+// (`as`: the owner fits, and a TryFrom would bring a refusal that can't come.)
 fn give(plan: &mut [u16], list: &mut [u16], tick: usize, owner: usize)
     requires { (tick < length plan.old) × (length plan.old ≤ longest) × (owner < 2 ^ 16)
         × (owner * row_width plan.old ≤ length list.old)

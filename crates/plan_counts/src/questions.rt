@@ -13,6 +13,7 @@ use rules::limits::QUESTION_WIDTH;
 use tables::lowest;
 
 // A question's three numbers.
+// (A type of its own: its numbers have another sense than those of others that are equal in form.)
 #[derive(Clone, Copy)]
 struct Question {
     asked: usize,
@@ -31,6 +32,7 @@ fn question_at(table: &[u16], k: usize) -> Question
     }
 }
 
+// (C lends the questions flat, so they stay flat: this is one line over them, under its definition's name.)
 pub fn questions(table: &[u16]) -> usize
     ensures { result ≡ questions table.now }
 {
@@ -60,6 +62,7 @@ pub fn judge_stretches(table: &[u16], f: usize) -> Result<(), Refusal>
 }
 
 // The answers to the first n questions, for a caller that knows the list to be the plan's.
+// (`as`: a count fits, and a TryFrom would bring a refusal that can't come.)
 pub fn answer_all(plan: &[u16], list: &[u16], table: &[u16], answers: &mut [u16], n: usize)
     requires { Answerable plan.now list.now table.now n × (n ≤ length answers.old) }
     ensures { AsNamed (answer_at plan.now table.now) n

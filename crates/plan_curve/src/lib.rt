@@ -30,6 +30,7 @@ fn start_tried(rule: Rule, plan: &[u16], p: usize, s: usize) -> bool
 }
 
 // How many of t ticks of a plan with f can serve p at most; of an empty one every tick is idle.
+// (0 is how many, as in the definition: no Option.)
 #[tactic(auto, unfolding(crate::specs::Inner::most))]
 fn most(f: usize, p: usize, t: usize) -> usize
     ensures { (result ≤ t) × (result ≡ most f p t) }
@@ -41,6 +42,7 @@ fn most(f: usize, p: usize, t: usize) -> usize
 }
 
 // The first n numbers before any start is tried.
+// (`as`, here and in `lower_row`: the number fits, and a TryFrom would bring a refusal that can't come.)
 fn begin(f: usize, p: usize, list: &mut [u32], n: usize)
     requires { (n ≤ 2 ^ 32) × (n ≤ length list.old) }
     ensures { AsNamed (most f p) n list.old list.new }
@@ -159,6 +161,7 @@ fn repeats(rule: Rule, plan: &[u16], p: usize, m: usize) -> bool
 }
 
 // The fewest ticks after which those that serve p repeat, the frame itself at most; promised is that they do.
+// (No Option: the frame itself is one, so there is always an answer.)
 fn shortest(rule: Rule, plan: &[u16], p: usize) -> usize
     ensures { (result ≤ length plan.now) × Repeats rule plan.now p result }
 {
@@ -192,6 +195,7 @@ pub fn draw(rule: Rule, plan: &[u16], p: usize, list: &mut [u32], n: usize)
 }
 
 // least(0) .. least(n) of partition p by an edition, at the start of the list.
+// (An edition stays a number: C gives it so, and a wrong one is refused with 2. `as`: usize has no From<u32>.)
 #[tactic(auto, unfolding(crate::specs::Curve::curve_of))]
 pub fn curve(
     edition: usize,

@@ -63,6 +63,7 @@ fn give(out: &mut [u16], h: usize, p: u16, q: usize, m: usize)
 }
 
 // The turn of the partition that is taken after r others.
+// (`as`: the place fits, and a TryFrom would bring a refusal that can't come.)
 fn turn(terms: Terms, parts: &[u16], out: &mut [u16], h: usize, r: usize)
     requires { Layable parts.now × (r < partitions parts.now) × (h ≤ length out.old) }
     ensures { AsNamed

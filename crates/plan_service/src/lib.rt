@@ -8,6 +8,7 @@ ghost use Rattle.plan_service.specs.Inner.{Counted};
 use rules::{Refusal, Rule};
 
 // The partition that the tick at a place of the frame serves, or 0 for none.
+// (0, no Option, as the definition has it; a match, here and in `serves_at`, no closure: the theorems are over a `Rule`.)
 pub fn service_at(rule: Rule, plan: &[u16], at: usize) -> usize
     requires { at < length plan.now }
     ensures { result ≡ service rule plan.now at }
@@ -83,6 +84,7 @@ fn counted(rule: Rule, plan: &[u16], p: usize, n: usize, s: usize) -> usize
 }
 
 // The same of any plan: of an empty one every tick is idle.
+// (0 is how many, as in the definition: no Option.)
 fn held_from(rule: Rule, plan: &[u16], p: usize, n: usize, s: usize) -> usize
     ensures { result ≡ held rule plan.now p n s }
 {
@@ -93,6 +95,8 @@ fn held_from(rule: Rule, plan: &[u16], p: usize, n: usize, s: usize) -> usize
 }
 
 // What a stretch holds by an edition, of numbers as a caller has them: the ticks that serve p among the n from tick s on.
+// (An edition stays a number, here and in `least`: C gives it so, and a wrong one is refused with 2.)
+// (`as`, here and in `least_by`: usize has no From<u32>.)
 pub fn held(edition: usize, plan: &[u16], p: u16, s: u32, n: u32) -> Result<usize, Refusal>
     ensures { HeldIs edition plan.now p s n result }
 {
@@ -102,6 +106,7 @@ pub fn held(edition: usize, plan: &[u16], p: u16, s: u32, n: u32) -> Result<usiz
 
 // A stretch on the walk over starts: how many of its ticks serve some partition, and the place in the frame of the tick
 // behind it, which enters next. Its length stands there for the contracts alone.
+// (A type of its own: its numbers have another sense than those of others that are equal in form.)
 #[derive(Clone, Copy)]
 pub struct Stretch {
     pub length: usize,
@@ -148,6 +153,7 @@ pub fn next_stretch(rule: Rule, plan: &[u16], p: usize, s: usize, stretch: Stret
 }
 
 // The smallest number of ticks that serve p in any t consecutive ticks: one stretch is counted, the others follow from it.
+// (Apart from `worst_start`, which ends at the first start that holds so few: this one goes on to the end.)
 pub fn least_by(rule: Rule, plan: &[u16], p: u16, t: u32) -> usize
     ensures { result ≡ least rule plan.now p t }
 {
@@ -163,6 +169,7 @@ pub fn least_by(rule: Rule, plan: &[u16], p: u16, t: u32) -> usize
 }
 
 // The lowest start from which t ticks hold no more than `low`, which is the least; an empty plan's is its tick 0.
+// (A number in every case, as in the definition: no Option.)
 pub fn worst_start(rule: Rule, plan: &[u16], p: usize, t: usize, low: usize) -> usize
     requires { (t < 2 ^ 32) × (low ≡ least rule plan.now p t) }
     ensures { (result ≤ length plan.now) × (result ≡ worst_start rule plan.now p t) }

@@ -13,6 +13,7 @@ pub mod numbers; // numbers.rt: the places after and before in a round
 pub mod records; // records.rt: the tables behind accessors, and ticks wanted
 
 // Which deadline binds the room of a place: the request's own, or that of a listed job, counted from 0 after dropping.
+// (No Option, here and in `Explanation`: `TickBreaks` and `NoPlaceNowhere` have the cases by name.)
 #[derive(Clone, Copy)]
 pub enum Binding {
     Own,
@@ -63,6 +64,7 @@ pub enum Refusal {
 }
 
 // A refusal as the paper tells it: its number, and what is returned beside it.
+// (Numbers, no enum, here and where one is made below: C is told a number and five values, by the documents' tables.)
 #[repr(C)]
 #[derive(Clone, Copy)]
 pub struct Told {
@@ -82,22 +84,24 @@ pub enum Rule {
 }
 
 // The terms of a call: what is given with it besides its tables and its plan.
+// (An edition stays a number, here and below: C and files give it so, and a wrong one is refused with 2.)
+// (A type of its own: its numbers have another sense than those of others that are equal in form.)
 #[derive(Clone, Copy)]
 pub struct Terms {
     pub edition: usize,
     pub granule: usize,
 }
 
+// (Apart from tables' `good_granule`: a range each, under the definitions' names; one function would be no plainer.)
+#[tactic(auto, unfolding(crate::specs::Terms::good_edition))]
 pub fn good_edition(edition: usize) -> bool
     ensures { result ≡ good_edition edition }
 {
-    if edition < 1 {
-        return false;
-    }
-    edition <= NEWEST_EDITION
+    1 <= edition && edition <= NEWEST_EDITION
 }
 
 // Which owned ticks serve, by an edition.
+// (The definition has a rule for every number, so no Result; `try_from` is for one that isn't judged yet.)
 pub fn rule_of(edition: usize) -> Rule
     ensures { result ≡ rule_of edition }
 {
@@ -122,6 +126,7 @@ impl TryFrom<usize> for Rule {
 }
 
 // The terms of a file, which has an edition and no granule.
+// (No From: a number alone wouldn't say that it is an edition.)
 pub fn filed(edition: usize) -> Terms
     ensures { result ≡ filed edition }
 {
@@ -197,6 +202,7 @@ fn bound(place: usize, room: usize, binding: Binding) -> Told
 }
 
 // Why there is no place: zeros where none has any room.
+// (No From: a `Told` is made of a refusal, and this is a part of one.)
 fn explained(why: Explanation) -> Told
     ensures { result ≡ told (NoPlace why) }
 {

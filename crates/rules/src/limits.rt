@@ -6,6 +6,7 @@ pub const MOST_TASKS: usize = 128;
 
 pub const LONGEST: usize = 4096; // of a frame, a cycle, and of runs
 
+// (`as`: no conversion but this one is const.)
 pub const LONGEST_PERIOD: u16 = LONGEST as u16;
 
 pub const FINEST_SHARE: u16 = 1000;

@@ -2,6 +2,7 @@
 ghost use Rattle.std.specs.Prelude.{◌≡◌, ◌+◌, ◌-◌, ◌%◌, ◌<◌};
 
 // The place after `at` in a round of f: the end is joined to the start.
+// (0 is a place, the first one, and no sign that one is missing: no Option.)
 pub fn after(at: usize, f: usize) -> usize
     requires { at < f }
     ensures { (result < f) × (result ≡ (at + 1) % f) }

@@ -8,6 +8,7 @@ use crate::Terms;
 use crate::limits::{PART_WIDTH, TASK_WIDTH};
 
 // What stands at a place of a table, or 0 past its end.
+// (0, no Option, here and in `field_at`, `up_to_granule` and `wants`: the definitions have it.)
 pub fn entry(table: &[u16], k: usize) -> u16
     ensures { result ≡ get_or table.now k 0 }
 {
@@ -27,6 +28,7 @@ pub fn field_at(table: &[u16], width: usize, k: usize, field: usize) -> u16
     entry(table, width * k + field)
 }
 
+// (C lends flat tables of u16, so they stay flat: an accessor is one line over them, under its definition's name.)
 pub fn partitions(parts: &[u16]) -> usize
     ensures { result ≡ partitions parts.now }
 {

@@ -7,6 +7,7 @@ ghost use Rattle.share_line.specs.Expected.{what_text, expected_line};
 use crate::What;
 use output::Output;
 
+// (A match, no closure: a text for each case.)
 fn put_what(out: &mut Output<'_, u8>, what: What)
     requires { out.old.at < 2 ^ 50 }
     ensures same_reference { out.new.lent.ghost_name ≡ out.old.lent.ghost_name }
@@ -23,6 +24,7 @@ fn put_what(out: &mut Output<'_, u8>, what: What)
 }
 
 // At the start of the output; the answer is its length.
+// (A slice, no Output: it is a whole output, and nothing is asked of a place in it.)
 pub fn put_expected(out: &mut [u8], line: usize, what: What) -> usize
     ensures { Put out.old 0 (expected_line line what) result out.new
         × (result ≤ longest_line) }

@@ -105,6 +105,7 @@ pub fn row_of(line: &[u8]) -> Result<Row, What>
 
 // What was expected in a row that is wrong behind others; else whether a granule comes too late behind it: so it was before it,
 // or the row closes it.
+// (`closed` is a bool: a fact that goes along from row to row, no switch of steps.)
 pub fn closed_behind(closed: bool, row: Result<Row, What>) -> Result<bool, What>
     ensures { Judged closed row result }
 {

@@ -16,6 +16,7 @@ use share_text::Unread;
 mod plan_file; // plan_file.rt: the plan file of two tables, or the line of its refusal
 
 // The line that says why there is nothing to plan, at the start of `out`. The answer is its length.
+// (A slice, no Output: it is a whole output, and nothing is asked of a place in it.)
 fn put_unread(out: &mut [u8], unread: Unread) -> usize
     ensures { Put out.old 0 (answer_by (Err unread) []) result out.new
         × (result ≤ longest_line) }
@@ -27,6 +28,7 @@ fn put_unread(out: &mut [u8], unread: Unread) -> usize
 }
 
 // Puts what the program writes at the start of `out`, as far as there is room. The answer is its length.
+// (An edition stays a number: the file says it so, and a wrong one is refused with 2.)
 pub fn plan(edition: usize, text: &[u8], out: &mut [u8]) -> usize
     ensures plans { Plans edition text.now out.old out.new result }
     ensures fits { result ≤ max longest_line (length out.old) }

@@ -13,6 +13,7 @@ use rules::limits::{LONGEST, RUN_NUMBERS};
 use rules::{Refusal, Terms};
 
 // The file of a plan's ticks.
+// (An edition stays a number: the file says it so.)
 fn write_ticks(
     edition: usize,
     frame: usize,
@@ -71,6 +72,7 @@ fn write_plan(terms: Terms, parts: &[u16], tasks: &[u16], out: &mut [u8]) -> Res
 }
 
 // The line of 9, which says what is short.
+// (Apart from file_lines' `put_partition`, as said there.)
 fn put_short(out: &mut Output<'_, u8>, partition: usize, start: usize, held: usize, wanted: usize)
     requires { out.old.at < 2 ^ 40 }
     ensures same_reference { out.new.lent.ghost_name ≡ out.old.lent.ghost_name }
@@ -103,6 +105,7 @@ fn put_why(out: &mut Output<'_, u8>, refusal: Refusal)
     }
 }
 
+// (A slice, no Output: it is a whole output, and nothing is asked of a place in it.)
 pub fn put_file_or_line(terms: Terms, parts: &[u16], tasks: &[u16], out: &mut [u8]) -> usize
     ensures { Put out.old 0
         (file_or_line terms parts.now tasks.now (length out.old))

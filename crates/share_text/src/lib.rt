@@ -15,6 +15,7 @@ mod tables; // tables.rt: the numbers of each kind
 pub const LONGEST_TEXT: usize = 65536; // in bytes
 
 // The granule, and how many numbers each table has.
+// (A type of its own: its numbers have another sense than those of others that are equal in form.)
 #[derive(Clone, Copy, PartialEq, Eq)]
 pub struct Numbers {
     pub granule: usize,

@@ -19,6 +19,7 @@ pub fn row_at(text: &[u8], at: usize) -> Result<Row, What>
 }
 
 // Where the next line begins, or the end.
+// (The end, no Option: the definition leaves no text there, and the walk over the lines ends.)
 pub fn next_line(text: &[u8], at: usize) -> usize
     requires { at < length text.now }
     ensures { (at < result) × (result ≤ length text.now)
@@ -32,6 +33,7 @@ pub fn next_line(text: &[u8], at: usize) -> usize
     text.len()
 }
 
+// (A while: each line says where the next one begins.)
 pub fn first_wrong(text: &[u8]) -> Result<(), Expected>
     ensures { result ≡ seen_of text.now }
 {

@@ -11,6 +11,7 @@ use share_line::Row;
 
 // The granule that a line gives, or 1, and how many numbers the partitions and the tasks have: these are put into their
 // tables, as far as there is room.
+// (A while: each line says where the next one begins.)
 pub fn gather(text: &[u8], parts: &mut [u16], tasks: &mut [u16]) -> Numbers
     requires { length text.now ≤ longest_text }
     ensures { (result ≡ numbers_of text.now)

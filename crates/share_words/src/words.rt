@@ -32,6 +32,7 @@ pub fn find<S: Fn(u8) -> bool>(l: &[u8], stops: S) -> usize
 }
 
 // How long the word is that a line begins with.
+// (0 is a length, that of no word: no Option.)
 fn width(l: &[u8]) -> usize
     ensures { (result ≤ length l.now) × (result ≡ width l.now) }
 {

@@ -24,6 +24,7 @@ pub struct Taken {
 
 // Reads until `buf` is full, the input ends or a read fails, in pieces of any sizes, and puts the bytes at the start of `buf`:
 // the first ones of what was left of the input. Where no read failed, those are all, or as many as there is room for.
+// (A while: each turn reads as many bytes as come.)
 pub fn read_full<R: Read>(input: &mut R, buf: &mut [u8]) -> Taken
     ensures bound { result.count ≤ length buf.new }
     ensures bytes { Consumes (R.remaining input.old) (R.remaining input.new) (take result.count buf.new) }
@@ -55,6 +56,7 @@ pub fn read_full<R: Read>(input: &mut R, buf: &mut [u8]) -> Taken
 }
 
 // Writes the answer, or says on standard error that it could not. The answer is whether it was written whole.
+// (A bool: a failure is said at once, and no error is left to hand on.)
 pub fn write_or_say<W: Write, E: Write>(output: &mut W, said: &mut E, answer: &[u8]) -> bool
     ensures { result ≡ true → Appends (W.contents output.old) (W.contents output.new) answer.now }
 {

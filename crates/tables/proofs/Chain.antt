@@ -14,30 +14,15 @@ use Rattle.rules.specs.Walk.{pick, first, fails, Every}
 use Rattle.rules.specs.Terms.{good_edition, good_granule, granules, filed}
 use Rattle.rules.specs.declared.Terms.{Terms}
 use Rattle.rules.specs.Table.{partitions, cycle, num, den, tasks, good_share, good_part, good_task}
-use Rattle.tables.specs.Inner.{first_bad_part, first_bad_task, first_bad_tick, Lowest}
-use Rattle.tables.specs.Tables.{counted_in, within_limits, lowest, unless, edition_judged, granule_judged, records_judged, in_edition, tables_of, ticks_judged, GoodTables}
+use Rattle.tables.specs.Inner.{first_bad_part, first_bad_task, Lowest}
+use Rattle.tables.specs.Tables.{counted_in, within_limits, lowest, unless, edition_judged, granule_judged, records_judged, in_edition, tables_of, GoodTables}
 use Rattle.rules.specs.declared.Refusal.{Refusal}
-use Rattle.rules.specs.declared.Refusal.TheVariants.{Edition, Limits, Granule, Partition, Task, Tick}
+use Rattle.rules.specs.declared.Refusal.TheVariants.{Edition, Limits, Granule, Partition, Task}
 use Rattle.std.specs.Prelude.{Result, Ok, Err, MatchResult, IsErrAnd}
-use Rattle.rules.proofs.First.{first_found, first_done, first_at, first-before, first-none, every_first, first_every}
+use Rattle.rules.proofs.First.{first_found, first_at, first-before, first-none, every_first, first_every}
 use Rattle.rules.proofs.Tests.{pick_first, pick_second, and_parts, good_share_lem}
 
 -- ---- the limits
-
--- their order: the frame, the partitions, the tasks; r, q and u are the tests' results
-module _ (frame p t : ℕ) (r : Bool) (e : r ≡ counted_in 1 longest 1 frame) where
-  pub limits-frame : not r ≡ true → false ≡ within_limits frame p t
-  unfolding within_limits
-  limits-frame n = rw (← e, not-true r n)
-
-  module _ (q : Bool) (h : q ≡ counted_in 1 most_partitions part_width p) where
-    pub limits-parts : not r ≡ false → not q ≡ true → false ≡ within_limits frame p t
-    unfolding within_limits
-    limits-parts y n = rw (← e, not-false r y, ← h, not-true q n)
-
-    pub limits-tasks : (u : Bool) → not r ≡ false → not q ≡ false → u ≡ counted_in 0 most_tasks task_width t → u ≡ within_limits frame p t
-    unfolding within_limits
-    limits-tasks u y z w = rw (← e, not-false r y, ← h, not-false q z) w
 
 pub counted-parts : (low high width n : ℕ) → counted_in low high width n ≡ true → (n % width ≡ 0) × (low ≤ n / width) × (n / width ≤ high)
 unfolding counted_in
@@ -160,12 +145,9 @@ module _ (refusal : ℕ → Refusal) (good : ℕ → Bool) (n : ℕ) where
       let w = pick_second b (refused at_first) next z other (sym (found_then b refused at_first next) ∙ e) in
       (first_every good n (ltb-false _ _ w.0), w.1)
 
-  -- a loop's find and its end
+  -- a loop's find
   pub lowest-found : (k : ℕ) → k < n → first (fails good) k ≡ k → fails good k ≡ true → Err (refusal (k + 1)) ≡ lowest refusal good n
   lowest-found k l e h = rw (first_found (fails good) n k l e h, lt-ltb k n l)
-
-  pub lowest_end : (k : ℕ) → k ≤ n → n ≤ k → first (fails good) k ≡ k → (Ok tt) ≡ lowest refusal good n
-  lowest_end k h l e = rw (first_done (fails good) n k h l e, le-ltb n n (omega arith))
 
   -- a refusal is that of the first which isn't good: it fails, and each one before it passes
   pub lowest_at : (r : Refusal) → lowest refusal good n ≡ Err r
@@ -195,14 +177,6 @@ lowest-told refusal good n (Err place) {z = Ok u} (k, p, l, f, h) e answers tell
 lowest-told refusal good n (Err place) {z = Err r} (k, p, l, f, h) e answers tells =
     let w : first (fails good) k ≡ k = first-none (fails good) k (λ j m. ap not (sym (answers j true (h j m)))) in
     let q : r ≡ refusal (k + 1) = tells place r e ∙ ap refusal p in ap Err q ∙ lowest-found refusal good n k l w (ap not (sym (answers k false f)))
-
--- 8 of a plan's ticks
-module _ (plan ps : List ℕ) (t : ℕ) (et : t ≡ first_bad_tick (partitions ps) plan) where
-  pub ticks_8 : t < length plan → Err (Tick (t + 1)) ≡ ticks_judged plan ps
-  ticks_8 h = rw (← et, lt-ltb t (length plan) h)
-
-  pub ticks-good : length plan ≤ t → (Ok tt) ≡ ticks_judged plan ps
-  ticks-good h = rw (← et, le-ltb t (length plan) h)
 
 module _ (terms : Terms) (frame : ℕ) (ps ts : List ℕ) where
   abbrev within_all : Bool

@@ -17,32 +17,26 @@ use rules::records::{
 };
 use rules::{Refusal, Terms};
 
+#[tactic(auto, unfolding(crate::specs::Tables::counted_in))]
 pub fn counted_in(low: usize, high: usize, width: usize, numbers: usize) -> bool
     requires { 0 < width }
     ensures { result ≡ counted_in low high width numbers }
 {
-    if numbers % width != 0 {
-        return false;
-    }
-    if numbers / width < low {
-        return false;
-    }
-    numbers / width <= high
+    numbers % width == 0 && low <= numbers / width && numbers / width <= high
 }
 
 // Whether a frame and tables of so many numbers keep the limits.
+#[tactic(auto, unfolding(crate::specs::Tables::within_limits))]
 pub fn within_limits(frame: usize, parts: usize, tasks: usize) -> bool
     ensures { result ≡ within_limits frame parts tasks }
 {
-    if !counted_in(1, LONGEST, 1, frame) {
-        return false;
-    }
-    if !counted_in(1, MOST_PARTITIONS, PART_WIDTH, parts) {
-        return false;
-    }
-    counted_in(0, MOST_TASKS, TASK_WIDTH, tasks)
+    counted_in(1, LONGEST, 1, frame)
+        && counted_in(1, MOST_PARTITIONS, PART_WIDTH, parts)
+        && counted_in(0, MOST_TASKS, TASK_WIDTH, tasks)
 }
 
+// (Apart from rules' `good_edition`, as said there.)
+#[tactic(auto, unfolding(rules::specs::Terms::good_granule))]
 pub fn good_granule(granule: usize) -> bool
     ensures { result ≡ good_granule granule }
 {
@@ -52,43 +46,18 @@ pub fn good_granule(granule: usize) -> bool
     granule <= MOST_GRANULE
 }
 
+#[tactic(auto, unfolding(rules::specs::Table::good_share))]
 pub fn good_share(limit: usize, m: u16, num: u16, den: u16) -> bool
     ensures { result ≡ good_share limit m num den }
 {
-    if m < 1 {
-        return false;
-    }
-    if limit < (m as usize) {
-        return false;
-    }
-    if num < 1 {
-        return false;
-    }
-    if den < num {
-        return false;
-    }
-    den <= FINEST_SHARE
+    1 <= m && usize::from(m) <= limit && 1 <= num && num <= den && den <= FINEST_SHARE
 }
 
+#[tactic(auto, unfolding(rules::specs::Table::good_times))]
 pub fn good_times(parts: usize, p: u16, c: u16, d: u16, t: u16) -> bool
     ensures { result ≡ good_times parts p c d t }
 {
-    if p < 1 {
-        return false;
-    }
-    if parts < (p as usize) {
-        return false;
-    }
-    if c < 1 {
-        return false;
-    }
-    if d < c {
-        return false;
-    }
-    if t < d {
-        return false;
-    }
-    t <= LONGEST_PERIOD
+    1 <= p && usize::from(p) <= parts && 1 <= c && c <= d && d <= t && t <= LONGEST_PERIOD
 }
 
 fn good_part(parts: &[u16], limit: usize, k: usize) -> bool

@@ -15,6 +15,7 @@ use task_plain::tick_in;
 use task_points::point_in;
 
 // Where a task passes: its scheduling point and its tick. (No deadline is longer than 16 bits say; so a listing's stack stays.)
+// (A type of its own: its numbers have another sense than those of others that are equal in form.)
 #[derive(Clone, Copy)]
 pub struct Times {
     pub point: u16,
@@ -22,6 +23,7 @@ pub struct Times {
 }
 
 // The deadline of task j, where it is of partition p, else 0.
+// (0, no Option, here and in `longest_deadline`: the definitions have it, and no good task has that deadline.)
 fn deadline_in(table: &[u16], p: u16, j: usize) -> usize
     ensures { result ≡ deadline_in table.now p j }
 {

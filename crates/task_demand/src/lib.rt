@@ -22,6 +22,7 @@ pub struct TaskLists<'a> {
 }
 
 // A number added to those from b to e - 1.
+// (`as`: the number fits, and a TryFrom would bring a refusal that can't come.)
 fn add_row(asks: &mut [u32], b: usize, e: usize, all: usize)
     requires { (b ≤ e) × (e ≤ length asks.old) × (all < 2 ^ 31) × SmallFrom b asks.old }
     ensures { Added all b e asks.old asks.new }
@@ -92,6 +93,7 @@ pub fn draw_task(
 }
 
 // Whether demand(t) is at most least(t), of a task with budget c.
+// (`as`: usize has no From<u32>.)
 pub fn fits(lists: &TaskLists<'_>, c: u16, t: usize) -> bool
     requires { (t < length lists.now.curve.now) × (t < length lists.now.asks.now) }
     ensures { result ≡ fits_at lists.now.curve.now lists.now.asks.now c t }

@@ -47,6 +47,7 @@ fn points_in(lists: &TaskLists<'_>, d: u16) -> usize
 }
 
 // By the lists: what is short at t, of a task with budget c.
+// (`as`, here and in `put_point`: usize has no From<u32>.)
 fn short_in(lists: &TaskLists<'_>, c: u16, t: usize) -> usize
     requires { (t < length lists.now.curve.now) × (t < length lists.now.asks.now) }
     ensures { result ≡ short_in lists.now.curve.now lists.now.asks.now c t }
@@ -86,6 +87,7 @@ fn tightest_in(lists: &TaskLists<'_>, c: u16, d: u16) -> usize
 }
 
 // A row's four numbers.
+// (`as`: each number fits, and a TryFrom would bring a refusal that can't come.)
 fn put_row(rows: &mut Output<'_, u32>, point: usize, demand: usize, least: usize, start: usize)
     requires { (rows.old.at < 2 ^ 32) × (point < 2 ^ 32) × (demand < 2 ^ 32) × (least < 2 ^ 32) × (start < 2 ^ 32) }
     ensures same_reference { rows.new.lent.ghost_name ≡ rows.old.lent.ghost_name }

@@ -28,10 +28,6 @@ pub at_deadline : (asks : List ℕ) (d t : ℕ) → t ≡ d → true ≡ point_a
 unfolding point_at
 at_deadline asks d t e = rw (eq-eqb t d e)
 
-pub at_multiple : (asks : List ℕ) (d t : ℕ) → ¬ (t ≡ d) → ltb (get_or asks t 0) (get_or asks (t + 1) 0) ≡ point_at asks d t
-unfolding point_at
-at_multiple asks d t h = rw (ne_eqb t d h)
-
 and_true : (b : Bool) → (b && true) ≡ b
 and_true true = refl
 and_true false = refl

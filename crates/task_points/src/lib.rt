@@ -13,14 +13,12 @@ use task_demand::{TICKS, TaskLists, draw_task, earliest, fits};
 
 // Whether t is a scheduling point, of a task with deadline d: t is d itself, or a multiple of a higher task's period. Behind
 // these alone more is asked.
+#[tactic(auto, unfolding(crate::specs::Inner::point_at))]
 pub fn point_at(lists: &TaskLists<'_>, d: usize, t: usize) -> bool
     requires { (t ≤ d) × (d < length lists.now.asks.now) }
     ensures { result ≡ point_at lists.now.asks.now d t }
 {
-    if t == d {
-        return true;
-    }
-    lists.asks[t] < lists.asks[t + 1]
+    t == d || lists.asks[t] < lists.asks[t + 1]
 }
 
 // Whether t is a scheduling point, and holds; few ticks hold, so that is looked at first.
@@ -40,6 +38,7 @@ pub fn point_in(lists: &TaskLists<'_>, c: u16, d: u16) -> Option<usize>
 }
 
 // The smallest scheduling point that holds.
+// (Apart from `first_tick`, as said there.)
 pub fn first_point(rule: Rule, plan: &[u16], tasks: &[u16], i: usize) -> Option<usize>
     requires { Judgeable tasks.now i }
     ensures { result ≡ in_time (deadline tasks.now i) (task_point rule plan.now tasks.now i) }

@@ -76,6 +76,7 @@ pub fn verdict(
 }
 
 // The same by the plain engine, tick by tick.
+// (Apart from `verdict`: C calls both, and each is `judge` with its own engine.)
 pub fn plain(
     terms: Terms,
     plan: &[u16],

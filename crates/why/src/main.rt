@@ -33,6 +33,7 @@ fn why_input(file: &[u8], n: usize, place: usize, out: &mut [u8]) -> usize
 
 // Pages what comes in, in pieces of any sizes, and writes that. The answer is whether no read and no write failed: then the page of
 // the task of all that the input had was written, and nothing else.
+// (A bool: a failed write was said at once, and no error is left to hand on.)
 fn page_all<R: Read, W: Write, E: Write>(
     place: usize,
     input: &mut R,
@@ -57,6 +58,7 @@ fn place_given(rt: &HostRuntime) -> usize {
     why_page::place_asked(streams::word_count(rt), word)
 }
 
+// (Apart from the other programs' `main`: each hands its own streams on.)
 fn main(rt: HostRuntime) {
     let place = place_given(&rt);
     page_all(place, &mut rt.stdin(), &mut rt.stdout(), &mut rt.stderr());

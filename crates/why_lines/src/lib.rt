@@ -12,6 +12,7 @@ use output::Output;
 const COLUMN: usize = 8;
 
 // What a task needs at a tick, and what it can be sure of there.
+// (A type of its own: its numbers have another sense than those of others that are equal in form.)
 #[derive(Clone, Copy)]
 pub struct Size {
     pub tick: usize,
@@ -20,6 +21,7 @@ pub struct Size {
 }
 
 // How many digits a number has.
+// (`as`: usize has no From<u32>.)
 fn digits(n: usize) -> usize
     ensures { result ≡ length (decimal n) }
 {
@@ -52,6 +54,7 @@ fn put_task(out: &mut Output<'_, u8>, place: usize, partition: usize, verdict: &
     out.put_all(verdict);
 }
 
+// (Apart from `put_fails`: each promises its own line, and is one line over `put_task`.)
 #[tactic(auto, unfolding(crate::specs::Lines::passes_line))]
 pub fn put_passes(out: &mut Output<'_, u8>, place: usize, partition: usize)
     requires { out.old.at < 2 ^ 40 }
@@ -108,6 +111,7 @@ fn put_window(out: &mut Output<'_, u8>, start: usize, point: usize)
 }
 
 // How a point's line ends.
+// (A bool: a fact of the line, no switch of steps.)
 fn mark(tightest: bool) -> &'static [u8]
     ensures { (result.now ≡ mark tightest) × (length result.now < 2 ^ 5) }
 {

@@ -23,7 +23,7 @@ use why_lines::Size;
 // A page's numbers, at most: a row for each tick up to the longest deadline.
 const MOST_NUMBERS: usize = ROW_WIDTH * LONGEST;
 
-// The line of a row.
+// The line of a row. (`as`, here and in `size_at`: usize has no From<u32>.)
 #[tactic(auto, using(crate::proofs::Lines::line_is))]
 fn put_line(out: &mut Output<'_, u8>, rows: &[u32], k: usize, tightest: usize)
     requires { (k < longest) × (out.old.at < 2 ^ 40) × (length rows.now ≡ most_numbers) }
@@ -40,7 +40,7 @@ fn put_line(out: &mut Output<'_, u8>, rows: &[u32], k: usize, tightest: usize)
     why_lines::put_row(out, tightest, size, rows[row + 3] as usize);
 }
 
-// The lines of the first n rows.
+// The lines of the first n rows. (Apart from file_page's `put_parts`, as said there.)
 fn put_lines(out: &mut Output<'_, u8>, rows: &[u32], n: usize, tightest: usize)
     requires { (n ≤ longest) × (out.old.at < 2 ^ 33) × (length rows.now ≡ most_numbers) }
     ensures same_reference { out.new.lent.ghost_name ≡ out.old.lent.ghost_name }
@@ -54,7 +54,7 @@ fn put_lines(out: &mut Output<'_, u8>, rows: &[u32], n: usize, tightest: usize)
     }
 }
 
-// A task of an accepted file: the file's edition, its plan and tables, and the task's place in them, from 1.
+// A task of an accepted file: its edition (the number that the file gives), plan and tables, and the task's place, from 1.
 #[derive(Clone, Copy)]
 struct Task<'a> {
     edition: usize,
@@ -157,7 +157,7 @@ fn put_failing(out: &mut Output<'_, u8>, task: Task<'_>, rows: &[u32], n: usize,
     put_short(out, task, tightest);
 }
 
-// What the page says of the task, as text; a fail left its rows.
+// What the page says of the task, as text; a fail left its rows. (A struct for `rows`, `n`, `tightest` would be made once.)
 #[tactic(auto, unfolding(crate::specs::Why::tables_text))]
 fn put_paged(out: &mut Output<'_, u8>, task: Task<'_>, rows: &[u32], paged: Paged)
     requires { PagedSo task.edition task.plan.now task.parts.now task.table.now task.place rows.now (Ok paged)
