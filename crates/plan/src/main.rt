@@ -20,7 +20,7 @@ const READ: usize = LONGEST_TEXT + 1;
 
 // Of whatever came in, t, `text` has the first n bytes: all of it, or as many as there is room for.
 // Then what is answered to t is put at the start of `out`, which has room for any file; the result is its length.
-// (An edition stays a number down to `edition_given`, with 0 for none: the planner refuses with 2 what is no edition.)
+// (An edition stays a number: the planner refuses with 2 what is no edition.)
 fn plan_input(edition: usize, text: &[u8], n: usize, out: &mut [u8]) -> usize
     requires { (n ≤ length text.now)
         × (longest_text < length text.now)
@@ -52,11 +52,11 @@ fn plan_all<R: Read, W: Write, E: Write>(
     written && !taken.failed
 }
 
-// The edition that the program was started with; 0, which is no edition, where it was started with none that is one.
+// The edition that the program was started with.
 fn edition_given(rt: &HostRuntime) -> usize {
     let mut word = [0u8; WORD];
     let word = streams::word(rt, 1, &mut word).unwrap_or(&[]);
-    share_plan::edition_asked(streams::word_count(rt), word).unwrap_or(0)
+    share_plan::edition_asked(streams::word_count(rt), word)
 }
 
 // (Apart from the other programs' `main`: each hands its own streams on.)

@@ -1,5 +1,5 @@
 -- What the program writes for a share table: the plan file, or one line. Assumes nothing.
-use Rattle.std.specs.Prelude.{ℕ, ◌*◌, List, ◌++◌, eqb, length, Option, Some, None, Result, Ok, Err}
+use Rattle.std.specs.Prelude.{ℕ, ◌*◌, List, ◌++◌, eqb, length, unwrap_or, Result, Ok, Err}
 use Rattle.rules.specs.Walk.{pick}
 use Rattle.output.specs.Put.{Put}
 use Rattle.rules.specs.Limits.{most_partitions, most_tasks, longest, part_width, task_width}
@@ -80,6 +80,10 @@ answer_of e t room =
 abbrev pub Plans : ℕ → List ℕ → List ℕ → List ℕ → ℕ → Type 0
 Plans e t out o r = Put out 0 (answer_of e t (length out)) r o
 
--- the edition that a program is asked for, of so many words with its own name, w the one behind that: 1 without a word, the number that one word says, else none
-unfoldable pub edition_asked : ℕ → List ℕ → Option ℕ
-edition_asked words w = pick (eqb words 1) (Some 1) (pick (eqb words 2) (numeral w) None)
+-- one more than any number that a word says
+abbrev pub no_number : ℕ
+no_number = 65536
+
+-- the edition that a program is asked for, of so many words with its own name, w the one behind that: 1 without a word, the number that one word says, else none: `no_number` where it says no number, 0 where there are more
+unfoldable pub edition_asked : ℕ → List ℕ → ℕ
+edition_asked words w = pick (eqb words 1) 1 (pick (eqb words 2) (unwrap_or (numeral w) no_number) 0)

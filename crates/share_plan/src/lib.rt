@@ -51,15 +51,19 @@ pub fn plan(edition: usize, text: &[u8], out: &mut [u8]) -> usize
     }
 }
 
-// The edition that a program of so many words, its own name among them, is asked for by the one behind its name; none where that
-// word says no number, or where there are more.
+// One more than any number that a word says.
+const NO_NUMBER: usize = u16::MAX as usize + 1;
+
+// The edition that a program of so many words, its own name among them, is asked for by the one behind its name; a number that is
+// no edition where that word says no number, or where there are more.
+// (A number, no Option, as the contract has it: the planner refuses with 2 what is no edition.)
 #[tactic(auto, unfolding(crate::specs::Answer::edition_asked))]
-pub fn edition_asked(words: usize, word: &[u8]) -> Option<usize>
+pub fn edition_asked(words: usize, word: &[u8]) -> usize
     ensures { result ≡ edition_asked words word.now }
 {
     match words {
-        1 => Some(1),
-        2 => share_words::numbers::numeral(word).map(usize::from),
-        _ => None,
+        1 => 1,
+        2 => share_words::numbers::numeral(word).map_or(NO_NUMBER, usize::from),
+        _ => 0,
     }
 }
