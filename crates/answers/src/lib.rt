@@ -14,9 +14,8 @@ ghost use Rattle.answers.specs.Parts.{named_part, part_at, told_range, told_part
 
 use desk::{Ask, Asked, Done};
 use file_read::load::body_of;
-use file_read::{Body, Contents};
+use file_read::{Body, Contents, Stretch};
 use rules::{Refusal, Told};
-use std::ops::Range;
 use task_page::Paged;
 
 // What a call answers where it refuses nothing.
@@ -108,11 +107,11 @@ impl Answer for Contents {
 }
 
 // A part of a file.
-impl Answer for Range<usize> {
+impl Answer for Stretch {
     ghost told = { told_range };
 
     fn tell(self) -> Told {
-        told(self.start, self.end)
+        told(self.offset, self.end)
     }
 }
 
@@ -151,13 +150,13 @@ fn named_part(which: usize) -> Option<Body>
 }
 
 // Where that part lies in an accepted file; the empty part where the number stands for none.
-fn part_at(which: usize, contents: Contents) -> Range<usize>
+fn part_at(which: usize, contents: Contents) -> Stretch
     requires { Few contents }
     ensures { result ≡ part_at which contents }
 {
     match named_part(which) {
         Some(body) => body_of(contents, body),
-        None => 0..0,
+        None => Stretch { offset: 0, end: 0 },
     }
 }
 

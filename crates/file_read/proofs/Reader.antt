@@ -26,7 +26,7 @@ use Rattle.file_tables.proofs.Chain.{GoodFile, counted-runs, of_good, follows}
 use Rattle.file_read.specs.declared.Contents.{Contents}
 use Rattle.file_read.specs.declared.Body.{Body}
 use Rattle.file_read.specs.declared.Body.TheVariants.{Partitions, Tasks, Runs}
-use Rattle.std.specs.declared.ops.Range.{Range}
+use Rattle.file_read.specs.declared.Stretch.{Stretch}
 use Rattle.file_read.specs.Reader.{body_of, body_at, table_by, counts_of, head_number, contents_of, judged_by, read_of}
 use Rattle.file_read.specs.Inner.{Few, counts_right, offsets_right, start_of, end_of, Inside, front, loaded_by}
 
@@ -174,14 +174,14 @@ module _ (b : List ℕ) (c : Contents) (long : length b ≡ size_of (part_width 
 loaded : (body t o : List ℕ) → o ≡ over (nums_of body) (min (length t) (length body / number_bytes)) t → o ≡ front (nums_of body) t
 loaded body t o e = rw (nums_of_length body) e
 
-pub loaded_body : (b : List ℕ) (c : Contents) (which : Body) (s : Range ℕ) (t o : List ℕ) → s ≡ body_of c which
-    → o ≡ over (nums_of (part b s.start s.end)) (min (length t) (length (part b s.start s.end) / number_bytes)) t
+pub loaded_body : (b : List ℕ) (c : Contents) (which : Body) (s : Stretch) (t o : List ℕ) → s ≡ body_of c which
+    → o ≡ over (nums_of (part b s.offset s.end)) (min (length t) (length (part b s.offset s.end) / number_bytes)) t
     → o ≡ front (table_by (Ok c) b which) t
 unfolding table_by
 loaded_body b c which s t o e h =
-    let ea : s.start ≡ start_of c which = ap (λ (x : Range ℕ). x.start) e in
-    let eb : s.end ≡ end_of c which = ap (λ (x : Range ℕ). x.end) e in
-    rw (← ea, ← eb) (loaded (part b s.start s.end) t o h)
+    let ea : s.offset ≡ start_of c which = ap (λ (x : Stretch). x.offset) e in
+    let eb : s.end ≡ end_of c which = ap (λ (x : Stretch). x.end) e in
+    rw (← ea, ← eb) (loaded (part b s.offset s.end) t o h)
 
 -- of a file without contents there is none
 pub none_loaded : (b : List ℕ) (x : Refusal) (which : Body) (t : List ℕ) → t ≡ front (table_by (Err x) b which) t
@@ -247,10 +247,10 @@ few-read b = step (read_of b) refl
     step (Err x) e = tt
     step (Ok c) e = few b c (accepted b c e).contents
 
-pub inside-read : (b : List ℕ) (which : Body) → ((body_at (read_of b) which).start ≤ (body_at (read_of b) which).end) × ((body_at (read_of b) which).end ≤ length b)
+pub inside-read : (b : List ℕ) (which : Body) → ((body_at (read_of b) which).offset ≤ (body_at (read_of b) which).end) × ((body_at (read_of b) which).end ≤ length b)
 inside-read b which = step (read_of b) refl
   where
-    step : (k : Result Contents Refusal) → read_of b ≡ k → ((body_at k which).start ≤ (body_at k which).end) × ((body_at k which).end ≤ length b)
+    step : (k : Result Contents Refusal) → read_of b ≡ k → ((body_at k which).offset ≤ (body_at k which).end) × ((body_at k which).end ≤ length b)
     step (Err x) e = (omega arith, omega arith)
     step (Ok c) e = let i = inside b c (accepted b c e).contents which in (i.in_order, i.in_file)
 

@@ -25,7 +25,7 @@ offsets_right po to ro np nt = eqb po head_bytes && eqb to (tasks_at (part_width
 
 -- where a body starts and ends
 abbrev pub start_of : Contents → Body → ℕ
-start_of c which = (body_of c which).start
+start_of c which = (body_of c which).offset
 
 abbrev pub end_of : Contents → Body → ℕ
 end_of c which = (body_of c which).end

@@ -14,23 +14,23 @@ use Rattle.file_codec.specs.Contents.{tasks_at, runs_at, size_of}
 use Rattle.file_read.specs.declared.Contents.{Contents}
 use Rattle.file_read.specs.declared.Body.{Body}
 use Rattle.file_read.specs.declared.Body.TheVariants.{Partitions, Tasks, Runs}
-use Rattle.std.specs.declared.ops.Range.{Range}
+use Rattle.file_read.specs.declared.Stretch.{Stretch}
 
 -- where a body lies in a file with these contents
-abbrev pub body_of : Contents → Body → Range ℕ
-body_of c Partitions = record { start = head_bytes; end = tasks_at (part_width * c.partitions) }
-body_of c Tasks = record { start = tasks_at (part_width * c.partitions); end = runs_at (part_width * c.partitions) (task_width * c.tasks) }
+abbrev pub body_of : Contents → Body → Stretch
+body_of c Partitions = record { offset = head_bytes; end = tasks_at (part_width * c.partitions) }
+body_of c Tasks = record { offset = tasks_at (part_width * c.partitions); end = runs_at (part_width * c.partitions) (task_width * c.tasks) }
 body_of c Runs =
-    record { start = runs_at (part_width * c.partitions) (task_width * c.tasks); end = size_of (part_width * c.partitions) (task_width * c.tasks) (run_width * c.runs) }
+    record { offset = runs_at (part_width * c.partitions) (task_width * c.tasks); end = size_of (part_width * c.partitions) (task_width * c.tasks) (run_width * c.runs) }
 
 -- the same of what is read; nowhere in a refused file
-abbrev pub body_at : Result Contents Refusal → Body → Range ℕ
+abbrev pub body_at : Result Contents Refusal → Body → Stretch
 body_at (Ok c) which = body_of c which
-body_at (Err x) which = record { start = 0; end = 0 }
+body_at (Err x) which = record { offset = 0; end = 0 }
 
 -- a body as a table of numbers
 unfoldable pub table_by : Result Contents Refusal → List ℕ → Body → List ℕ
-table_by c b which = nums_of (part b (body_at c which).start (body_at c which).end)
+table_by c b which = nums_of (part b (body_at c which).offset (body_at c which).end)
 
 -- 3 to 5, of a file of edition e and so many bytes: a frame, then offset and count of each body. "Partitions 1 to 16, tasks 0 to 128,
 -- frame 1 to 4,096 ticks, runs 1 to 4,096", by the counts; "Bodies from byte 16 in that order, no gaps."
@@ -74,7 +74,7 @@ told_reading = told_by told_contents
 
 -- "The reader hands back each body as a part of the file itself."
 unfoldable pub section_of : List ℕ → Body → List ℕ
-section_of b which = part b (body_at (read_of b) which).start (body_at (read_of b) which).end
+section_of b which = part b (body_at (read_of b) which).offset (body_at (read_of b) which).end
 
 -- the part r that is handed back
 abbrev pub HandsBack : List ℕ → Body → List ℕ → Type 0

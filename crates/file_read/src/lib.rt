@@ -22,6 +22,14 @@ pub struct Contents {
     pub runs: usize,
 }
 
+// Where a body lies in a file: its first byte, and the one behind its last.
+// (A type of its own, no Range: it is copied, as a Range is not.)
+#[derive(Clone, Copy)]
+pub struct Stretch {
+    pub offset: usize,
+    pub end: usize,
+}
+
 // One of a file's three tables. (The definitions speak of it; it says where a table lies and chooses no step.)
 #[derive(Clone, Copy)]
 pub enum Body {
@@ -44,5 +52,5 @@ pub fn section(file: &[u8], which: Body) -> &[u8]
     ensures { HandsBack file.now which result.now }
 {
     let part = body_at(read(file), which);
-    &file[part.start..part.end]
+    &file[part.offset..part.end]
 }

@@ -5,13 +5,12 @@ ghost use Rattle.file_read.specs.Reader.{body_of, body_at, table_by, contents_of
 ghost use Rattle.file_read.specs.Inner.{Few, Inside, front, loaded_by};
 
 use crate::head::contents;
-use crate::{Body, Contents};
+use crate::{Body, Contents, Stretch};
 use rules::Refusal;
 use rules::limits::{HEAD_BYTES, NUMBER_BYTES, PART_WIDTH, RUN_WIDTH, TASK_WIDTH};
-use std::ops::Range;
 
 // Where a body lies in a file with these contents.
-pub fn body_of(c: Contents, which: Body) -> Range<usize>
+pub fn body_of(c: Contents, which: Body) -> Stretch
     requires { Few c }
     ensures { result ≡ body_of c which }
 {
@@ -19,20 +18,29 @@ pub fn body_of(c: Contents, which: Body) -> Range<usize>
     let runs_at = tasks_at + NUMBER_BYTES * (TASK_WIDTH * c.tasks);
     let end = runs_at + NUMBER_BYTES * (RUN_WIDTH * c.runs);
     match which {
-        Body::Partitions => HEAD_BYTES..tasks_at,
-        Body::Tasks => tasks_at..runs_at,
-        Body::Runs => runs_at..end,
+        Body::Partitions => Stretch {
+            offset: HEAD_BYTES,
+            end: tasks_at,
+        },
+        Body::Tasks => Stretch {
+            offset: tasks_at,
+            end: runs_at,
+        },
+        Body::Runs => Stretch {
+            offset: runs_at,
+            end,
+        },
     }
 }
 
-// The same of what is read. Of a refused file it is the empty range at 0.
-pub fn body_at(read: Result<Contents, Refusal>, which: Body) -> Range<usize>
+// The same of what is read. Of a refused file it is the empty part at 0.
+pub fn body_at(read: Result<Contents, Refusal>, which: Body) -> Stretch
     requires { IfOk read Few }
     ensures { result ≡ body_at read which }
 {
     match read {
         Ok(contents) => body_of(contents, which),
-        Err(_) => 0..0,
+        Err(_) => Stretch { offset: 0, end: 0 },
     }
 }
 
@@ -44,7 +52,7 @@ fn load_body(file: &[u8], c: Contents, which: Body, table: &mut [u16])
     ensures { table.new ≡ front (table_by (Ok c) file.now which) table.old }
 {
     let part = body_of(c, which);
-    file_codec::load(&file[part.start..part.end], table);
+    file_codec::load(&file[part.offset..part.end], table);
 }
 
 // What is read, where the tables of these contents are loaded.

@@ -1,6 +1,6 @@
 // The record that a line says, or what was expected in it first.
-ghost use Rattle.std.specs.Prelude.{◌≡◌};
-ghost use Rattle.share_line.specs.Rows.{granule_row, part_row, task_row, record_of, row_of};
+ghost use Rattle.std.specs.Prelude.{◌≡◌, ◌||◌};
+ghost use Rattle.share_line.specs.Rows.{granule_row, part_row, task_row, record_of, row_of, closes, is_wrong, what_of};
 ghost use Rattle.share_line.specs.Inner.{BeginsWithNumber, BeginsWithSlash, Ends, Judged};
 
 use crate::{Row, What};
@@ -103,15 +103,45 @@ pub fn row_of(line: &[u8]) -> Result<Row, What>
     record_of(&line[..e])
 }
 
-// What was expected in a row that is wrong behind others; else whether a granule comes too late behind it: so it was before it,
-// or the row closes it.
-// (`closed` is a bool: a fact that goes along from row to row, no switch of steps.)
-pub fn closed_behind(closed: bool, row: Result<Row, What>) -> Result<bool, What>
+// Whether a granule comes too late behind this row: so it was before it, or the row closes it.
+// (`closed` is a bool, here and below: a fact that goes along from row to row, no switch of steps.)
+pub fn closed_behind(closed: bool, row: Result<Row, What>) -> bool
+    ensures { result ≡ closes row || closed }
+{
+    match row {
+        Ok(Row::Granule(_)) | Ok(Row::Partition { .. }) => true,
+        Ok(Row::Nothing) | Ok(Row::Task { .. }) | Err(_) => closed,
+    }
+}
+
+// Whether a row can't be read, or gives the granule behind one that closes it.
+pub fn is_wrong(closed: bool, row: Result<Row, What>) -> bool
+    ensures { result ≡ is_wrong closed row }
+{
+    match row {
+        Ok(Row::Granule(_)) => closed,
+        Ok(_) => false,
+        Err(_) => true,
+    }
+}
+
+// What was expected in a wrong row.
+pub fn what_of(row: Result<Row, What>) -> What
+    ensures { result ≡ what_of row }
+{
+    match row {
+        Ok(Row::Granule(_)) => What::EarlyGranule,
+        Ok(_) => What::End,
+        Err(what) => what,
+    }
+}
+
+// A row behind others: whether a granule comes too late behind it, or what was expected in it, where it is wrong.
+pub fn judged(closed: bool, row: Result<Row, What>) -> Result<bool, What>
     ensures { Judged closed row result }
 {
-    match row? {
-        Row::Granule(_) if closed => Err(What::EarlyGranule),
-        Row::Granule(_) | Row::Partition { .. } => Ok(true),
-        Row::Nothing | Row::Task { .. } => Ok(closed),
+    if is_wrong(closed, row) {
+        return Err(what_of(row));
     }
+    Ok(closed_behind(closed, row))
 }

@@ -4,7 +4,7 @@ ghost use Rattle.share_line.specs.Rows.{row_of};
 ghost use Rattle.share_text.specs.Table.{line_of, after_line, seen_of};
 
 use crate::Expected;
-use share_line::rows::{closed_behind, row_of};
+use share_line::rows::{judged, row_of};
 use share_line::{Row, What};
 use share_words::words::find;
 
@@ -42,7 +42,7 @@ pub fn first_wrong(text: &[u8]) -> Result<(), Expected>
     let mut line = 1;
     while at < text.len() {
         let row = row_at(text, at);
-        closed = closed_behind(closed, row).map_err(|what| Expected { line, what })?;
+        closed = judged(closed, row).map_err(|what| Expected { line, what })?;
         at = next_line(text, at);
         line += 1;
     }

@@ -9,14 +9,20 @@ ghost use Rattle.task_demand.specs.Inner.{Judgeable, in_time};
 ghost use Rattle.task_plain.specs.Inner.{tick_fits};
 
 use rules::Rule;
-use task_demand::{TICKS, TaskLists, draw_task, earliest, fits};
+use task_demand::{TICKS, TaskLists, draw_task, fits};
 
 // By the lists: the smallest tick that holds, of a task with budget c and deadline d.
+// (A loop of its own, apart from `earliest`: this engine is there to be held against the other.)
 pub fn tick_in(lists: &TaskLists<'_>, c: u16, d: u16) -> Option<usize>
     requires { (d < length lists.now.curve.now) × (d < length lists.now.asks.now) }
     ensures { result ≡ in_time d (first (tick_fits lists.now.curve.now lists.now.asks.now c) (d + 1)) }
 {
-    earliest(d, |t| fits(lists, c, t))
+    for t in 1..usize::from(d) + 1 {
+        if fits(lists, c, t) {
+            return Some(t);
+        }
+    }
+    None
 }
 
 // The smallest tick that holds. (Apart from `first_point`: one function over both would take the search as a closure over two

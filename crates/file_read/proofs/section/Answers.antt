@@ -13,7 +13,7 @@ pub slice_bounds-result-end : goal.slice_bounds-result-end
 slice_bounds-result-end c =
     let z = inside-read c.args.file.now c.args.which in
     let e : c.body_at-part.result ≡ body_at (read_of c.args.file.now) c.args.which = rw c.read.ensures at c.body_at-part.ensures in
-    let a : c.body_at-part.result.start ≤ c.body_at-part.result.end = rw e z.0 in
+    let a : c.body_at-part.result.offset ≤ c.body_at-part.result.end = rw e z.0 in
     let b : c.body_at-part.result.end ≤ length c.args.file.now = rw e z.1 in
     search rules
 
