@@ -24,13 +24,14 @@ use Rattle.task_demand.specs.Inner.{all_asked, Judgeable, Drawn}
 use Rattle.task_demand.proofs.Lists.{in_order}
 use Rattle.theory.specs.Task.{task_load, task_point, task_tick}
 use Rattle.theory.proofs.Points.{tick_at_most_point}
+use Rattle.theory.proofs.Tasks.{points_enough, ticks_exactly}
 use Rattle.task_demand.specs.Inner.{in_time}
 use Rattle.task_points.specs.Inner.{point_fits}
 use Rattle.task_points.proofs.Points.{point_is}
 use Rattle.task_plain.specs.Inner.{tick_fits}
 use Rattle.task_plain.proofs.Ticks.{tick_is}
 use Rattle.task_all.specs.declared.Times.{Times}
-use Rattle.task_all.specs.Inner.{deadline_in, both, times_by, times_at, times_of, FoundAs, marked, judged_in, JudgedIn, JudgeableAll}
+use Rattle.task_all.specs.Inner.{deadline_in, both, times_by, times_at, times_of, FoundAs, marked, judged_in, JudgedIn, JudgeableAll, NoTick}
 
 -- ---- a pass over the answers
 
@@ -224,6 +225,21 @@ module _ (ts : List ℕ) (found : ℕ → Option Times) where
     upto_all p before after l m w =
         let e : p ≡ parts = omega arith in
         found_as _ _ (tasks ts) before after (λ j h. rw (e, le-leb (partition ts j) parts (in_table j h).1)) w
+
+-- where nothing is found the task fails, so that no tick holds either
+pub no_tick_of : (rule : Rule) (plan ts : List ℕ) (parts : ℕ) → Every (good_task parts ts) (tasks ts) → (before after : List (Option Times)) → FoundAs (times_of rule plan ts) (tasks ts) before after
+    → NoTick rule plan ts after
+unfolding times_of times_at
+no_tick_of rule plan ts parts good before after w j l e = go (le-or-lt (task_tick rule plan ts j) (deadline ts j))
+  where
+    go : (task_tick rule plan ts j ≤ deadline ts j) ⊎ (deadline ts j < task_tick rule plan ts j) → deadline ts j < task_tick rule plan ts j
+    go (inr h) = h
+    go (inl h) =
+        let p = (points_enough rule plan ts parts good j l).0 ((ticks_exactly rule plan ts j).1 h) in
+        let f = w.done j l in
+        let q : ◌≡◌ {A = Option Times} (Some (record { point = task_point rule plan ts j; tick = task_tick rule plan ts j })) None = sym (rw (le-leb (task_point rule plan ts j) (deadline ts j) p) at f) ∙ e in
+        let z : ◌≡◌ {A = ℕ} 0 1 = cc in
+        absurd (omega arith)
 
 pub all-judgeable : (ts : List ℕ) (parts : ℕ) → tasks ts ≤ most_tasks → Every (good_task parts ts) (tasks ts) → JudgeableAll ts
 all-judgeable ts parts few good = record { few = few; in_order = λ j l. in_order ts parts j (good j l) }

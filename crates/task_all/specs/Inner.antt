@@ -46,6 +46,10 @@ pub record FoundAs (o : ℕ → Option Times) (h : ℕ) (before after : List (Op
   pub done : (j : ℕ) → j < h → get_or after j None ≡ o j
   pub rest : (j : ℕ) → h ≤ j → get_or after j None ≡ get_or before j None
 
+-- of a task for which nothing is found no tick up to its deadline holds either
+abbrev pub NoTick : Rule → List ℕ → List ℕ → List (Option Times) → Type 0
+NoTick rule plan ts found = (j : ℕ) → j < tasks ts → get_or found j None ≡ None → deadline ts j < task_tick rule plan ts j
+
 -- v put at place j, where task j is of partition p
 unfoldable pub marked : List ℕ → ℕ → ℕ → Option Times → List (Option Times) → List (Option Times)
 marked ts p j v list = pick (eqb (partition ts j) p) (set list j v) list

@@ -6,7 +6,7 @@ ghost use Rattle.std.specs.Prelude.{◌≡◌, ◌≤◌, ◌<◌, length};
 ghost use Rattle.rules.specs.Limits.{longest, most_tasks};
 ghost use Rattle.rules.specs.Walk.{largest, Every};
 ghost use Rattle.rules.specs.Table.{deadline, tasks, good_task};
-ghost use Rattle.task_all.specs.Inner.{deadline_in, times_by, times_of, marked, FoundAs, JudgedIn, JudgeableAll};
+ghost use Rattle.task_all.specs.Inner.{deadline_in, times_by, times_of, marked, FoundAs, JudgedIn, JudgeableAll, NoTick};
 
 use plan_curve::draw;
 use rules::Rule;
@@ -98,7 +98,8 @@ fn judge_partition(rule: Rule, plan: &[u16], table: &[u16], p: u16, found: &mut 
 pub fn judge_all(rule: Rule, plan: &[u16], table: &[u16], parts: u16, found: &mut [Option<Times>])
     requires { (tasks table.now ≤ most_tasks) × Every (good_task parts table.now) (tasks table.now)
         × (tasks table.now ≤ length found.old) }
-    ensures { FoundAs (times_of rule plan.now table.now) (tasks table.now) found.old found.new }
+    ensures found { FoundAs (times_of rule plan.now table.now) (tasks table.now) found.old found.new }
+    ensures no_tick { NoTick rule plan.now table.now found.new }
 {
     for p in 0..parts {
         judge_partition(rule, plan, table, p + 1, found);

@@ -1,6 +1,6 @@
 use mathlib.Core.Path.{refl, ◌∙◌}
 use native.Mathlib.Omega.{arith}
-use Rattle.task_all.proofs.Marks.{upto_turn, upto-none, upto_all, all-judgeable}
+use Rattle.task_all.proofs.Marks.{upto_turn, upto-none, upto_all, all-judgeable, no_tick_of}
 use borrow.Author.Rules.{rules}
 use Rattle.task_all.proofs.judge_all.Goals as goal
 
@@ -16,4 +16,6 @@ loop-p-preserved c = let l = c.loop-p in
     (e.as_long ∙ l.invariant.0, upto_turn _ _ _ _ _ _ _ l.invariant.1 e)
 
 pub returns : goal.returns
-returns c = upto_all _ _ _ c.requires.1 _ _ _ (search rules) (search rules) c.loop-p.invariant.1
+returns c =
+    let found = upto_all _ _ _ c.requires.1 _ _ _ (search rules) (search rules) c.loop-p.invariant.1 in
+    (found, no_tick_of _ _ _ _ c.requires.1 _ _ found)
