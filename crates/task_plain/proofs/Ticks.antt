@@ -7,15 +7,16 @@ use native.Mathlib.Numerals.{add-one}
 use native.Mathlib.Omega.{arith}
 use lib.Dec.{leb}
 use borrow.Author.Tests.{le-leb, lt-leb}
+use Rattle.std.specs.Prelude.{Option, None, Some}
 use Rattle.rules.specs.Walk.{first}
 use Rattle.rules.specs.Table.{budget, deadline}
 use Rattle.rules.specs.declared.Rule.{Rule}
-use Rattle.rules.proofs.First.{first_ext}
+use Rattle.rules.proofs.First.{first-zero, first_more, first_ext}
 use Rattle.theory.specs.Load.{holds}
 use Rattle.theory.specs.Task.{task_tick}
 use Rattle.theory.specs.Inner.{least_for}
 use Rattle.theory.proofs.Tasks.{task_earliest}
-use Rattle.task_demand.specs.Inner.{fits_at, Drawn}
+use Rattle.task_demand.specs.Inner.{fits_at, in_time, Drawn}
 use Rattle.task_demand.proofs.Lists.{fits_is}
 use Rattle.task_plain.specs.Inner.{tick_fits}
 
@@ -27,6 +28,21 @@ module _ (curve asks : List ℕ) (c : ℕ) where
   pub no_tick_0 : tick_fits curve asks c 0 ≡ false
   unfolding tick_fits
   no_tick_0 = rw (lt-leb 1 0 (omega arith))
+
+  pub from_1 : first (tick_fits curve asks c) 1 ≡ 1
+  from_1 = first_more _ 0 (first-zero _) no_tick_0
+
+-- what a walk over the ticks up to d finds, or that it finds none, in time
+pub found_in_time : (d t s : ℕ) → t ≤ d → s ≡ t → Some t ≡ in_time d s
+unfolding in_time
+found_in_time d t s l e = rw (e, le-leb t d l)
+
+pub none_in_time : (test : ℕ → Bool) (d t : ℕ) → t ≤ d + 1 → d + 1 ≤ t → first test t ≡ t → ◌≡◌ {A = Option ℕ} None (in_time d (first test (d + 1)))
+unfolding in_time
+none_in_time test d t l m e =
+    let z : t ≡ d + 1 = omega arith in
+    let f : first test (d + 1) ≡ d + 1 = rw z at e in
+    rw (f, lt-leb (d + 1) d (omega arith))
 
 pub tick_is : (rule : Rule) (plan ts : List ℕ) (i c d : ℕ) (curve asks : List ℕ) → Drawn rule plan ts i curve asks → c ≡ budget ts i → d ≡ deadline ts i
     → first (tick_fits curve asks c) (d + 1) ≡ task_tick rule plan ts i

@@ -18,4 +18,4 @@ loop-p-preserved c = let l = c.loop-p in
 pub returns : goal.returns
 returns c =
     let found = upto_all _ _ _ c.requires.1 _ _ _ (search rules) (search rules) c.loop-p.invariant.1 in
-    (found, no_tick_of _ _ _ _ c.requires.1 _ _ found)
+    record { found = found; no_tick = no_tick_of _ _ _ _ c.requires.1 _ _ found }

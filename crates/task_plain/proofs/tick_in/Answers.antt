@@ -1,14 +1,17 @@
-use Rattle.std.proofs.Common.{rules}
-use Rattle.task_demand.specs.Inner.{TriesTo}
-use Rattle.task_demand.proofs.Walking.{earliest_is}
-use Rattle.task_plain.specs.Inner.{tick_fits}
-use Rattle.task_plain.proofs.Ticks.{tick_fits_lem, no_tick_0}
+use mathlib.Core.Path.{sym, ◌∙◌}
+use Rattle.rules.proofs.First.{first_more, first_found}
+use Rattle.task_plain.proofs.Ticks.{tick_fits_lem, from_1, found_in_time, none_in_time}
+use borrow.Author.Rules.{rules}
 use Rattle.task_plain.proofs.tick_in.Goals as goal
 
-pub earliest-requires : goal.earliest-requires
-unfolding TriesTo
-earliest-requires c = λ t one l. search rules
+pub loop-t-init : goal.loop-t-init
+loop-t-init c = from_1 _ _ _
+
+pub returns-then-fits : goal.returns-then-fits
+returns-then-fits c = found_in_time _ _ _ (search rules) (first_found _ _ _ (search rules) c.loop-t.invariant (tick_fits_lem _ _ _ _ _ c.loop-t.auto.t (sym c.fits.ensures ∙ c.if-fits.true)))
+
+pub loop-t-preserved : goal.loop-t-preserved
+loop-t-preserved c = first_more _ _ c.loop-t.invariant (tick_fits_lem _ _ _ _ _ c.loop-t.auto.t (sym c.fits.ensures ∙ c.if-fits.false))
 
 pub returns : goal.returns
-returns c = let a = c.args in
-    earliest_is (tick_fits a.lists.now.curve.now a.lists.now.asks.now a.c) (no_tick_0 _ _ _) _ _ _ c.earliest.ensures (λ t b one l p. tick_fits_lem _ _ _ _ _ one (search rules))
+returns c = none_in_time _ _ _ (search rules) (search rules) c.loop-t.invariant
