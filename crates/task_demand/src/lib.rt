@@ -41,9 +41,11 @@ fn add_task(asks: &mut [u32], n: usize, c: u16, period: u16)
 {
     let step = usize::from(period);
     let mut all = 0;
-    for t in (1..n).step_by(step) {
+    let mut t = 1;
+    while t < n {
         all += usize::from(c);
         add_row(asks, t, (t + step).min(n), all);
+        t += step;
     }
 }
 

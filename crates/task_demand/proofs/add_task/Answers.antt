@@ -39,13 +39,3 @@ pub returns : goal.returns
 returns c =
     let e : min c.loop-t.t c.args.n ≡ c.args.n = search rules in
     rw e at c.loop-t.invariant.1
-
-pub returns-2 : goal.returns-2
-returns-2 c =
-    let l = c.loop-t in
-    let k = l.invariant.2 in
-    let at : min l.t c.args.n ≡ l.t = search rules in
-    let e = rw c.from-step.ensures at c.min.ensures in
-    let all = more_asked _ _ _ _ k.2 c.from-all.ensures in
-    let end : c.min.result ≡ c.args.n = search rules in
-    rw end at (with_row _ _ _ _ _ _ _ _ _ _ c.requires.0 k.1 (search rules) e all (rw at at l.invariant.1) c.add_row.ensures)

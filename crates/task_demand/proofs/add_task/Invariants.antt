@@ -1,4 +1,4 @@
-use Prim.Native.Nat.{ℕ, ◌+◌, ◌*◌, min}
+use Prim.Native.Nat.{ℕ, ◌+◌, ◌-◌, ◌*◌, min}
 use mathlib.Core.Path.{◌≡◌}
 use lib.ListN.{length}
 use Rattle.rules.specs.Inner.{AsNamed}
@@ -9,3 +9,6 @@ abbrev pub invariant-loop-t : goal.invariant-loop-t
 invariant-loop-t l = (length l.asks ≡ length l.initial.asks)
     × AsNamed (with_task l.c l.period l.initial.asks) (min l.t l.n) l.initial.asks l.asks
     × ((k : ℕ) × (l.t ≡ k * l.period + 1) × (l.all ≡ l.c * k))
+
+abbrev pub decreases-loop-t : goal.decreases-loop-t
+decreases-loop-t l = l.n - l.t
