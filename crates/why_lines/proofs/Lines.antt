@@ -15,10 +15,10 @@ use Rattle.output.proofs.Decimal.{decimal-one, decimal_more, decimal_ten, decima
 use Rattle.rules.specs.Limits.{longest_line}
 use Rattle.why_lines.specs.Lines.{column_width, padded, columns, window, mark, row_line, tick_words, spare_line, short_line}
 
-digits_last : (n : ℕ) → n < 10 → length (decimal n) ≡ 1
+pub digits_last : (n : ℕ) → n < 10 → length (decimal n) ≡ 1
 digits_last n h = rw (decimal-one n h)
 
-digits_more : (n : ℕ) → 10 ≤ n → length (decimal n) ≡ length (decimal (n / 10)) + 1
+pub digits_more : (n : ℕ) → 10 ≤ n → length (decimal n) ≡ length (decimal (n / 10)) + 1
 digits_more n h = rw (decimal_more n h, length-append (decimal (n / 10)) ((48 + n % 10) ∷ []))
 
 tens-pos : (k : ℕ) → 0 < 10 ^ k
