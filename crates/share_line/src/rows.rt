@@ -5,7 +5,7 @@ ghost use Rattle.share_line.specs.Inner.{BeginsWithNumber, BeginsWithSlash, Ends
 
 use crate::{Row, What};
 use share_words::numbers::first_number;
-use share_words::words::{after_word, begins_with, find, no_word};
+use share_words::words::{Comment, after_word, begins_with, find, no_word};
 
 // The number that words begin with, and what stands behind it.
 fn number(l: &[u8]) -> Result<(u16, &[u8]), What>
@@ -95,11 +95,11 @@ fn record_of(l: &[u8]) -> Result<Row, What>
     Err(What::Record)
 }
 
-#[tactic(auto, unfolding(share_words::specs::Words::comment, crate::specs::Rows::row_of))]
+#[tactic(auto, unfolding(crate::specs::Rows::row_of))]
 pub fn row_of(line: &[u8]) -> Result<Row, What>
     ensures { result ≡ row_of line.now }
 {
-    let e = find(line, |b| b == b'#');
+    let e = find::<Comment>(line);
     record_of(&line[..e])
 }
 

@@ -1,6 +1,6 @@
 // The words of a line.
 ghost use Rattle.std.specs.Prelude.{◌≡◌, ◌≤◌, ℕ, Bool, length, bytes_eq};
-ghost use Rattle.share_words.specs.Words.{blank, ends_word, found, width, trimmed, word_of, ends_at, rest_of};
+ghost use Rattle.share_words.specs.Words.{blank, solid, ends_word, comment, newline, found, width, trimmed, word_of, ends_at, rest_of};
 
 #[tactic(auto, unfolding(crate::specs::Words::blank))]
 fn is_blank(b: u8) -> bool
@@ -16,15 +16,71 @@ fn ends_word(b: u8) -> bool
     is_blank(b) || b == b'/'
 }
 
+// Where a search stops: a unit struct for each of the tests.
+pub trait Stops {
+    ghost stops: { ℕ → Bool };
+
+    fn stops(b: u8) -> bool
+        ensures { result ≡ stops b };
+}
+
+// At a byte that is no blank.
+#[derive(Clone, Copy)]
+pub struct Solid;
+
+impl Stops for Solid {
+    ghost stops = { solid };
+
+    #[tactic(auto, unfolding(crate::specs::Words::solid))]
+    fn stops(b: u8) -> bool {
+        !is_blank(b)
+    }
+}
+
+// At a byte that ends a word.
+#[derive(Clone, Copy)]
+pub struct Break;
+
+impl Stops for Break {
+    ghost stops = { ends_word };
+
+    fn stops(b: u8) -> bool {
+        ends_word(b)
+    }
+}
+
+// At `#`.
+#[derive(Clone, Copy)]
+pub struct Comment;
+
+impl Stops for Comment {
+    ghost stops = { comment };
+
+    #[tactic(auto, unfolding(crate::specs::Words::comment))]
+    fn stops(b: u8) -> bool {
+        b == b'#'
+    }
+}
+
+// At a newline.
+#[derive(Clone, Copy)]
+pub struct Line;
+
+impl Stops for Line {
+    ghost stops = { newline };
+
+    #[tactic(auto, unfolding(crate::specs::Words::newline))]
+    fn stops(b: u8) -> bool {
+        b == b'\n'
+    }
+}
+
 // The first place at which the search stops, or the end: every caller cuts there, so that None would only be turned back.
-pub fn find<S: Fn(u8) -> bool>(l: &[u8], stops: S) -> usize
-    requires { S.IsAlwaysCallable stops }
-    ensures bound { result ≤ length l.now }
-    ensures place { (test : ℕ → Bool) → ((b : ℕ) (r : Bool) → S.post stops b r → r ≡ test b)
-        → result ≡ found test l.now }
+pub fn find<S: Stops>(l: &[u8]) -> usize
+    ensures { (result ≤ length l.now) × (result ≡ found S.stops l.now) }
 {
     for (k, b) in l.iter().enumerate() {
-        if stops(*b) {
+        if S::stops(*b) {
             return k;
         }
     }
@@ -42,14 +98,14 @@ fn width(l: &[u8]) -> usize
     if l[0] == b'/' {
         return 1;
     }
-    find(l, ends_word)
+    find::<Break>(l)
 }
 
 // The line from its first word on.
 fn trimmed(l: &[u8]) -> &[u8]
     ensures { result.now ≡ trimmed l.now }
 {
-    &l[find(l, |b| !is_blank(b))..]
+    &l[find::<Solid>(l)..]
 }
 
 #[tactic(auto, unfolding(crate::specs::Words::word_of))]

@@ -1,5 +1,4 @@
 use Rattle.std.proofs.Common.{rules, sym}
-use Rattle.share_words.specs.Words.{ends_word}
 use Rattle.share_words.proofs.WordLaws.{width-none, width_slash, width_more}
 use Rattle.share_words.proofs.words.width.Goals as goal
 
@@ -10,4 +9,4 @@ pub returns-then-l-eq47 : goal.returns-then-l-eq47
 returns-then-l-eq47 c = (search rules, sym (width_slash _ c.if-l-eq47.true))
 
 pub returns : goal.returns
-returns c = (c.find.ensures.bound, width_more _ _ c.if-l-eq47.false (c.find.ensures.place ends_word (λ b r e. e)))
+returns c = (c.find.ensures.0, width_more _ _ c.if-l-eq47.false c.find.ensures.1)
