@@ -34,7 +34,7 @@ fn add_row(asks: &mut [u32], b: usize, e: usize, all: usize)
 
 // A task of budget c: "c times t/T, rounded up" is added to number t, for the first n. That is one c more from behind each
 // multiple of T up to the next, so that nothing is divided.
-// (A while: `step_by` would take nearly twice the time where periods are of a tick or two.)
+// (A while, and t goes on to the row's end: `step_by` takes up to twice the time where periods are of a tick or two.)
 fn add_task(asks: &mut [u32], n: usize, c: u16, period: u16)
     requires { (0 < period) × (c ≤ period) × (period ≤ longest) × (0 < n) × (n ≤ longest + 1)
         × (n ≤ length asks.old) × Small asks.old }
@@ -45,8 +45,9 @@ fn add_task(asks: &mut [u32], n: usize, c: u16, period: u16)
     let mut t = 1;
     while t < n {
         all += usize::from(c);
-        add_row(asks, t, (t + step).min(n), all);
-        t += step;
+        let e = (t + step).min(n);
+        add_row(asks, t, e, all);
+        t = e;
     }
 }
 
