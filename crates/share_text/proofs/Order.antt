@@ -231,3 +231,7 @@ fits t parts tasks n e =
       tasks_fit = ltb-false _ _ e3.0;
     } in
     subst (Fits t parts tasks) g w
+
+-- a text that can be read is no longer than it may be
+pub read_short : (t : List ℕ) (parts tasks : ℕ) (n : Numbers) → read_text_of t parts tasks ≡ Ok n → length t ≤ longest_text
+read_short t parts tasks n e = (fits t parts tasks n e).short

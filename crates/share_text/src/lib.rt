@@ -54,6 +54,7 @@ impl From<Refusal> for Unread {
 }
 
 // The table's records, put into the lent tables where all of them fit.
+#[tactic(auto, using(crate::proofs::Order::read_short))]
 pub fn read(text: &[u8], parts: &mut [u16], tasks: &mut [u16]) -> Result<Numbers, Unread>
     ensures { ReadsText text.now parts.old tasks.old
         parts.new tasks.new result }
