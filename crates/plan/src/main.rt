@@ -53,6 +53,7 @@ fn plan_all<R: Read, W: Write, E: Write>(
 }
 
 // The edition that the program was started with.
+// (Apart from the program why's `place_given`: each has its own word.)
 fn edition_given(rt: &HostRuntime) -> usize {
     let mut word = [0u8; WORD];
     let word = streams::word(rt, 1, &mut word).unwrap_or(&[]);

@@ -126,6 +126,7 @@ pub fn is_wrong(closed: bool, row: Result<Row, What>) -> bool
 }
 
 // What was expected in a wrong row.
+// (Apart from `is_wrong`: one tests a row, the other says what is told of it.)
 pub fn what_of(row: Result<Row, What>) -> What
     ensures { result ≡ what_of row }
 {
