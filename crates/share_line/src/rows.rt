@@ -5,7 +5,7 @@ ghost use Rattle.share_line.specs.Inner.{BeginsWithNumber, BeginsWithSlash, Ends
 
 use crate::{Row, What};
 use share_words::numbers::first_number;
-use share_words::words::{Comment, after_word, begins_with, find, no_word};
+use share_words::words::{Comment, after_word, begins_with, find_stop, no_word};
 
 // The number that words begin with, and what stands behind it.
 fn number(l: &[u8]) -> Result<(u16, &[u8]), What>
@@ -99,7 +99,7 @@ fn record_of(l: &[u8]) -> Result<Row, What>
 pub fn row_of(line: &[u8]) -> Result<Row, What>
     ensures { result ≡ row_of line.now }
 {
-    let e = find::<Comment>(line);
+    let e = find_stop::<Comment>(line);
     record_of(&line[..e])
 }
 

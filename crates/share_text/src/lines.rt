@@ -6,7 +6,7 @@ ghost use Rattle.share_text.specs.Table.{line_of, after_line, seen_of};
 use crate::Expected;
 use share_line::rows::{judged, row_of};
 use share_line::{Row, What};
-use share_words::words::{Line, find};
+use share_words::words::{Line, find_stop};
 
 // The row of the line that begins at a place.
 pub fn row_at(text: &[u8], at: usize) -> Result<Row, What>
@@ -14,7 +14,7 @@ pub fn row_at(text: &[u8], at: usize) -> Result<Row, What>
     ensures { result ≡ row_of (line_of (drop at text.now)) }
 {
     let rest = &text[at..];
-    let e = find::<Line>(rest);
+    let e = find_stop::<Line>(rest);
     row_of(&rest[..e])
 }
 
@@ -26,7 +26,7 @@ pub fn next_line(text: &[u8], at: usize) -> usize
         × (drop result text.now ≡ after_line (drop at text.now)) }
 {
     let rest = &text[at..];
-    let e = find::<Line>(rest);
+    let e = find_stop::<Line>(rest);
     if e < rest.len() {
         return at + (e + 1);
     }

@@ -76,11 +76,27 @@ impl Stops for Line {
 }
 
 // The first place at which the search stops, or the end: every caller cuts there, so that None would only be turned back.
-pub fn find<S: Stops>(l: &[u8]) -> usize
+pub fn find_stop<S: Stops>(l: &[u8]) -> usize
     ensures { (result ≤ length l.now) × (result ≡ found S.stops l.now) }
 {
     for (k, b) in l.iter().enumerate() {
         if S::stops(*b) {
+            return k;
+        }
+    }
+    l.len()
+}
+
+// The same of any test that may be asked of each byte, one that holds values too, for callers who bring theirs.
+// (Apart from `find_stop`: that is what the programs run, its test is a type's, and nothing is asked of a caller.)
+pub fn find<S: Fn(u8) -> bool>(l: &[u8], stops: S) -> usize
+    requires { S.IsAlwaysCallable stops }
+    ensures bound { result ≤ length l.now }
+    ensures place { (test : ℕ → Bool) → ((b : ℕ) (r : Bool) → S.post stops b r → r ≡ test b)
+        → result ≡ found test l.now }
+{
+    for (k, b) in l.iter().enumerate() {
+        if stops(*b) {
             return k;
         }
     }
@@ -98,14 +114,14 @@ fn width(l: &[u8]) -> usize
     if l[0] == b'/' {
         return 1;
     }
-    find::<Break>(l)
+    find_stop::<Break>(l)
 }
 
 // The line from its first word on.
 fn trimmed(l: &[u8]) -> &[u8]
     ensures { result.now ≡ trimmed l.now }
 {
-    &l[find::<Solid>(l)..]
+    &l[find_stop::<Solid>(l)..]
 }
 
 #[tactic(auto, unfolding(crate::specs::Words::word_of))]
@@ -135,4 +151,17 @@ pub fn no_word(l: &[u8]) -> bool
     ensures { result ≡ ends_at l.now 0 }
 {
     first_word(l).is_empty()
+}
+
+#[cfg(test)]
+mod tests {
+    use super::*;
+
+    // A closure that holds the byte that it looks for, as no type's test can.
+    #[test]
+    fn finds_what_a_closure_asks_for(rt: HostRuntime) {
+        for (byte, place) in [(b'p', 0), (b'/', 7), (b'#', 10), (b'\n', 12)] {
+            assert_eq!(rt; find(b"part 12/16#x", |b| b == byte), place, "for {byte}");
+        }
+    }
 }

@@ -9,4 +9,4 @@ pub returns-then-l-eq47 : goal.returns-then-l-eq47
 returns-then-l-eq47 c = (search rules, sym (width_slash _ c.if-l-eq47.true))
 
 pub returns : goal.returns
-returns c = (c.find.ensures.0, width_more _ _ c.if-l-eq47.false c.find.ensures.1)
+returns c = (c.find_stop.ensures.0, width_more _ _ c.if-l-eq47.false c.find_stop.ensures.1)
